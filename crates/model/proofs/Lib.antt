@@ -1,0 +1,8 @@
+-- Laws about the definitions, and proofs. Cases holds the marked positions of document 01.
+pub mod Splice
+pub mod Fields
+pub mod Power
+pub mod Sound
+pub mod RawTail
+pub mod Cut
+pub mod Cases

@@ -1,0 +1,153 @@
+-- Document 01's number and values for each case of each answer: 0 and the values for an answer, and for a refusal its number and no
+-- values. The contracts say which case is answered, these what that case is in the papers.
+use mathlib.Core.Bool.{Bool, cond}
+use mathlib.Core.List.{List, [], _∷_}
+use lib.IntN.{ℤ, pos, negsuc}
+use Rattle.model.specs.declared.Error.{Error}
+use Rattle.model.specs.declared.Claim.{Claim}
+use Rattle.model.specs.declared.HeaderFields.{HeaderFields}
+use Rattle.model.specs.declared.Outcome.{Outcome}
+use Rattle.model.specs.declared.Outcome.the-variants.{Done as OutcomeDone, Refused as OutcomeRefused}
+use Rattle.model.specs.declared.Positioned.{Positioned}
+use Rattle.model.specs.declared.Positioned.the-variants.{Position as PositionedPosition, Refused as PositionedRefused}
+use Rattle.model.specs.declared.Appended.{Appended}
+use Rattle.model.specs.declared.Appended.the-variants.{Offset as AppendedOffset, Tripped as AppendedTripped, Refused as AppendedRefused}
+use Rattle.model.specs.declared.AppendedClaim.{AppendedClaim}
+use Rattle.model.specs.declared.AppendedClaim.the-variants.{Claimed as AppendedClaimClaimed, Tripped as AppendedClaimTripped, Refused as AppendedClaimRefused}
+use Rattle.model.specs.declared.Offered.{Offered}
+use Rattle.model.specs.declared.Offered.the-variants.{Position as OfferedPosition, Refused as OfferedRefused}
+use Rattle.model.specs.declared.Claimed.{Claimed}
+use Rattle.model.specs.declared.Claimed.the-variants.{Position as ClaimedPosition, Refused as ClaimedRefused}
+use Rattle.model.specs.declared.Located.{Located}
+use Rattle.model.specs.declared.Located.the-variants.{Span as LocatedSpan, Refused as LocatedRefused}
+use Rattle.model.specs.declared.HeaderRead.{HeaderRead}
+use Rattle.model.specs.declared.HeaderRead.the-variants.{Fields as HeaderReadFields, Refused as HeaderReadRefused}
+use Rattle.model.specs.declared.TermRead.{TermRead}
+use Rattle.model.specs.declared.TermRead.the-variants.{Outcome as TermReadOutcome, Refused as TermReadRefused}
+use Rattle.model.specs.declared.Scanned.{Scanned}
+use Rattle.model.specs.declared.Scanned.the-variants.{Offset as ScannedOffset, Refused as ScannedRefused}
+use Rattle.model.specs.declared.GapScanned.{GapScanned}
+use Rattle.model.specs.declared.GapScanned.the-variants.{Gap as GapScannedGap, NoGap as GapScannedNoGap, Refused as GapScannedRefused}
+use Rattle.model.specs.declared.AvailabilityScanned.{AvailabilityScanned}
+use Rattle.model.specs.declared.AvailabilityScanned.the-variants.{Outcome as AvailabilityScannedOutcome, Refused as AvailabilityScannedRefused}
+use Rattle.model.specs.declared.Polled.{Polled}
+use Rattle.model.specs.declared.Polled.the-variants.{Fragments as PolledFragments, Refused as PolledRefused}
+use Rattle.model.specs.declared.Peeked.{Peeked}
+use Rattle.model.specs.declared.Peeked.the-variants.{Position as PeekedPosition, Refused as PeekedRefused}
+use Rattle.model.specs.declared.BlockPolled.{BlockPolled}
+use Rattle.model.specs.declared.BlockPolled.the-variants.{Block as BlockPolledBlock, Refused as BlockPolledRefused}
+use Rattle.model.specs.declared.EndOfStream.{EndOfStream}
+use Rattle.model.specs.declared.EndOfStream.the-variants.{Is as EndOfStreamIs, Refused as EndOfStreamRefused}
+use Rattle.model.specs.declared.Assembled.{Assembled}
+use Rattle.model.specs.declared.Assembled.the-variants.{Nothing as AssembledNothing, Fragment as AssembledFragment, Message as AssembledMessage, Refused as AssembledRefused}
+use Rattle.model.specs.Errors.{numberOf}
+
+pub record Told : Type 0 where
+  pub number : ℤ
+  pub values : List ℤ
+
+abbrev pub answered : List ℤ → Told
+answered values = record { number = pos 0; values = values }
+
+abbrev pub refused : Error → Told
+refused e = record { number = numberOf e; values = [] }
+
+-- a claim's record: partition, offset, frame length, term id
+abbrev pub claimValues : Claim → List ℤ
+claimValues c = c .partition ∷ c .offset ∷ c .length ∷ c .«term_id» ∷ []
+
+-- a header's fields in their order, and the position past the frame
+abbrev pub fieldValues : HeaderFields → List ℤ
+fieldValues f =
+    f .«frame_length» ∷ pos (f .version) ∷ pos (f .flags) ∷ pos (f .«frame_type») ∷ f .«term_offset» ∷ f .«session_id» ∷ f .«stream_id» ∷ f .«term_id»
+    ∷ f .«reserved_value» ∷ f .position ∷ []
+
+-- opening, limit change, close, commit, abort, rotation, set_position, closing an image
+abbrev pub outcomeTold : Outcome → Told
+outcomeTold OutcomeDone = answered []
+outcomeTold (OutcomeRefused e) = refused e
+
+-- position, limit, window
+abbrev pub positionedTold : Positioned → Told
+positionedTold (PositionedPosition p) = answered (p ∷ [])
+positionedTold (PositionedRefused e) = refused e
+
+-- the appenders of messages
+abbrev pub appendedTold : Appended → Told
+appendedTold (AppendedOffset n) = answered (pos n ∷ [])
+appendedTold AppendedTripped = answered (negsuc 1 ∷ [])
+appendedTold (AppendedRefused e) = refused e
+
+-- the appender of claims
+abbrev pub appendedClaimTold : AppendedClaim → Told
+appendedClaimTold (AppendedClaimClaimed n c) = answered (pos n ∷ claimValues c)
+appendedClaimTold AppendedClaimTripped = answered (negsuc 1 ∷ [])
+appendedClaimTold (AppendedClaimRefused e) = refused e
+
+-- offer
+abbrev pub offeredTold : Offered → Told
+offeredTold (OfferedPosition p) = answered (p ∷ [])
+offeredTold (OfferedRefused e) = refused e
+
+-- claim
+abbrev pub claimedTold : Claimed → Told
+claimedTold (ClaimedPosition p c) = answered (p ∷ claimValues c)
+claimedTold (ClaimedRefused e) = refused e
+
+-- where a lent body or a view lies
+abbrev pub locatedTold : Located → Told
+locatedTold (LocatedSpan from to) = answered (pos from ∷ pos to ∷ [])
+locatedTold (LocatedRefused e) = refused e
+
+-- header fields
+abbrev pub headerTold : HeaderRead → Told
+headerTold (HeaderReadFields f) = answered (fieldValues f)
+headerTold (HeaderReadRefused e) = refused e
+
+-- read
+abbrev pub readTold : TermRead → Told
+readTold (TermReadOutcome offset fragments) = answered (pos offset ∷ pos fragments ∷ [])
+readTold (TermReadRefused e) = refused e
+
+-- scan
+abbrev pub scannedTold : Scanned → Told
+scannedTold (ScannedOffset n) = answered (pos n ∷ [])
+scannedTold (ScannedRefused e) = refused e
+
+-- scan_for_gap: the end of the walk, then the gap's term id, offset and length, if there is one
+abbrev pub gapTold : GapScanned → Told
+gapTold (GapScannedGap id offset n) = answered (pos offset ∷ id ∷ pos offset ∷ pos n ∷ [])
+gapTold (GapScannedNoGap n) = answered (pos n ∷ [])
+gapTold (GapScannedRefused e) = refused e
+
+-- scan_for_availability
+abbrev pub availabilityTold : AvailabilityScanned → Told
+availabilityTold (AvailabilityScannedOutcome n) = answered (n ∷ [])
+availabilityTold (AvailabilityScannedRefused e) = refused e
+
+-- poll, bounded_poll, controlled_poll: fragments, entries
+abbrev pub polledTold : Polled → Told
+polledTold (PolledFragments n m) = answered (pos n ∷ pos m ∷ [])
+polledTold (PolledRefused e) = refused e
+
+-- controlled_peek: position, entries
+abbrev pub peekedTold : Peeked → Told
+peekedTold (PeekedPosition p n) = answered (p ∷ pos n ∷ [])
+peekedTold (PeekedRefused e) = refused e
+
+-- block_poll
+abbrev pub blockTold : BlockPolled → Told
+blockTold (BlockPolledBlock offset n session id) = answered (pos offset ∷ pos n ∷ session ∷ id ∷ [])
+blockTold (BlockPolledRefused e) = refused e
+
+-- is_end_of_stream: 1 for yes, 0 for no
+abbrev pub endTold : EndOfStream → Told
+endTold (EndOfStreamIs b) = answered (cond b (pos 1) (pos 0) ∷ [])
+endTold (EndOfStreamRefused e) = refused e
+
+-- the assembler: nothing; 1 and a part of the term; 2 and a part of the lent buffer
+abbrev pub assembledTold : Assembled → Told
+assembledTold AssembledNothing = answered []
+assembledTold (AssembledFragment at n) = answered (pos 1 ∷ pos at ∷ pos n ∷ [])
+assembledTold (AssembledMessage at n) = answered (pos 2 ∷ pos at ∷ pos n ∷ [])
+assembledTold (AssembledRefused e) = refused e

@@ -1,0 +1,57 @@
+-- A frame's length, flags and soundness ("Frame" in document 01), and what the frame reader sees at a place. Read DataFrameHeader next.
+use Prim.Native.Nat.{ℕ, _+_, _-_, _*_, _/_, _%_}
+use mathlib.Core.Bool.{Bool, true, false, cond, _||_}
+use mathlib.Core.List.{List}
+use lib.Dec.{eqb, ltb}
+use lib.ListN.{drop, getD}
+use Rattle.model.specs.declared.FrameLength.{FrameLength}
+use Rattle.model.specs.declared.FrameLength.the-variants.{Free, Writing, Finished}
+use Rattle.model.specs.declared.Frame.{Frame}
+use Rattle.model.specs.declared.Frame.the-variants.{Absent, Unsound, Padding, Data}
+use Rattle.model.specs.Bytes.{u16, u32}
+
+-- the next multiple of 32: the "aligned length" of a frame
+abbrev pub align : ℕ → ℕ
+align n = (n + 31) / 32 * 32
+
+-- the aligned length of the frame of a body of n bytes
+abbrev pub space : ℕ → ℕ
+space n = align (n + 32)
+
+-- the bits of minus n, as a frame's length is stored while it is being written
+abbrev pub negated : ℕ → ℕ
+negated n = 4294967296 - n
+
+-- the sign of the length word decides: free, being written, finished
+unfoldable pub frameLength : ℕ → FrameLength
+frameLength w = cond (eqb w 0) Free (cond (ltb w 2147483648) (Finished w) Writing)
+
+-- A frame is unsound if its length is 1 to 31, or its aligned length ends past the term, which is `room` bytes away.
+abbrev pub unsoundLength : ℕ → ℕ → Bool
+unsoundLength n room = ltb n 32 || ltb room (align n)
+
+-- readers stop at a length of zero or less; type 0 is padding, and all others are data
+abbrev pub frameBy : ℕ → ℕ → FrameLength → Frame
+frameBy type room Free = Absent
+frameBy type room Writing = Absent
+frameBy type room (Finished n) = cond (unsoundLength n room) Unsound (cond (eqb type 0) (Padding n) (Data n))
+
+-- what stands at the beginning of s, a log from a frame's place on
+unfoldable pub frameAt : List ℕ → ℕ → Frame
+frameAt s room = frameBy (u16 (drop 6 s)) room (frameLength (u32 s))
+
+abbrev pub isUnsound : Frame → Bool
+isUnsound Absent = false
+isUnsound Unsound = true
+isUnsound (Padding n) = false
+isUnsound (Data n) = false
+
+-- the flags byte: 0x80 begins a message, 0x40 ends it
+abbrev pub flagsAt : List ℕ → ℕ
+flagsAt s = getD s 5 0
+
+abbrev pub begins : ℕ → Bool
+begins flags = eqb (flags / 128 % 2) 1
+
+abbrev pub ends : ℕ → Bool
+ends flags = eqb (flags / 64 % 2) 1

@@ -1,0 +1,16 @@
+-- What every call means. A definition stands here for each thing that document 01 tells, in the order in which it tells them; a reader
+-- who believes these files and the contracts in src/ has to believe nothing else. Proofs about them are in proofs/.
+pub mod Bytes
+pub mod Errors
+pub mod Answers
+pub mod Parts
+pub mod FrameDescriptor
+pub mod DataFrameHeader
+pub mod LogBufferDescriptor
+pub mod TermAppender
+pub mod BufferClaim
+pub mod Publication
+pub mod TermReader
+pub mod TermScan
+pub mod Image
+pub mod FragmentAssembler

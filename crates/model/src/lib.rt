@@ -1,0 +1,255 @@
+// The plain types of the log: the record, a claim, the refusals, and the answers of each family of calls. No function runs here.
+// What every call means is in specs/: read specs/Lib.antt next.
+
+// The log record, as document 01 lists it. A raw tail has a term id in its upper 32 bits and an offset in its lower.
+#[repr(C)]
+pub struct LogRecord {
+    pub tails: [i64; 3],
+    pub active_term_count: i32,
+    pub initial_term_id: i32,
+    pub term_length: i32,
+    pub mtu_length: i32,
+    pub session_id: i32,
+    pub stream_id: i32,
+    pub is_connected: i32,
+    pub publication_limit: i64,
+    pub end_of_stream_position: i64,
+    pub is_closed: bool,
+}
+
+// What a claim answers beside its position: partition, offset of the frame in its term, frame length, term id.
+#[repr(C)]
+pub struct Claim {
+    pub partition: i32,
+    pub offset: i32,
+    pub length: i32,
+    pub term_id: i32,
+}
+
+// The refusals, in the order of document 01's table; specs/Errors.antt gives each its number. The Rust's names where it has one.
+pub enum Error {
+    IllegalArgument,
+    IllegalRecord,
+    PositionOutOfRange,
+    ExceedsMaxPayloadLength,
+    PublicationClosed,
+    AdminAction,
+    MaxPositionExceeded,
+    BackPressured,
+    NotConnected,
+    ExceedsMaxMessageLength,
+    TailOverflow,
+    LastTerm,
+    ActionPossiblyDelayed,
+    ClaimMismatch,
+    NewPositionOutOfRange,
+    NewPositionNotAligned,
+    UnsoundFrame,
+    AssemblyFull,
+}
+
+// The record's numbers as they are judged, none of them signed, with one partition's tail taken apart. Term ids have 2^31 added; any
+// other negative number shows as one above its range. specs/LogBufferDescriptor.antt says how a record is read.
+pub struct Reading {
+    pub term: usize,
+    pub mtu: usize,
+    pub count: usize,
+    pub initial: usize,
+    pub session: usize,
+    pub stream: usize,
+    pub connected: usize,
+    pub limit: usize,
+    pub id: usize,
+    pub offset: usize,
+    pub closed: bool,
+}
+
+// Whether a call may go on to its work.
+pub enum Verdict {
+    Pass,
+    Refuse(Error),
+}
+
+// The same for a call on an image, which may also be closed.
+pub enum ReadVerdict {
+    Read,
+    Closed,
+    Refuse(Error),
+}
+
+// What was done, where the answer has no number.
+pub enum Outcome {
+    Done,
+    Refused(Error),
+}
+
+// The next record with it: opening, limit change, close, rotation.
+pub struct RecordReply {
+    pub next: LogRecord,
+    pub answer: Outcome,
+}
+
+// Position, limit, window.
+pub enum Positioned {
+    Position(i64),
+    Refused(Error),
+}
+
+// How an append goes, before anything is written: refused, at another term (13), past the term's end, or into the term.
+pub enum Course {
+    Refuse(Error),
+    Stray,
+    Trip,
+    Fit,
+}
+
+// An appender's answer: the offset after the frames, or that the append tripped (-2 in the Rust).
+pub enum Appended {
+    Offset(usize),
+    Tripped,
+    Refused(Error),
+}
+
+pub struct AppendReply {
+    pub next: LogRecord,
+    pub answer: Appended,
+}
+
+// The claiming appender's.
+pub enum AppendedClaim {
+    Claimed(usize, Claim),
+    Tripped,
+    Refused(Error),
+}
+
+pub struct AppendClaimReply {
+    pub next: LogRecord,
+    pub answer: AppendedClaim,
+}
+
+pub enum Offered {
+    Position(i64),
+    Refused(Error),
+}
+
+pub struct OfferReply {
+    pub next: LogRecord,
+    pub answer: Offered,
+}
+
+pub enum Claimed {
+    Position(i64, Claim),
+    Refused(Error),
+}
+
+pub struct ClaimReply {
+    pub next: LogRecord,
+    pub answer: Claimed,
+}
+
+// Where a part of the log lies: its first index, and the index after its last.
+pub enum Located {
+    Span(usize, usize),
+    Refused(Error),
+}
+
+// A frame's length word by its sign: 0, negative, positive.
+pub enum FrameLength {
+    Free,
+    Writing,
+    Finished(usize),
+}
+
+// What the frame reader sees at a place: no finished frame, an unsound one, or the length of a padding or a data frame.
+pub enum Frame {
+    Absent,
+    Unsound,
+    Padding(usize),
+    Data(usize),
+}
+
+// The fields of a frame's header, and the position past the frame.
+#[repr(C)]
+pub struct HeaderFields {
+    pub frame_length: i32,
+    pub version: u8,
+    pub flags: u8,
+    pub frame_type: u16,
+    pub term_offset: i32,
+    pub session_id: i32,
+    pub stream_id: i32,
+    pub term_id: i32,
+    pub reserved_value: i64,
+    pub position: i64,
+}
+
+pub enum HeaderRead {
+    Fields(HeaderFields),
+    Refused(Error),
+}
+
+// A read of a term: the offset it came to, and the fragments read.
+pub enum TermRead {
+    Outcome(usize, usize),
+    Refused(Error),
+}
+
+pub enum Scanned {
+    Offset(usize),
+    Refused(Error),
+}
+
+// A gap: the term id given, its offset and its length; or none, with the offset that the walk came to.
+pub enum GapScanned {
+    Gap(i32, usize, usize),
+    NoGap(usize),
+    Refused(Error),
+}
+
+// padding × 2^32 + available
+pub enum AvailabilityScanned {
+    Outcome(i64),
+    Refused(Error),
+}
+
+// A poll: the fragments read, and the entries written.
+pub enum Polled {
+    Fragments(usize, usize),
+    Refused(Error),
+}
+
+// A peek: the position it came to, and the entries written.
+pub enum Peeked {
+    Position(i64, usize),
+    Refused(Error),
+}
+
+// A block: its offset in the term, its length, session and term id; four zeros where it is empty.
+pub enum BlockPolled {
+    Block(usize, usize, i32, i32),
+    Refused(Error),
+}
+
+pub enum EndOfStream {
+    Is(bool),
+    Refused(Error),
+}
+
+// What the assembler does with a frame. The first number is the session's place among the 16, the second what it held before.
+pub enum Joining {
+    Through,
+    Ignore,
+    Full,
+    TooLong(usize),
+    Join(usize, usize),
+    Complete(usize, usize),
+}
+
+// The assembler's answer: nothing yet; the body of this frame, by its offset in the term and its length; a message put together, by
+// its place in the lent buffer and its length.
+pub enum Assembled {
+    Nothing,
+    Fragment(usize, usize),
+    Message(usize, usize),
+    Refused(Error),
+}

@@ -1,0 +1,1 @@
+//! Stand-in: an empty module.
