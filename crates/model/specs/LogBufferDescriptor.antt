@@ -6,7 +6,7 @@
 --    +----------------+----------------+----------------+
 --    0                T               2T               3T
 use mathlib.Core.Path.{_≡_}
-use Prim.Native.Nat.{ℕ, _+_, _-_, _*_, _/_, _%_, _≤_, min}
+use Prim.Native.Nat.{ℕ, _+_, _-_, _*_, _/_, _%_, _^_, _≤_, min}
 use mathlib.Core.Bool.{Bool, true, cond, _&&_, _||_}
 use mathlib.Core.List.{List}
 use lib.Dec.{eqb, leb, ltb}
@@ -21,6 +21,8 @@ use Rattle.model.specs.declared.Error.{Error}
 use Rattle.model.specs.declared.Error.the-variants.{IllegalArgument, IllegalRecord, LastTerm}
 use Rattle.model.specs.declared.Verdict.{Verdict}
 use Rattle.model.specs.declared.Verdict.the-variants.{Pass, Refuse}
+use Rattle.model.specs.declared.Positioned.{Positioned}
+use Rattle.model.specs.declared.Positioned.the-variants.{Position as Number, Refused as NumberRefused}
 use Rattle.model.specs.declared.Outcome.the-variants.{Done, Refused}
 use Rattle.model.specs.declared.RecordReply.{RecordReply}
 use Rattle.model.specs.Bytes.{word, long}
@@ -52,6 +54,25 @@ rawOf id offset = toZ w64 (biased id * 4294967296 + offset)
 -- (term id - initial id) × term length + offset, the difference taken exactly; both ids biased, or neither
 abbrev pub positionOf : ℕ → ℕ → ℕ → ℕ → ℤ
 positionOf id initial term offset = (pos id -ℤ pos initial) *ℤ pos term +ℤ pos offset
+
+-- The same as the Rust computes it, by the bits to shift. An exact answer has room for shifts up to 30, the largest of any term; past
+-- that it refuses 1.
+unfoldable pub computePosition : ℤ → ℕ → ℕ → ℤ → Positioned
+computePosition id offset bits initial = cond (ltb 30 bits) (NumberRefused IllegalArgument) (Number ((id -ℤ initial) *ℤ pos (2 ^ bits) +ℤ pos offset))
+
+-- the parts of a raw tail as the Rust answers them: the signed id, and the offset cut to a term length
+abbrev pub termId : ℤ → ℤ
+termId raw = toZ w32 (long raw / 4294967296)
+
+abbrev pub termOffset : ℤ → ℕ → ℕ
+termOffset raw term = min (offsetOf raw) term
+
+-- the partition of a term count, and of a position by the bits to shift
+abbrev pub indexByTermCount : ℕ → ℕ
+indexByTermCount count = count % 3
+
+abbrev pub indexByPosition : ℕ → ℕ → ℕ
+indexByPosition p bits = p / 2 ^ bits % 3
 
 -- where a position lies: its partition, and its offset in the term
 abbrev pub partitionOf : ℕ → ℕ → ℕ

@@ -1,6 +1,6 @@
 -- Reading a term: the walk over frames that every poll takes, entries, `read`, header fields, and views of bodies and blocks
 -- ("Reading" in document 01). Read TermScan or Image next.
-use Prim.Native.Nat.{ℕ, zero, suc, _+_, _-_, _*_, _/_}
+use Prim.Native.Nat.{ℕ, zero, suc, _+_, _-_, _*_, _/_, _%_}
 use mathlib.Core.Bool.{Bool, cond, _&&_, _||_, not}
 use mathlib.Core.List.{List, [], _∷_, _++_}
 use lib.Dec.{eqb, leb, ltb}
@@ -19,6 +19,9 @@ use Rattle.model.specs.declared.Frame.the-variants.{Absent, Unsound, Pad
 use Rattle.model.specs.declared.HeaderFields.{HeaderFields}
 use Rattle.model.specs.declared.HeaderRead.{HeaderRead}
 use Rattle.model.specs.declared.HeaderRead.the-variants.{Fields, Refused as FieldsRefused}
+use Rattle.model.specs.declared.Walk.{Walk}
+use Rattle.model.specs.declared.FramesRead.{FramesRead}
+use Rattle.model.specs.declared.FramesRead.the-variants.{Walked as AllWalked, Refused as WalkRefused}
 use Rattle.model.specs.declared.TermRead.{TermRead}
 use Rattle.model.specs.declared.TermRead.the-variants.{Outcome, Refused}
 use Rattle.model.specs.declared.Located.{Located}
@@ -114,6 +117,39 @@ numbers (e ∷ es) = pos (e .0) ∷ pos (e .1) ∷ numbers es
 unfoldable pub laid : List ℤ → List (ℕ × ℕ) → List ℤ
 laid slots es = numbers es ++ drop (2 * length es) slots
 
+abbrev pub entriesBy : List ℤ → Walked → Verdict → List ℤ
+entriesBy slots w Pass = laid slots (w .entries)
+entriesBy slots w (Refuse e) = slots
+
+-- ---- the walk as the leaf library offers it: any numbers
+
+-- a term that lies in the log, on boundaries of 32, an end inside it, an offset on a boundary, room for the entries
+abbrev pub goodWalk : ℕ → ℕ → ℕ → ℕ → ℕ → ℕ → ℕ → Bool
+goodWalk n base term end at limit slots =
+    leb (base + term) n && (leb term 1073741824 && (eqb (term % 32) 0 && (leb end term && (eqb (at % 32) 0 && goodEntries slots limit))))
+
+unfoldable pub framesVerdict : List ℕ → ℕ → ℕ → ℕ → ℕ → ℕ → ℕ → Verdict
+framesVerdict log base term end at limit slots =
+    cond (goodWalk (length log) base term end at limit slots)
+    (cond (firstUnsound log base term end at limit) (Refuse UnsoundFrame) Pass)
+    (Refuse IllegalArgument)
+
+abbrev pub walkOf : Walked → Walk
+walkOf w = record { entries = length (w .entries); fragments = w .fragments; moved = w .moved; settled = w .settled }
+
+abbrev pub framesBy : Walked → Verdict → FramesRead
+framesBy w Pass = AllWalked (walkOf w)
+framesBy w (Refuse e) = WalkRefused e
+
+-- log, where the term starts, its length, the end, the offset, the fragment limit, the actions, the lent entries
+unfoldable pub framesOf : List ℕ → ℕ → ℕ → ℕ → ℕ → ℕ → List ℕ → List ℤ → FramesRead
+framesOf log base term end at limit acts slots =
+    framesBy (walk term log base term end at limit acts) (framesVerdict log base term end at limit (length slots))
+
+unfoldable pub framesEntries : List ℕ → ℕ → ℕ → ℕ → ℕ → ℕ → List ℕ → List ℤ → List ℤ
+framesEntries log base term end at limit acts slots =
+    entriesBy slots (walk term log base term end at limit acts) (framesVerdict log base term end at limit (length slots))
+
 -- ---- `read`: record, log, partition, offset, fragment limit, lent entries. In order: 1, 2, 17.
 
 unfoldable pub readVerdict : Reading → List ℕ → ℕ → ℕ → ℕ → ℕ → Verdict
@@ -130,10 +166,6 @@ readWalk v log k at limit = walk (v .term) log (k * v .term) (v .term) (v .term)
 abbrev pub readBy : ℕ → Walked → Verdict → TermRead
 readBy at w Pass = Outcome (at + w .moved) (w .fragments)
 readBy at w (Refuse e) = Refused e
-
-abbrev pub entriesBy : List ℤ → Walked → Verdict → List ℤ
-entriesBy slots w Pass = laid slots (w .entries)
-entriesBy slots w (Refuse e) = slots
 
 unfoldable pub readOf : LogRecord → List ℕ → ℤ → ℤ → ℤ → List ℤ → TermRead
 readOf r log partition offset limit slots =

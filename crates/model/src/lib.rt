@@ -188,6 +188,19 @@ pub enum HeaderRead {
     Refused(Error),
 }
 
+// A walk over frames: entries written, fragments that count, bytes moved, and bytes up to the last whole message or padding.
+pub struct Walk {
+    pub entries: usize,
+    pub fragments: usize,
+    pub moved: usize,
+    pub settled: usize,
+}
+
+pub enum FramesRead {
+    Walked(Walk),
+    Refused(Error),
+}
+
 // A read of a term: the offset it came to, and the fragments read.
 pub enum TermRead {
     Outcome(usize, usize),
