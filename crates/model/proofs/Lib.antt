@@ -12,4 +12,8 @@ pub mod OneSession
 pub mod Assembling
 pub mod Feeding
 pub mod Replaying
+pub mod Tails
+pub mod Writing
+pub mod Around
+pub mod Keeping
 pub mod Cases

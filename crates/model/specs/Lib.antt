@@ -17,3 +17,4 @@ pub mod FragmentAssembler
 pub mod History
 pub mod Replay
 pub mod Demand
+pub mod Corollaries
