@@ -16,4 +16,7 @@ pub mod Tails
 pub mod Writing
 pub mod Around
 pub mod Keeping
+pub mod Rising
+pub mod Calls
+pub mod Claims
 pub mod Cases
