@@ -19,4 +19,6 @@ pub mod Keeping
 pub mod Rising
 pub mod Calls
 pub mod Claims
+pub mod Demand
+pub mod Corollaries
 pub mod Cases

@@ -96,7 +96,7 @@ pub record Upheld (w : World) (calls : List Call) : Type 0 where
   pub adds-up : publisherPosition (reading (left w calls .record·)) ≡ pos (sizeAll (shape w) (history w calls))
   pub ends : Ends (shape w) [] (answers w calls)
 
-pub Demand3 : Type 0
+unfoldable pub Demand3 : Type 0
 Demand3 =
     (log : List ℕ) (term mtu initial session stream : ℤ) → openOf log term mtu initial session stream .answer ≡ Done
     → (calls : List Call) → AllGiven [] (opened log term mtu initial session stream) calls
