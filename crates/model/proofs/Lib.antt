@@ -1,4 +1,5 @@
 -- Laws about the definitions, and proofs. Cases holds the marked positions of document 01; Demand proves demand 3.
+pub mod Cases
 pub mod Splice
 pub mod Fields
 pub mod Power
@@ -21,4 +22,3 @@ pub mod Calls
 pub mod Claims
 pub mod Demand
 pub mod Corollaries
-pub mod Cases
