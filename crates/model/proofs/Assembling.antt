@@ -21,7 +21,7 @@ use Rattle.model.specs.Replay.{handedOut}
 use Rattle.model.specs.History.{Shape}
 use Rattle.model.proofs.Choice.{cond-both, eq-yes}
 use Rattle.model.proofs.Splice.{length-splice}
-use Rattle.model.proofs.OneSession.{Asm, empty, gives, keeps, take-in}
+use Rattle.model.proofs.OneSession.{Asm, gives, keeps, loses, take-in}
 
 -- the session that a log's frames carry
 abbrev pub sid : Shape → ℤ
@@ -93,6 +93,18 @@ start-bytes : (buffer b : List ℕ) → take (length b) (splice buffer 0 b) ≡ 
 unfolding splice
 start-bytes buffer b = take-at b (drop (0 + length b) buffer) (length b) refl
 
+-- whether a frame is refused
+abbrev pub drops : Joining → Bool
+drops Through = false
+drops Ignore = false
+drops Full = true
+drops (TooLong k) = true
+drops (Join k from) = false
+drops (Complete k from) = false
+
+never : false ≡ true → {A : Type 0} → A
+never e = absurd (let z : _≡_ {A = ℕ} 0 1 = cc in omega arith)
+
 -- `joining`, the session's place given
 unfoldable at-place : Sessions → ℕ → ℕ → ℕ → ℕ → Joining
 at-place s k flags n part =
@@ -107,7 +119,7 @@ joins-at : (s : Sessions) (z : ℤ) (flags n part : ℕ) → joining s z flags n
 unfolding joining at-place
 joins-at s z flags n part = refl
 
-module _ (c : Shape) (size : ℕ) (s : Sessions) (buffer held : List ℕ) (r : Same c size s buffer held) (o : List (List ℕ))
+module _ (c : Shape) (size : ℕ) (s : Sessions) (buffer held : List ℕ) (r : Same c size s buffer held) (o : List (List ℕ)) (l : Bool)
     (log : List ℕ) (base at flags : ℕ) (b : List ℕ) (body : take (length b) (drop (base + at) log) ≡ b) where
   abbrev part : ℕ
   part = partLength (length buffer)
@@ -117,6 +129,7 @@ module _ (c : Shape) (size : ℕ) (s : Sessions) (buffer held : List ℕ) (r : S
   Alike x y =
       Same c size (sessionsBy s (sid c) (length b) x) (bufferBy buffer b x) (y .held)
       × (o ++ handedOut log base (bufferBy buffer b x) (assembledBy at (length b) part x) ≡ y .out)
+      × (drops x ≡ true → y .lost ≡ true)
 
   -- bytes behind those held, in the first part
   more : List ℕ
@@ -152,28 +165,30 @@ module _ (c : Shape) (size : ℕ) (s : Sessions) (buffer held : List ℕ) (r : S
   spot : (n : ℕ) → 0 * part + n ≡ n
   spot n = omega arith
 
-  begun : length b ≤ part → Alike (Join 0 0) (keeps (record { held = held; out = o }) b)
+  begun : length b ≤ part → Alike (Join 0 0) (keeps (record { held = held; out = o; lost = l }) b)
   begun h = (
     subst (λ (n : ℕ). Same c size (holding s 0 (sid c) n) (splice buffer (0 * part + 0) b) b) (omega arith)
         (subst (λ (q : ℕ). Same c size (holding s 0 (sid c) (length b)) (splice buffer q b) b) (sym (spot 0))
         (now-holds c size s buffer held r (splice buffer 0 b) b (length-splice buffer 0 b (omega arith) ∙ r .long) (start-bytes buffer b))),
     nothing,
+    λ e. never e,
   )
 
   module _ (some : ¬ (length held ≡ 0)) (room : length held + length b ≤ part) where
     count : getD (s .held) 0 0 ≡ length held
     count = holds c size s buffer held r some
 
-    joined-on : Alike (Join 0 (length held)) (keeps (record { held = held; out = o }) (held ++ b))
+    joined-on : Alike (Join 0 (length held)) (keeps (record { held = held; out = o; lost = l }) (held ++ b))
     unfolding more
     joined-on = (
       subst (λ (q : ℕ). Same c size (holding s 0 (sid c) (length held + length b)) (splice buffer q b) (held ++ b)) (sym (spot (length held)))
           (subst (λ (n : ℕ). Same c size (holding s 0 (sid c) n) (splice buffer (length held) b) (held ++ b)) (length-append held b)
           (now-holds c size s buffer held r (splice buffer (length held) b) (held ++ b) (more-long room) (more-held room))),
       nothing,
+      λ e. never e,
     )
 
-    completed : Alike (Complete 0 (length held)) (gives (record { held = held; out = o }) [] (held ++ b))
+    completed : Alike (Complete 0 (length held)) (gives (record { held = held; out = o; lost = l }) [] (held ++ b))
     unfolding more
     completed =
         let z : 0 * part ≡ 0 = omega arith in (
@@ -181,24 +196,25 @@ module _ (c : Shape) (size : ℕ) (s : Sessions) (buffer held : List ℕ) (r : S
               (now-holds c size s buffer held r (splice buffer (length held) b) [] (more-long room) refl),
           ap₂ (λ (q p : ℕ). o ++ (take (length held + length b) (drop p (splice buffer q b)) ∷ [])) (spot (length held)) z
               ∙ ap (λ (m : List ℕ). o ++ (m ∷ [])) (more-bytes room),
+          λ e. never e,
         )
 
-  like : Alike (at-place s 0 flags (length b) part) (take-in part (record { held = held; out = o }) (flags, b))
+  like : Alike (at-place s 0 flags (length b) part) (take-in part (record { held = held; out = o; lost = l }) (flags, b))
   unfolding at-place take-in
   like =
       cond-both Alike (begins flags && ends flags) (begins flags && ends flags) _ _ _ _ refl
-      (λ e. (r, ap (λ (m : List ℕ). o ++ (m ∷ [])) body))
+      (λ e. (r, ap (λ (m : List ℕ). o ++ (m ∷ [])) body, λ e. never e))
       (λ e. cond-both Alike (begins flags) (begins flags) _ _ _ _ refl
-      (λ e. cond-both Alike (ltb part (length b)) (ltb part (length b)) _ _ _ _ refl (λ e. (emptied, nothing)) (λ e. begun (ltb-false part (length b) e)))
-      (λ e. cond-both Alike (leb (entered s) 0 || eqb (getD (s .held) 0 0) 0) (eqb (length held) 0) _ _ _ _ (ignores c size s buffer held r) (λ e. (r, nothing))
+      (λ e. cond-both Alike (ltb part (length b)) (ltb part (length b)) _ _ _ _ refl (λ e. (emptied, nothing, λ e. refl)) (λ e. begun (ltb-false part (length b) e)))
+      (λ e. cond-both Alike (leb (entered s) 0 || eqb (getD (s .held) 0 0) 0) (eqb (length held) 0) _ _ _ _ (ignores c size s buffer held r) (λ e. (r, nothing, λ e. never e))
       (λ z. let k = holds c size s buffer held r (eqb-false (length held) 0 z) in
-      cond-both Alike (ltb part (getD (s .held) 0 0 + length b)) (ltb part (length held + length b)) _ _ _ _ (ap (λ (n : ℕ). ltb part (n + length b)) k) (λ e. (emptied, nothing))
+      cond-both Alike (ltb part (getD (s .held) 0 0 + length b)) (ltb part (length held + length b)) _ _ _ _ (ap (λ (n : ℕ). ltb part (n + length b)) k) (λ e. (emptied, nothing, λ e. refl))
       (λ e. let h = ltb-false part (length held + length b) e in
       cond-both Alike (ends flags) (ends flags) _ _ _ _ refl
-      (λ q. subst (λ (n : ℕ). Alike (Complete 0 n) (gives (record { held = held; out = o }) [] (held ++ b))) (sym k) (completed (eqb-false (length held) 0 z) h))
-      (λ q. subst (λ (n : ℕ). Alike (Join 0 n) (keeps (record { held = held; out = o }) (held ++ b))) (sym k) (joined-on (eqb-false (length held) 0 z) h))))))
+      (λ q. subst (λ (n : ℕ). Alike (Complete 0 n) (gives (record { held = held; out = o; lost = l }) [] (held ++ b))) (sym k) (completed (eqb-false (length held) 0 z) h))
+      (λ q. subst (λ (n : ℕ). Alike (Join 0 n) (keeps (record { held = held; out = o; lost = l }) (held ++ b))) (sym k) (joined-on (eqb-false (length held) 0 z) h))))))
 
-  pub joins-alike : Alike (joining s (sid c) flags (length b) part) (take-in part (record { held = held; out = o }) (flags, b))
+  pub joins-alike : Alike (joining s (sid c) flags (length b) part) (take-in part (record { held = held; out = o; lost = l }) (flags, b))
   joins-alike =
-      subst (λ (x : Joining). Alike x (take-in part (record { held = held; out = o }) (flags, b)))
+      subst (λ (x : Joining). Alike x (take-in part (record { held = held; out = o; lost = l }) (flags, b)))
       (sym (joins-at s (sid c) flags (length b) part ∙ ap (λ (k : ℕ). at-place s k flags (length b) part) (first-place c size s buffer held r))) like

@@ -24,7 +24,7 @@ use Rattle.model.specs.Publication.{openedRecord, openVerdict, openBy, o
 use Rattle.model.specs.FragmentAssembler.{partLength}
 use Rattle.model.specs.History.{Call, offer, claim, fill, commit, abort, setLimit, close, Answer, outcome, World, Step, step, answers, left, Shape, shapeOf, Extent, sizeAll, tell, told, messages, learn, Among, Given, AllGiven}
 use Rattle.model.specs.Demand as Demand
-use Rattle.model.specs.Demand.{EndAt, Ends, Replayed, opened, shape, history, Upheld, Demand3}
+use Rattle.model.specs.Demand.{EndAt, Ends, Replayed, GivesAll, opened, shape, history, Upheld, Demand3}
 use Rattle.model.specs.Corollaries.{Rising, Usual, AllUsual}
 use Rattle.model.proofs.Choice.{cond-true, both-true, and-true}
 use Rattle.model.proofs.RawTail.{raw-id, raw-offset}
@@ -32,7 +32,7 @@ use Rattle.model.proofs.Sound.{sound-true}
 use Rattle.model.proofs.Cells.{bytes, sizes}
 use Rattle.model.proofs.Walking.{Fits}
 use Rattle.model.proofs.OneSession.{flat, Asm, empty, takes-in, fragsOf, made}
-use Rattle.model.proofs.Replaying.{replays}
+use Rattle.model.proofs.Replaying.{replays, gives-all}
 use Rattle.model.proofs.Tails.{with-rest, Tails, limit-reading, closed-reading, limit-tails, closed-tails, reached, position-is}
 use Rattle.model.proofs.Around.{Pads}
 use Rattle.model.proofs.Rising.{step-up, run-up, rises}
@@ -306,6 +306,20 @@ replay-all c w h ks i =
     subst (λ (c : Shape). Inv c w h ks → reached (reading (w .record·)) < 3 * c .term → (session : ℤ) (buffer : List ℕ) → length buffer ≤ 2147483647 → Demand.Holds c (partLength (length buffer)) h → Replayed w session buffer (messages h))
     (i .holds .is) (λ i p session buffer small holds. replay-own (w .record·) (w .log) h ks (i .holds) p session buffer small holds) i
 
+gives-own : (r : LogRecord) (log : List ℕ) (h : List Extent) (ks : List Claim) → Holds (shapeOf (reading r)) (reading r) log h ks → reached (reading r) < 3 * reading r .term
+    → (session : ℤ) (buffer : List ℕ) → length buffer ≤ 2147483647 → Demand.Holds (shapeOf (reading r)) (partLength (length buffer)) h
+    → GivesAll (record { record· = r; log = log }) session buffer (messages h)
+gives-own r log h ks i p session buffer small holds =
+    let c = shapeOf (reading r) in
+    gives-all r log (is-sound (reading r) log h ks i) (sound-is (reading r) log h ks i) (flat c h) (3 * reading r .term - sizes (flat c h)) (i .bytes-are) (i .fits) (omega (arith, i .size)) session buffer small (messages h)
+    (made c (partLength (length buffer)) h [] (omega (arith, i .fixed .mtu-low)) holds)
+
+pub gives-each : (c : Shape) (w : World) (h : List Extent) (ks : List Claim) → Inv c w h ks → reached (reading (w .record·)) < 3 * c .term
+    → (session : ℤ) (buffer : List ℕ) → length buffer ≤ 2147483647 → Demand.Holds c (partLength (length buffer)) h → GivesAll w session buffer (messages h)
+gives-each c w h ks i =
+    subst (λ (c : Shape). Inv c w h ks → reached (reading (w .record·)) < 3 * c .term → (session : ℤ) (buffer : List ℕ) → length buffer ≤ 2147483647 → Demand.Holds c (partLength (length buffer)) h → GivesAll w session buffer (messages h))
+    (i .holds .is) (λ i p session buffer small holds. gives-own (w .record·) (w .log) h ks (i .holds) p session buffer small holds) i
+
 sized : (c : Shape) (w : World) (h : List Extent) (ks : List Claim) → Inv c w h ks → sizeAll c h ≡ reached (reading (w .record·))
 sized c w h ks i =
     subst (λ (c : Shape). Inv c w h ks → sizeAll c h ≡ reached (reading (w .record·))) (i .holds .is)
@@ -321,6 +335,7 @@ demand3 log term mtu initial session stream fresh calls given short =
     let p = below log term mtu initial session stream fresh calls given short in
     record {
       replayed = λ s buffer small holds. replay-all (shape w) (left w calls) (history w calls) (later [] (answers w calls)) (r .inv) p s buffer small holds;
+      gives = λ s buffer small holds. gives-each (shape w) (left w calls) (history w calls) (later [] (answers w calls)) (r .inv) p s buffer small holds;
       adds-up = where-it-is log term mtu initial session stream fresh calls given short
           ∙ ap pos (sym (sized (shape w) (left w calls) (history w calls) (later [] (answers w calls)) (r .inv)));
       ends = r .ends;

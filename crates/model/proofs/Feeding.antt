@@ -12,7 +12,10 @@ use lib.IntN.{ℤ, pos}
 use mir.Syntax.{w32}
 use mir.Val.{toZ}
 use Rattle.model.specs.declared.LogRecord.{LogRecord}
+use Rattle.model.specs.declared.Error.{Error}
 use Rattle.model.specs.declared.Joining.{Joining}
+use Rattle.model.specs.declared.Joining.the-variants.{Through, Ignore, Full, TooLong, Join, Complete}
+use Rattle.model.specs.declared.Assembled.the-variants.{Refused as AssemblyRefused}
 use Rattle.model.specs.declared.Verdict.{Verdict}
 use Rattle.model.specs.declared.Verdict.the-variants.{Pass, Refuse}
 use Rattle.model.specs.declared.Error.the-variants.{IllegalArgument, IllegalRecord, UnsoundFrame}
@@ -28,8 +31,22 @@ use Rattle.model.proofs.Choice.{cond-true, cond-false, both-true}
 use Rattle.model.proofs.Fields.{u32-low}
 use Rattle.model.proofs.Cells.{Cell, cell, stored, typ, head, flen, fsize, solidAt, solid, enc, bytes, sizes, length-enc, flen-ge, fsize-ge, fsize-32}
 use Rattle.model.proofs.Walking.{Small, AllSmall, Clear, entsOf, u32-enc, drop-next}
-use Rattle.model.proofs.OneSession.{fragsOf, Asm, take-in, takes-in}
-use Rattle.model.proofs.Assembling.{sid, Same, joins-alike}
+use Rattle.model.proofs.OneSession.{fragsOf, Asm, take-in, takes-in, takes-lost}
+use Rattle.model.proofs.Assembling.{sid, Same, drops, joins-alike}
+
+-- where the first body lies
+abbrev pub first-of : List (ℕ × ℕ) → ℕ
+first-of [] = 0
+first-of (e ∷ es) = e .0
+
+-- only a frame that is dropped is refused
+dropped : (at n part : ℕ) (x : Joining) (e : Error) → assembledBy at n part x ≡ AssemblyRefused e → drops x ≡ true
+dropped at n part Through e h = absurd (let z : _≡_ {A = ℕ} 0 1 = cc in omega arith)
+dropped at n part Ignore e h = absurd (let z : _≡_ {A = ℕ} 0 1 = cc in omega arith)
+dropped at n part Full e h = refl
+dropped at n part (TooLong k) e h = refl
+dropped at n part (Join k from) e h = absurd (let z : _≡_ {A = ℕ} 0 1 = cc in omega arith)
+dropped at n part (Complete k from) e h = absurd (let z : _≡_ {A = ℕ} 0 1 = cc in omega arith)
 
 -- ---- what a finished frame shows
 
@@ -160,7 +177,7 @@ module _ (r : LogRecord) (log : List ℕ) (snd : Sound (reading r) (length log))
         let q : at + 32 - 32 ≡ at = omega arith in
         let g = given k at fl re b rest (p .sessions) (p .buffer) (omega (arith, l .same .long)) third on frame tiny room in
         let w = ap (λ (n : ℕ). assembleOf r log (p .sessions) (p .buffer) (pos k) (pos n)) q ∙ g in
-        let j = joins-alike c· size (p .sessions) (p .buffer) (a .held) (l .same) (a .out) log (k * T) (at + 32) fl b (body-at k at fl re b rest (p .sessions) (p .buffer) (omega (arith, l .same .long)) third on frame tiny room) in
+        let j = joins-alike c· size (p .sessions) (p .buffer) (a .held) (l .same) (a .out) (a .lost) log (k * T) (at + 32) fl b (body-at k at fl re b rest (p .sessions) (p .buffer) (omega (arith, l .same .long)) third on frame tiny room) in
         let y = says k at fl re b rest (p .sessions) (p .buffer) (omega (arith, l .same .long)) third on frame tiny room (length b) (sid c·) fl b in (
           subst (λ (y : Assembly). Like size (after log (k * T) p y) (take-in part a (fl, b))) (sym w)
               (subst (λ (n : ℕ). Like size (after log (k * T) p y) (take-in (n / 16) a (fl, b))) (l .same .long)
@@ -185,3 +202,33 @@ module _ (r : LogRecord) (log : List ℕ) (snd : Sound (reading r) (length log))
         let f = cell aborted fl re b in
         let q : k * T + at + fsize f ≡ k * T + (at + fsize f) = omega arith in
         all-fed (at + fsize f) fs t p a (omega (arith, fsize-32 f)) clear (tiny .1) (omega arith) (subst (λ (n : ℕ). drop n log ≡ bytes c· n fs ++ t) q (drop-next c· (k * T + at) f fs t log e)) l
+
+    -- a frame that the real assembler refuses is one that the other lost
+    refused-lost : (at fl re : ℕ) (b rest : List ℕ) (p : Replaying) (a : Asm) (on : at % 32 ≡ 0)
+        (frame : drop (k * T + at) log ≡ enc c· (k * T + at) (cell committed fl re b) ++ rest) (tiny : Small (cell committed fl re b)) (room : fsize (cell committed fl re b) ≤ T - at)
+        (l : Like size p a) (e : Error) → assembleOf r log (p .sessions) (p .buffer) (pos k) (pos at) .answer ≡ AssemblyRefused e → take-in part a (fl, b) .lost ≡ true
+    refused-lost at fl re b rest p a on frame tiny room l e h =
+        let g = given k at fl re b rest (p .sessions) (p .buffer) (omega (arith, l .same .long)) third on frame tiny room in
+        let j = joins-alike c· size (p .sessions) (p .buffer) (a .held) (l .same) (a .out) (a .lost) log (k * T) (at + 32) fl b (body-at k at fl re b rest (p .sessions) (p .buffer) (omega (arith, l .same .long)) third on frame tiny room) in
+        let q = dropped (at + 32) (length b) (partLength (length (p .buffer))) (joining (p .sessions) (sid c·) fl (length b) (partLength (length (p .buffer)))) e (ap (λ (y : Assembly). y .answer) (sym g) ∙ h) in
+        subst (λ (n : ℕ). take-in (n / 16) a (fl, b) .lost ≡ true) (l .same .long) (j .2 q)
+
+    -- of frames with one body to hand out
+    pub one-lost : (at : ℕ) (fs : List Cell) (t : List ℕ) (p : Replaying) (a : Asm) → at % 32 ≡ 0 → Clear fs → AllSmall fs → sizes fs ≤ T - at
+        → drop (k * T + at) log ≡ bytes c· (k * T + at) fs ++ t → Like size p a
+        → (m n : ℕ) → entsOf at fs ≡ (m, n) ∷ [] → (e : Error) → assembleOf r log (p .sessions) (p .buffer) (pos k) (pos (m - 32)) .answer ≡ AssemblyRefused e
+        → takes-in part a (fragsOf fs) .lost ≡ true
+    unfolding entsOf fragsOf takes-in Clear AllSmall sizes bytes
+    one-lost at [] t p a on clear tiny room e l m n s q h = absurd (let z : _≡_ {A = ℕ} 0 1 = cc in omega arith)
+    one-lost at (cell open· fl re b ∷ fs) t p a on clear tiny room e l m n s q h = absurd clear
+    one-lost at (cell committed fl re b ∷ fs) t p a on clear tiny room e l m n s q h =
+        let f = cell committed fl re b in
+        let first : at + 32 ≡ m = ap first-of s in
+        let place : m - 32 ≡ at = omega arith in
+        takes-lost part (take-in part a (fl, b)) (fragsOf fs)
+        (refused-lost at fl re b (bytes c· (k * T + at + fsize f) fs ++ t) p a on (e ∙ append-assoc (enc c· (k * T + at) f) (bytes c· (k * T + at + fsize f) fs) t) (tiny .0) (omega arith) l q
+        (ap (λ (x : ℕ). assembleOf r log (p .sessions) (p .buffer) (pos k) (pos x) .answer) (sym place) ∙ h))
+    one-lost at (cell aborted fl re b ∷ fs) t p a on clear tiny room e l m n s q h =
+        let f = cell aborted fl re b in
+        let j : k * T + at + fsize f ≡ k * T + (at + fsize f) = omega arith in
+        one-lost (at + fsize f) fs t p a (omega (arith, fsize-32 f)) clear (tiny .1) (omega arith) (subst (λ (n : ℕ). drop n log ≡ bytes c· n fs ++ t) j (drop-next c· (k * T + at) f fs t log e)) l m n s q h

@@ -15,7 +15,7 @@ use Rattle.model.specs.FrameDescriptor.{begins, ends}
 use Rattle.model.specs.TermAppender.{Fragment, fragment, cutFrom, cut}
 use Rattle.model.specs.History.{Shape, State, open·, committed, aborted, Extent, message, claimed·, padding, messages}
 use Rattle.model.specs.Demand.{Holds}
-use Rattle.model.proofs.Choice.{cond-false, split}
+use Rattle.model.proofs.Choice.{cond-false, cond-case, split}
 use Rattle.model.proofs.Cells.{Cell, cell}
 use Rattle.model.proofs.Cut.{cut-last, cut-more}
 
@@ -46,25 +46,30 @@ fragsOf (cell aborted fl re b ∷ fs) = fragsOf fs
 
 -- ---- the assembler
 
+-- what it holds, what it has given out, and whether it ever dropped a message that was too long
 pub record Asm : Type 0 where
   pub held : List ℕ
   pub out : List (List ℕ)
+  pub lost : Bool
 
 abbrev pub empty : Asm
-empty = record { held = []; out = [] }
+empty = record { held = []; out = []; lost = false }
 
 abbrev pub gives : Asm → List ℕ → List ℕ → Asm
-gives a h m = record { held = h; out = a .out ++ (m ∷ []) }
+gives a h m = record { held = h; out = a .out ++ (m ∷ []); lost = a .lost }
 
 abbrev pub keeps : Asm → List ℕ → Asm
-keeps a h = record { held = h; out = a .out }
+keeps a h = record { held = h; out = a .out; lost = a .lost }
+
+abbrev pub loses : Asm → Asm
+loses a = record { held = []; out = a .out; lost = true }
 
 unfoldable pub take-in : ℕ → Asm → ℕ × List ℕ → Asm
 take-in cap a f =
     cond (begins (f .0) && ends (f .0)) (gives a (a .held) (f .1))
-    (cond (begins (f .0)) (cond (ltb cap (length (f .1))) (keeps a []) (keeps a (f .1)))
+    (cond (begins (f .0)) (cond (ltb cap (length (f .1))) (loses a) (keeps a (f .1)))
     (cond (eqb (length (a .held)) 0) a
-    (cond (ltb cap (length (a .held) + length (f .1))) (keeps a [])
+    (cond (ltb cap (length (a .held) + length (f .1))) (loses a)
     (cond (ends (f .0)) (gives a [] (a .held ++ f .1)) (keeps a (a .held ++ f .1))))))
 
 unfoldable pub takes-in : ℕ → Asm → List (ℕ × List ℕ) → Asm
@@ -76,10 +81,44 @@ unfolding takes-in
 takes-append cap a [] gs = refl
 takes-append cap a (f ∷ fs) gs = takes-append cap (take-in cap a f) fs gs
 
+-- what was lost stays lost
+take-lost : (cap : ℕ) (a : Asm) (f : ℕ × List ℕ) → a .lost ≡ true → take-in cap a f .lost ≡ true
+unfolding take-in
+take-lost cap a f e =
+    cond-case (λ (x : Asm). x .lost ≡ true) (begins (f .0) && ends (f .0)) (gives a (a .held) (f .1)) _ (λ q. e)
+    (λ q. cond-case (λ (x : Asm). x .lost ≡ true) (begins (f .0)) _ _
+    (λ q. cond-case (λ (x : Asm). x .lost ≡ true) (ltb cap (length (f .1))) (loses a) (keeps a (f .1)) (λ q. refl) (λ q. e))
+    (λ q. cond-case (λ (x : Asm). x .lost ≡ true) (eqb (length (a .held)) 0) a _ (λ q. e)
+    (λ q. cond-case (λ (x : Asm). x .lost ≡ true) (ltb cap (length (a .held) + length (f .1))) (loses a) _ (λ q. refl)
+    (λ q. cond-case (λ (x : Asm). x .lost ≡ true) (ends (f .0)) (gives a [] (a .held ++ f .1)) (keeps a (a .held ++ f .1)) (λ q. e) (λ q. e)))))
+
+pub takes-lost : (cap : ℕ) (a : Asm) (fs : List (ℕ × List ℕ)) → a .lost ≡ true → takes-in cap a fs .lost ≡ true
+unfolding takes-in
+takes-lost cap a [] e = e
+takes-lost cap a (f ∷ fs) e = takes-lost cap (take-in cap a f) fs (take-lost cap a f e)
+
+-- what was given out stays given out
+take-grow : (cap : ℕ) (a : Asm) (f : ℕ × List ℕ) → length (a .out) ≤ length (take-in cap a f .out)
+unfolding take-in
+take-grow cap a f =
+    let P : Asm → Type 0 = λ x. length (a .out) ≤ length (x .out) in
+    let more : (m : List ℕ) → length (a .out) ≤ length (a .out ++ (m ∷ [])) = λ m. omega (arith, length-append (a .out) (m ∷ [])) in
+    cond-case P (begins (f .0) && ends (f .0)) (gives a (a .held) (f .1)) _ (λ q. more (f .1))
+    (λ q. cond-case P (begins (f .0)) _ _
+    (λ q. cond-case P (ltb cap (length (f .1))) (loses a) (keeps a (f .1)) (λ q. omega arith) (λ q. omega arith))
+    (λ q. cond-case P (eqb (length (a .held)) 0) a _ (λ q. omega arith)
+    (λ q. cond-case P (ltb cap (length (a .held) + length (f .1))) (loses a) _ (λ q. omega arith)
+    (λ q. cond-case P (ends (f .0)) (gives a [] (a .held ++ f .1)) (keeps a (a .held ++ f .1)) (λ q. more (a .held ++ f .1)) (λ q. omega arith)))))
+
+pub takes-grow : (cap : ℕ) (a : Asm) (fs : List (ℕ × List ℕ)) → length (a .out) ≤ length (takes-in cap a fs .out)
+unfolding takes-in
+takes-grow cap a [] = omega arith
+takes-grow cap a (f ∷ fs) = omega (arith, take-grow cap a f, takes-grow cap (take-in cap a f) fs)
+
 -- ---- the frames of a message through it
 
 abbrev has : List ℕ → List (List ℕ) → Asm
-has h o = record { held = h; out = o }
+has h o = record { held = h; out = o; lost = false }
 
 whole-in : (cap : ℕ) (x b : List ℕ) (o : List (List ℕ)) → take-in cap (has x o) (192, b) ≡ has x (o ++ (b ∷ []))
 unfolding take-in
@@ -87,19 +126,19 @@ whole-in cap x b o = refl
 
 first-in : (cap : ℕ) (x b : List ℕ) (o : List (List ℕ)) → length b ≤ cap → take-in cap (has x o) (128, b) ≡ has b o
 unfolding take-in
-first-in cap x b o h = cond-false (ltb cap (length b)) (has [] o) (has b o) (le-ltb cap (length b) h)
+first-in cap x b o h = cond-false (ltb cap (length b)) (loses (has x o)) (has b o) (le-ltb cap (length b) h)
 
 mid-in : (cap : ℕ) (x b : List ℕ) (o : List (List ℕ)) → zero < length x → length x + length b ≤ cap → take-in cap (has x o) (0, b) ≡ has (x ++ b) o
 unfolding take-in
 mid-in cap x b o k h =
     cond-false (eqb (length x) 0) (has x o) _ (ne-eqb (length x) 0 (λ e. omega arith))
-    ∙ cond-false (ltb cap (length x + length b)) (has [] o) (has (x ++ b) o) (le-ltb cap (length x + length b) h)
+    ∙ cond-false (ltb cap (length x + length b)) (loses (has x o)) (has (x ++ b) o) (le-ltb cap (length x + length b) h)
 
 end-in : (cap : ℕ) (x b : List ℕ) (o : List (List ℕ)) → zero < length x → length x + length b ≤ cap → take-in cap (has x o) (64, b) ≡ has [] (o ++ ((x ++ b) ∷ []))
 unfolding take-in
 end-in cap x b o k h =
     cond-false (eqb (length x) 0) (has x o) _ (ne-eqb (length x) 0 (λ e. omega arith))
-    ∙ cond-false (ltb cap (length x + length b)) (has [] o) (has [] (o ++ ((x ++ b) ∷ []))) (le-ltb cap (length x + length b) h)
+    ∙ cond-false (ltb cap (length x + length b)) (loses (has x o)) (has [] (o ++ ((x ++ b) ∷ []))) (le-ltb cap (length x + length b) h)
 
 -- the frames after the first
 later : (cap f pay re : ℕ) (x b : List ℕ) (o : List (List ℕ)) → zero < pay → zero < length x → length b < f → length x + length b ≤ cap

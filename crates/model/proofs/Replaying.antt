@@ -1,20 +1,26 @@
 -- Any replay of a log of frames comes to an end, having taken in what the frames hold up to the first claim still open.
 use mathlib.Core.Path.{_≡_, refl, sym, ap, ap₂, _∙_, subst}
 use mathlib.Core.Bool.{Bool, true, false, cond, not, _&&_}
+use mathlib.Core.Logic.{_⊎_, inl, inr, ⊎-elim}
 use Prim.Native.Nat.{ℕ, zero, suc, _+_, _-_, _*_, _/_, _%_, _≤_, _<_}
 use native.Mathlib.Nat.{zero-add, le-refl, mod-lt, div-add-mod', div-lt-iff-lt-mul, mod-eq-of-lt, mul-left-comm}
 use mathlib.Core.List.{List, [], _∷_, _++_, append-assoc, append-nil}
 use native.Mathlib.Omega.{arith}
-use borrow.Author.Tests.{le-leb, eq-eqb}
+use borrow.Author.Tests.{le-leb, lt-leb, eq-eqb}
 use lib.Dec.{leb, ltb, eqb}
-use lib.ListN.{length, drop, length-append}
+use lib.ListN.{length, take, drop, getD, replicate, length-append}
 use lib.Seq.{drop-at}
 use lib.Arith.{digits-mod}
 use lib.IntN.{ℤ, pos}
 use Rattle.model.specs.declared.LogRecord.{LogRecord}
 use Rattle.model.specs.declared.Frame.{Frame}
 use Rattle.model.specs.declared.Polled.{Polled}
-use Rattle.model.specs.declared.Polled.the-variants.{Fragments}
+use Rattle.model.specs.declared.Polled.the-variants.{Fragments, Refused as PollRefused}
+use Rattle.model.specs.declared.Replayed.{Replayed as Given}
+use Rattle.model.specs.declared.Replayed.the-variants.{InLog, InBuffer, End, Refused as ReplayRefused}
+use Rattle.model.specs.declared.Assembled.{Assembled}
+use Rattle.model.specs.declared.Assembled.the-variants.{Nothing, Fragment, Message, Refused as AssemblyRefused}
+use Rattle.model.specs.declared.Error.{Error}
 use Rattle.model.specs.declared.ReadVerdict.{ReadVerdict}
 use Rattle.model.specs.declared.ReadVerdict.the-variants.{Read, Closed, Refuse}
 use Rattle.model.specs.declared.Error.the-variants.{IllegalArgument, IllegalRecord, PositionOutOfRange, UnsoundFrame}
@@ -23,16 +29,17 @@ use Rattle.model.specs.FrameDescriptor.{frameAt, isUnsound}
 use Rattle.model.specs.LogBufferDescriptor.{partitionOf, reading, greatest, sound, Sound}
 use Rattle.model.specs.TermReader.{Walked, walk, natural, goodEntries, numbers, laid, firstUnsound}
 use Rattle.model.specs.Image.{Image, newImage, readable, pollVerdict, PollReply, pollReply, pollOf}
-use Rattle.model.specs.Replay.{Replaying, feedAll, entriesOf, withImage, round, start, Polls, rounds, Quiet}
+use Rattle.model.specs.FragmentAssembler.{Assembly, assembleOf}
+use Rattle.model.specs.Replay.{Replaying, handedOut, after, feed, feedAll, entriesOf, withImage, round, start, Polls, rounds, Quiet, ReplayState, NextReply, giving, givenBy, assembledTo, pollOne, turnBy, nextFrom, nextOf, messageBy, replayed}
 use Rattle.model.specs.History.{Shape, shapeOf, World, State, open·, committed, aborted}
-use Rattle.model.specs.Demand.{Allowed, Replayed}
+use Rattle.model.specs.Demand.{Allowed, Replayed, GivesAll}
 use Rattle.model.proofs.Sound.{term-32}
-use Rattle.model.proofs.Choice.{cond-true, cond-false, both-true, split, same?}
+use Rattle.model.proofs.Choice.{cond-true, cond-false, both-true, split, same?, eq-yes, eq-no}
 use Rattle.model.proofs.Cells.{Cell, cell, flen, fsize, enc, bytes, sizes, length-bytes, bytes-append, sizes-append, flen-ge, fsize-ge, sizes-32}
-use Rattle.model.proofs.Walking.{Small, AllSmall, norm, Fits, Clear, seen, entsOf, Goes, goes, Stuck, moves, see-here, see-end}
-use Rattle.model.proofs.OneSession.{fragsOf, Asm, empty, takes-in, takes-append}
+use Rattle.model.proofs.Walking.{Small, AllSmall, norm, Fits, Clear, seen, entsOf, Goes, goes, Stuck, moves, see-here, see-end, few}
+use Rattle.model.proofs.OneSession.{fragsOf, Asm, empty, takes-in, takes-append, takes-lost, takes-grow}
 use Rattle.model.proofs.Assembling.{fresh-same}
-use Rattle.model.proofs.Feeding.{feedEach, feed-all, Like, all-fed}
+use Rattle.model.proofs.Feeding.{feedEach, feed-all, Like, all-fed, one-lost}
 
 -- ---- rooms
 
@@ -289,6 +296,18 @@ module _ (r : LogRecord) (log : List ℕ) (snd : Sound (reading r) (length log))
                   (sym (takes-append part empty (fragsOf front) (fragsOf (w .front))) ∙ ap (takes-in part empty) (sym (frags-append front (w .front) (s .clear)))) (fed .0));
             }
 
+      shorter : (n : ℕ) (front back : List Cell) (q : fs ≡ front ++ back) → ¬ (walked (sizes front) n .moved ≡ 0) → length (walks front back n q .back) < length back
+      shorter n front back q m =
+          let v = walks front back n q in
+          omega (arith, ap length (v .cut), length-append (v .front) (v .back), sizes-some (v .front) (λ k. m (v .moved ∙ k)))
+
+      -- one that stands before what is free or being written has taken in all there is
+      complete : (p : Replaying) (front back : List Cell) → Stands p front back → Stuck back → p .out ≡ takes-in part empty (fragsOf fs) .out
+      complete p front back s stop =
+          s .like .out
+          ∙ ap (λ (l : List (ℕ × List ℕ)). takes-in part empty l .out)
+          (sym (append-nil (fragsOf front)) ∙ ap (λ (l : List (ℕ × List ℕ)). fragsOf front ++ l) (sym (frags-stuck back stop)) ∙ sym (frags-append front back (s .clear)) ∙ ap fragsOf (sym (s .cut)))
+
       module _ (ps : Polls) (allowed : Allowed ps) where
         abbrev at : ℕ → Replaying
         at n = rounds r log ps (start session buffer) n
@@ -315,11 +334,6 @@ module _ (r : LogRecord) (log : List ℕ) (snd : Sound (reading r) (length log))
               moves = ap (λ (y : PollReply). y .next) q ∙ ap (λ (k : ℕ). newImage (pos k) session) (ap (λ (k : ℕ). sizes front + k) m ∙ omega arith) ∙ sym (s .image);
             }
 
-        shorter : (n : ℕ) (front back : List Cell) (q : fs ≡ front ++ back) → ¬ (walked (sizes front) n .moved ≡ 0) → length (walks front back n q .back) < length back
-        shorter n front back q m =
-            let v = walks front back n q in
-            omega (arith, ap length (v .cut), length-append (v .front) (v .back), sizes-some (v .front) (λ k. m (v .moved ∙ k)))
-
         seek : (k n : ℕ) (front back : List Cell) → Stands (at n) front back → length back ≤ k → (m : ℕ) × Quiet r log ps (start session buffer) m
         unfolding rounds
         seek zero n front back s h =
@@ -343,10 +357,252 @@ module _ (r : LogRecord) (log : List ℕ) (snd : Sound (reading r) (length log))
         told : (n : ℕ) → Quiet r log ps (start session buffer) n → at n .out ≡ takes-in part empty (fragsOf fs) .out
         told n q =
             let g = stands n in
-            let stop = stops (g .0) (g .1) (natural (ps .limit n)) (g .2 .cut) (allowed .some n) (stays n (g .0) (g .1) (g .2) q) in
-            g .2 .like .out
-            ∙ ap (λ (l : List (ℕ × List ℕ)). takes-in part empty l .out)
-            (sym (append-nil (fragsOf (g .0))) ∙ ap (λ (l : List (ℕ × List ℕ)). fragsOf (g .0) ++ l) (sym (frags-stuck (g .1) stop)) ∙ sym (frags-append (g .0) (g .1) (g .2 .clear)) ∙ ap fragsOf (sym (g .2 .cut)))
+            complete (at n) (g .0) (g .1) (g .2) (stops (g .0) (g .1) (natural (ps .limit n)) (g .2 .cut) (allowed .some n) (stays n (g .0) (g .1) (g .2) q))
 
       pub replays : (ms : List (List ℕ)) → takes-in part empty (fragsOf fs) .out ≡ ms → Replayed (record { record· = r; log = log }) session buffer ms
       replays ms m = record { finish = λ ps allowed. finishes ps allowed; exact = λ ps allowed n q. told ps allowed n q ∙ m }
+
+      -- ---- message by message: polls of one fragment
+
+      abbrev two : List ℤ
+      two = replicate 2 (pos 0)
+
+      lent-two : goodEntries (length two) (natural (pos 1)) ≡ true
+      lent-two = refl
+
+      abbrev state : Replaying → ReplayState
+      state p = record { image = p .image; sessions = p .sessions; buffer = p .buffer }
+
+      -- the replay that a poll of one fragment leads to
+      abbrev onto : Replaying → Replaying
+      onto p = round r log (pos 1) two p
+
+      -- what a call says: the end, with all given, or a message, and then it stands further on
+      record Onward (p : Replaying) (back : List Cell) (y : NextReply) : Type 0 where
+        at : Replaying
+        front′ : List Cell
+        back′ : List Cell
+        stands-on : Stands at front′ back′
+        less : length back′ < length back
+        is : y .next ≡ state at
+        message : List ℕ
+        gives : (rest : List (List ℕ)) → messageBy log (y .next) (y .answer) rest ≡ message ∷ rest
+        grown : at .out ≡ p .out ++ (message ∷ [])
+
+      abbrev Said : Replaying → List Cell → NextReply → Type 0
+      Said p back y = ((y .answer ≡ End) × (p .out ≡ takes-in part empty (fragsOf fs) .out)) ⊎ Onward p back y
+
+      -- from where nothing was given yet, and with more left
+      said-on : (p q : Replaying) (back back′ : List Cell) (y : NextReply) → q .out ≡ p .out → length back′ ≤ length back → Said q back′ y → Said p back y
+      said-on p q back back′ y e l (inl x) = inl (x .0, sym e ∙ x .1)
+      said-on p q back back′ y e l (inr x) =
+          inr (record { at = x .at; front′ = x .front′; back′ = x .back′; stands-on = x .stands-on; less = omega (arith, x .less); is = x .is; message = x .message; gives = x .gives; grown = x .grown ∙ ap (λ (o : List (List ℕ)). o ++ (x .message ∷ [])) e })
+
+      -- the turn, by the poll's reply at a position
+      abbrev turning : ReplayState → ℕ → PollReply → Polled → (ReplayState → NextReply) → NextReply
+      turning s q y (PollRefused e) go = giving s (ReplayRefused e)
+      turning s q y (Fragments n m) go =
+          cond (leb (3 * T) q) (giving s End)
+          (cond (eqb m 0)
+          (cond (eqb (long (y .next .position)) q) (giving s End) (go (record { image = y .next; sessions = s .sessions; buffer = s .buffer })))
+          (givenBy (partitionOf q T * T)
+          (assembledTo (y .next) (assembleOf r log (s .sessions) (s .buffer) (pos (partitionOf q T)) (pos (natural (getD (y .slots) 0 (pos 0)) - 32))))
+          (assembleOf r log (s .sessions) (s .buffer) (pos (partitionOf q T)) (pos (natural (getD (y .slots) 0 (pos 0)) - 32)) .answer) go))
+
+      turn-is : (s : ReplayState) (x : Polled) (go : ReplayState → NextReply) → turnBy r log s x go ≡ turning s (long (s .image .position)) (pollOne r log (s .image)) x go
+      turn-is s (PollRefused e) go = refl
+      turn-is s (Fragments n m) go = refl
+
+      module _ (kept : takes-in part empty (fragsOf fs) .lost ≡ false) (p : Replaying) (front back : List Cell) (s : Stands p front back) (go : ReplayState → NextReply) where
+        abbrev v : Goes T (sizes front % T) back (walked (sizes front) 1)
+        v = walks front back 1 (s .cut)
+
+        abbrev q· : ℕ
+        q· = sizes front
+
+        abbrev reply· : PollReply
+        reply· = pollReply (newImage (pos (sizes front)) session) two (walked (sizes front) 1) Read
+
+        -- the poll's reply, where the replay stands
+        turns : turnBy r log (state p) (pollOne r log (p .image) .answer) go ≡ turning (state p) q· reply· (reply· .answer) go
+        turns =
+            turn-is (state p) (pollOne r log (p .image) .answer) go
+            ∙ ap₂ (λ (i : Image) (y : PollReply). turning (state p) (long (i .position)) y (y .answer) go) (s .image) (polled p front back s two (pos 1) lent-two)
+
+        inside : {X : Type 0} (x y : X) → cond (leb (3 * T) q·) x y ≡ y
+        inside x y = cond-false (leb (3 * T) q·) x y (lt-leb (3 * T) q· (below front back (s .cut)))
+
+        abbrev p′ : Replaying
+        p′ = onto p
+
+        s′ : Stands (onto p) (front ++ v .front) (v .back)
+        s′ = on p front back s two (pos 1) lent-two
+
+        abbrev image′ : Image
+        image′ = reply· .next
+
+        next-is : next p front back s two (pos 1) lent-two ≡ image′
+        next-is = sym (moved-on p front back s two (pos 1) lent-two)
+
+        -- nothing came
+        quiet-round : walked q· 1 .entries ≡ [] → onto p ≡ withImage p image′
+        unfolding feedEach
+        quiet-round e =
+            round-is p front back s two (pos 1) lent-two
+            ∙ ap₂ (λ (es : List (ℕ × ℕ)) (i : Image). feedEach r log snd good (partitionOf q· T) es (withImage p i)) (sym (v .entries) ∙ e) next-is
+
+        -- one body came
+        one-round : (m n : ℕ) → walked q· 1 .entries ≡ (m, n) ∷ [] → onto p ≡ feed r log (partitionOf q· T) (withImage p image′) (pos m)
+        unfolding feedEach
+        one-round m n e =
+            round-is p front back s two (pos 1) lent-two
+            ∙ ap₂ (λ (es : List (ℕ × ℕ)) (i : Image). feedEach r log snd good (partitionOf q· T) es (withImage p i)) (sym (v .entries) ∙ e) next-is
+
+        less : ¬ (walked q· 1 .moved ≡ 0) → length (v .back) < length back
+        less m = shorter 1 front back (s .cut) m
+
+        -- no message came
+        none-came : walked q· 1 .entries ≡ [] → ((x : Replaying) (f b : List Cell) → Stands x f b → length b < length back → Said x b (go (state x)))
+            → Said p back (cond (eqb (q· + walked q· 1 .moved) q·) (giving (state p) End) (go (record { image = image′; sessions = p .sessions; buffer = p .buffer })))
+        none-came e ih =
+            same? (walked q· 1 .moved) 0
+            (λ m.
+            subst (Said p back) (sym (eq-yes (q· + walked q· 1 .moved) q· _ _ (omega arith))) (inl (refl, complete p front back s (stops front back 1 (s .cut) (omega arith) m))))
+            (λ m.
+            subst (Said p back) (ap (λ (x : Replaying). go (state x)) (quiet-round e) ∙ sym (eq-no (q· + walked q· 1 .moved) q· (giving (state p) End) _ (λ (z : q· + walked q· 1 .moved ≡ q·). m (omega arith))))
+            (said-on p (onto p) back (v .back) (go (state (onto p))) (ap (λ (x : Replaying). x .out) (quiet-round e)) (omega (arith, less m)) (ih (onto p) (front ++ v .front) (v .back) s′ (less m))))
+
+        -- a body came: what the assembler was given
+        abbrev a· : ℕ → Assembly
+        a· m = assembleOf r log (p .sessions) (p .buffer) (pos (partitionOf q· T)) (pos (m - 32))
+
+        came : (m n : ℕ) → walked q· 1 .entries ≡ (m, n) ∷ [] → onto p ≡ after log (partitionOf q· T * T) (withImage p image′) (a· m)
+        unfolding feed
+        came m n e = one-round m n e
+
+        -- the assembler never refuses: it would have lost a message
+        kept-all : (m n : ℕ) → walked q· 1 .entries ≡ (m, n) ∷ [] → (e : Error) → a· m .answer ≡ AssemblyRefused e → ⊥
+        kept-all m n e x h =
+            let k = partitionOf q· T in
+            let lost : takes-in part (takes-in part empty (fragsOf front)) (fragsOf (v .front)) .lost ≡ true =
+            one-lost r log snd good (length buffer) k small (third q·) (q· % T) (v .front) (bytes c· (k * T + q· % T + sizes (v .front)) (v .back) ++ zeros z) p (takes-in part empty (fragsOf front))
+            (offset-32 p front back s two (pos 1) lent-two) (v .clear)
+            (fits-small T (T - q· % T) (v .front) (v .back) (subst (Fits T (T - q· % T)) (v .cut) (fits-at front back (s .cut)))) (v .within) (lies p front back s two (pos 1) lent-two) (s .like)
+            m n (sym (v .entries) ∙ e) x h in
+            let all : takes-in part (takes-in part (takes-in part empty (fragsOf front)) (fragsOf (v .front))) (fragsOf (v .back)) .lost ≡ true = takes-lost part _ (fragsOf (v .back)) lost in
+            let same : takes-in part (takes-in part (takes-in part empty (fragsOf front)) (fragsOf (v .front))) (fragsOf (v .back)) ≡ takes-in part empty (fragsOf fs) =
+            sym (takes-append part (takes-in part empty (fragsOf front)) (fragsOf (v .front)) (fragsOf (v .back)))
+            ∙ ap (takes-in part (takes-in part empty (fragsOf front))) (sym (frags-append (v .front) (v .back) (v .clear)) ∙ ap fragsOf (sym (v .cut)))
+            ∙ sym (takes-append part empty (fragsOf front) (fragsOf back)) ∙ ap (takes-in part empty) (sym (frags-append front back (s .clear)) ∙ ap fragsOf (sym (s .cut))) in
+            let z : _≡_ {A = Bool} true false = sym all ∙ ap (λ (x : Asm). x .lost) same ∙ kept in
+            let y : _≡_ {A = ℕ} 0 1 = cc in omega arith
+          where
+            third : (n : ℕ) → partitionOf n T ≤ 2
+            third n = let l : n / T % 3 < 3 = mod-lt (n / T) (omega arith) in omega arith
+
+        one-came : (m n : ℕ) → walked q· 1 .entries ≡ (m, n) ∷ [] → ¬ (walked q· 1 .moved ≡ 0)
+            → ((x : Replaying) (f b : List Cell) → Stands x f b → length b < length back → Said x b (go (state x)))
+            → (o : Assembled) → a· m .answer ≡ o → Said p back (givenBy (partitionOf q· T * T) (assembledTo image′ (a· m)) o go)
+        one-came m n e u ih Nothing h =
+            subst (λ (x : ReplayState). Said p back (go x)) (ap state (came m n e))
+            (said-on p (onto p) back (v .back) (go (state (onto p)))
+            (ap (λ (x : Replaying). x .out) (came m n e) ∙ ap (λ (o : Assembled). p .out ++ handedOut log (partitionOf q· T * T) (a· m .buffer) o) h ∙ append-nil (p .out))
+            (omega (arith, less u)) (ih (onto p) (front ++ v .front) (v .back) s′ (less u)))
+        one-came m n e u ih (Fragment at k) h =
+            inr (record {
+              at = onto p;
+              front′ = front ++ v .front;
+              back′ = v .back;
+              stands-on = s′;
+              less = less u;
+              is = sym (ap state (came m n e));
+              message = take k (drop (partitionOf q· T * T + at) log);
+              gives = λ rest. refl;
+              grown = ap (λ (x : Replaying). x .out) (came m n e) ∙ ap (λ (o : Assembled). p .out ++ handedOut log (partitionOf q· T * T) (a· m .buffer) o) h;
+            })
+        one-came m n e u ih (Message at k) h =
+            inr (record {
+              at = onto p;
+              front′ = front ++ v .front;
+              back′ = v .back;
+              stands-on = s′;
+              less = less u;
+              is = sym (ap state (came m n e));
+              message = take k (drop at (a· m .buffer));
+              gives = λ rest. refl;
+              grown = ap (λ (x : Replaying). x .out) (came m n e) ∙ ap (λ (o : Assembled). p .out ++ handedOut log (partitionOf q· T * T) (a· m .buffer) o) h;
+            })
+        one-came m n e u ih (AssemblyRefused x) h = absurd (kept-all m n e x h)
+
+        -- what moved where a body came
+        moves-some : (m n : ℕ) (es : List (ℕ × ℕ)) → walked q· 1 .entries ≡ (m, n) ∷ es → ¬ (walked q· 1 .moved ≡ 0)
+        unfolding entsOf
+        moves-some m n es e z =
+            let none : (m, n) ∷ es ≡ [] = sym e ∙ v .entries ∙ ap (entsOf (q· % T)) (sizes-zero (v .front) (sym (v .moved) ∙ z)) in
+            let y : _≡_ {A = ℕ} 0 1 = cc in omega arith
+
+        -- one turn, by what came
+        abbrev by-entries : List (ℕ × ℕ) → NextReply
+        by-entries es =
+            cond (eqb (length es) 0)
+            (cond (eqb (q· + walked q· 1 .moved) q·) (giving (state p) End) (go (record { image = image′; sessions = p .sessions; buffer = p .buffer })))
+            (givenBy (partitionOf q· T * T)
+            (assembledTo image′ (assembleOf r log (p .sessions) (p .buffer) (pos (partitionOf q· T)) (pos (natural (getD (laid two es) 0 (pos 0)) - 32))))
+            (assembleOf r log (p .sessions) (p .buffer) (pos (partitionOf q· T)) (pos (natural (getD (laid two es) 0 (pos 0)) - 32)) .answer) go)
+
+        turns-to : turnBy r log (state p) (pollOne r log (p .image) .answer) go ≡ by-entries (walked q· 1 .entries)
+        turns-to = turns ∙ inside (giving (state p) End) (by-entries (walked q· 1 .entries))
+
+        turn-says : (es : List (ℕ × ℕ)) → walked q· 1 .entries ≡ es → ((x : Replaying) (f b : List Cell) → Stands x f b → length b < length back → Said x b (go (state x)))
+            → Said p back (turnBy r log (state p) (pollOne r log (p .image) .answer) go)
+        unfolding laid numbers
+        turn-says [] e ih = subst (Said p back) (sym (turns-to ∙ ap by-entries e)) (none-came e ih)
+        turn-says (x ∷ []) e ih =
+            subst (Said p back) (sym (turns-to ∙ ap by-entries e)) (one-came (x .0) (x .1) e (moves-some (x .0) (x .1) [] e) ih (a· (x .0) .answer) refl)
+        turn-says (x ∷ y ∷ es) e ih = absurd (omega (arith, few T log (base q·) T T (q· % T) 1, ap length e))
+
+      -- a call of `nextOf`
+      next-says : takes-in part empty (fragsOf fs) .lost ≡ false → (fuel : ℕ) (p : Replaying) (front back : List Cell) → Stands p front back → length back < fuel
+          → Said p back (nextFrom fuel r log (state p))
+      unfolding nextFrom
+      next-says kept zero p front back s l = absurd (omega arith)
+      next-says kept (suc fuel) p front back s l =
+          turn-says kept p front back s (λ x. nextFrom fuel r log x) (walked (sizes front) 1 .entries) refl
+          (λ x f b t m. next-says kept fuel x f b t (omega arith))
+
+      -- frames are at least 32 bytes, so there are no more than the log's bytes
+      few-frames : (gs : List Cell) → length gs ≤ sizes gs
+      unfolding sizes
+      few-frames [] = omega arith
+      few-frames (g ∷ gs) = omega (arith, few-frames gs, flen-ge g, fsize-ge g)
+
+      enough : (front back : List Cell) → fs ≡ front ++ back → length back < suc (3 * T)
+      enough front back q = omega (arith, few-frames back, ap sizes q, sizes-append front back)
+
+      -- what was given so far is some of it
+      least : (p : Replaying) (front back : List Cell) → Stands p front back → length (p .out) ≤ length (takes-in part empty (fragsOf fs) .out)
+      least p front back s =
+          let same : takes-in part (takes-in part empty (fragsOf front)) (fragsOf back) ≡ takes-in part empty (fragsOf fs) =
+          sym (takes-append part empty (fragsOf front) (fragsOf back)) ∙ ap (takes-in part empty) (sym (frags-append front back (s .clear)) ∙ ap fragsOf (sym (s .cut))) in
+          omega (arith, takes-grow part (takes-in part empty (fragsOf front)) (fragsOf back), ap (λ (a : Asm). length (a .out)) same, ap length (s .like .out))
+
+      all-given : (ms : List (List ℕ)) → takes-in part empty (fragsOf fs) .lost ≡ false → takes-in part empty (fragsOf fs) .out ≡ ms
+          → (most : ℕ) (p : Replaying) (front back : List Cell) → Stands p front back → length ms < length (p .out) + most → p .out ++ replayed most r log (state p) ≡ ms
+      unfolding replayed nextOf
+      all-given ms kept found zero p front back s l = absurd (omega (arith, least p front back s, ap length found))
+      all-given ms kept found (suc most) p front back s l =
+          let y = nextFrom (suc (3 * T)) r log (state p) in
+          ⊎-elim
+          (λ x. ap (λ (a : Given). p .out ++ messageBy log (y .next) a (replayed most r log (y .next))) (x .0) ∙ append-nil (p .out) ∙ x .1 ∙ found)
+          (λ x.
+          ap (λ (l : List (List ℕ)). p .out ++ l) (x .gives (replayed most r log (y .next)) ∙ ap (λ (t : ReplayState). x .message ∷ replayed most r log t) (x .is))
+          ∙ sym (append-assoc (p .out) (x .message ∷ []) (replayed most r log (state (x .at))))
+          ∙ ap (λ (o : List (List ℕ)). o ++ replayed most r log (state (x .at))) (sym (x .grown))
+          ∙ all-given ms kept found most (x .at) (x .front′) (x .back′) (x .stands-on) (omega (arith, ap length (x .grown), length-append (p .out) (x .message ∷ []))))
+          (next-says kept (suc (3 * T)) p front back s (enough front back (s .cut)))
+
+      pub gives-all : (ms : List (List ℕ)) → takes-in part empty (fragsOf fs) ≡ record { held = []; out = ms; lost = false } → GivesAll (record { record· = r; log = log }) session buffer ms
+      unfolding GivesAll Clear sizes fragsOf takes-in
+      gives-all ms m most l =
+          all-given ms (ap (λ (a : Asm). a .lost) m) (ap (λ (a : Asm). a .out) m) most (start session buffer) [] fs
+          (record { cut = refl; clear = tt; image = refl; like = record { same = fresh-same c· buffer; out = refl } }) (omega arith)

@@ -239,3 +239,20 @@ moves c T z base log (suc fuel) at (suc limit) (f ∷ fs) hf hr hl e h m =
     (subst (λ (x : Frame). over x (ends (flagsAt (drop (base + at) log))) at limit [] (λ a l more. walk fuel log base T T a l more) .moved ≡ 0)
     (see-here c T z base log at (T - at) f fs e (h .0) (h .1))
     (sym (ap (λ (w : Walked). w .moved) (le-no T at still _ hr)) ∙ m))
+
+-- ---- a walk hands out at most as many bodies as it may
+
+few-over : (x : Frame) (whole : Bool) (at limit : ℕ) (go : ℕ → ℕ → List ℕ → Walked) → ((a l : ℕ) → length (go a l [] .entries) ≤ l) → length (over x whole at limit [] go .entries) ≤ suc limit
+few-over Absent whole at limit go ih = omega arith
+few-over Unsound whole at limit go ih = omega arith
+few-over (Padding n) whole at limit go ih = ih (at + align n) (suc limit)
+few-over (Data n) whole at limit go ih = omega (arith, ih (at + align n) limit)
+
+pub few : (fuel : ℕ) (log : List ℕ) (base term end at limit : ℕ) → length (walk fuel log base term end at limit [] .entries) ≤ limit
+unfolding walk
+few zero log base term end at limit = omega arith
+few (suc fuel) log base term end at zero = omega arith
+few (suc fuel) log base term end at (suc limit) =
+    le-case (λ (w : Walked). length (w .entries) ≤ suc limit) end at still _ (λ k. omega arith)
+    (λ k. few-over (frameAt (drop (base + at) log) (term - at)) (ends (flagsAt (drop (base + at) log))) at limit (λ a l more. walk fuel log base term end a l more)
+    (λ a l. few fuel log base term end a l))

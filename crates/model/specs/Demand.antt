@@ -32,9 +32,10 @@ use Rattle.model.specs.declared.Claimed.the-variants.{Position as ClaimP
 use Rattle.model.specs.LogBufferDescriptor.{reading, publisherPosition}
 use Rattle.model.specs.Publication.{openOf, openBytes}
 use Rattle.model.specs.TermReader.{natural, goodEntries}
-use Rattle.model.specs.FragmentAssembler.{partLength}
+use Rattle.model.specs.Image.{newImage}
+use Rattle.model.specs.FragmentAssembler.{partLength, fresh}
 use Rattle.model.specs.History.{Call, Answer, offered, claimed, outcome, World, step, answers, left, Shape, shapeOf, Extent, message, claimed·, padding, sizeAll, tell, told, messages, AllGiven}
-use Rattle.model.specs.Replay.{Replaying, Polls, start, rounds, Quiet}
+use Rattle.model.specs.Replay.{Replaying, Polls, start, rounds, Quiet, replayed}
 
 -- ---- the answered positions
 
@@ -77,6 +78,12 @@ pub record Replayed (w : World) (session : ℤ) (buffer : List ℕ) (ms : List (
   pub exact : (ps : Polls) → Allowed ps → (n : ℕ) → Quiet (w .record·) (w .log) ps (start session buffer) n
       → rounds (w .record·) (w .log) ps (start session buffer) n .out ≡ ms
 
+-- The same message by message: what `nextOf` (Replay) gives, one call after another, is ms.
+unfoldable pub GivesAll : World → ℤ → List ℕ → List (List ℕ) → Type 0
+GivesAll w session buffer ms =
+    (most : ℕ) → length ms < most
+    → replayed most (w .record·) (w .log) (record { image = newImage (pos 0) session; sessions = fresh; buffer = buffer }) ≡ ms
+
 -- ---- the demand
 
 -- the log that opening leaves, and the history that calls on it tell
@@ -93,6 +100,8 @@ history w calls = told (shape w) [] (answers w calls)
 pub record Upheld (w : World) (calls : List Call) : Type 0 where
   pub replayed : (session : ℤ) (buffer : List ℕ) → length buffer ≤ 2147483647 → Holds (shape w) (partLength (length buffer)) (history w calls)
       → Replayed (left w calls) session buffer (messages (history w calls))
+  pub gives : (session : ℤ) (buffer : List ℕ) → length buffer ≤ 2147483647 → Holds (shape w) (partLength (length buffer)) (history w calls)
+      → GivesAll (left w calls) session buffer (messages (history w calls))
   pub adds-up : publisherPosition (reading (left w calls .record·)) ≡ pos (sizeAll (shape w) (history w calls))
   pub ends : Ends (shape w) [] (answers w calls)
 
