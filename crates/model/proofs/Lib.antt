@@ -6,3 +6,5 @@ pub mod Sound
 pub mod RawTail
 pub mod Cut
 pub mod Cases
+pub mod FrameLaws
+pub mod WalkLaws
