@@ -8,3 +8,4 @@ pub mod Cut
 pub mod Cases
 pub mod FrameLaws
 pub mod WalkLaws
+pub mod WalkLoop

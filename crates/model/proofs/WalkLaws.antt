@@ -58,7 +58,7 @@ laid-more slots es n a b e h =
     let l1 : length (p ++ (pos a ∷ [])) ≡ 2 * n + 1 = omega (arith, length-append p (pos a ∷ [])) in
     let s2 : p ++ (pos a ∷ (y1 ∷ rest)) ≡ (p ++ (pos a ∷ [])) ++ (y1 ∷ rest) = sym (append-assoc p (pos a ∷ []) (y1 ∷ rest)) in
     let s3 : set (set (p ++ q) (2 * n) (pos a)) (2 * n + 1) (pos b) ≡ (p ++ (pos a ∷ [])) ++ (pos b ∷ rest) =
-        ap (λ (l : List ℤ). set l (2 * n + 1) (pos b)) (s1 ∙ s2) ∙ set-at (p ++ (pos a ∷ [])) y1 rest (pos b) (2 * n + 1) l1 in
+    ap (λ (l : List ℤ). set l (2 * n + 1) (pos b)) (s1 ∙ s2) ∙ set-at (p ++ (pos a ∷ [])) y1 rest (pos b) (2 * n + 1) l1 in
     let d : suc (suc (2 * length es)) ≡ 2 * length (es ++ ((a, b) ∷ [])) = omega (arith, length-append es ((a, b) ∷ [])) in
     s3 ∙ append-assoc p (pos a ∷ []) (pos b ∷ rest) ∙ sym (append-assoc p (pos a ∷ pos b ∷ []) rest)
     ∙ ap₂ (λ (x y : List ℤ). x ++ y) (sym (numbers-more es a b)) (ap (λ (k : ℕ). drop k slots) d)
@@ -85,6 +85,13 @@ positive x h = lt-ltb 0 x h
 settled-passed : (b : Bool) (a m s x : ℕ) → ltb 0 x ≡ b → 0 < a → cond (ltb 0 (a + x)) (m + (a + x)) s ≡ cond b (m + a + x) (m + a)
 settled-passed false a m s x e h = let z : x ≡ 0 = omega (arith, ltb-false 0 x e) in rw (positive (a + x) (omega arith)) (omega arith)
 settled-passed true a m s x e h = rw (positive (a + x) (omega arith)) (omega arith)
+
+settled-none : (b : Bool) (m x : ℕ) → ltb 0 x ≡ b → m ≡ 0 → cond b (m + x) 0 ≡ x
+settled-none true m x e h = omega arith
+settled-none false m x e h = omega (arith, ltb-false 0 x e)
+
+pub joined-none : (m : ℕ) (w : Walked) → m ≡ 0 → joined [] m 0 w ≡ w
+joined-none m w h = same-walked _ _ _ _ _ _ _ _ refl (omega arith) (omega arith) (settled-none (ltb 0 (w .settled)) m (w .settled) refl h)
 
 pub joined-passed : (es : List (ℕ × ℕ)) (a m s : ℕ) (w : Walked) → 0 < a → joined es m s (passed a w) ≡ joined es (m + a) (m + a) w
 joined-passed es a m s w h = same-walked _ _ _ _ _ _ _ _ refl refl (omega arith) (settled-passed (ltb 0 (w .settled)) a m s (w .settled) refl h)
