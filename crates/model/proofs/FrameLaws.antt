@@ -4,9 +4,10 @@ use Prim.Native.Nat.{ℕ, _+_, _-_, _*_, _/_, _%_, _≤_, _<_}
 use mathlib.Core.Bool.{Bool, true, false, cond, _||_}
 use mathlib.Core.List.{List}
 use native.Mathlib.Omega.{arith}
-use borrow.Author.Tests.{ltb-true, ltb-false}
+use borrow.Author.Tests.{ltb-true, ltb-false, lt-ltb, le-ltb, eq-eqb, ne-eqb}
 use lib.Dec.{eqb, ltb}
 use lib.ListN.{drop}
+use Rattle.model.specs.declared.FrameLength.{FrameLength}
 use Rattle.model.specs.declared.FrameLength.the-variants.{Free, Writing, Finished}
 use Rattle.model.specs.declared.Frame.{Frame}
 use Rattle.model.specs.declared.Frame.the-variants.{Absent, Unsound, Padding, Data}
@@ -54,3 +55,64 @@ by-sign false true t room w x e2 e h = finished (ltb w 32) (ltb room (align w)) 
 pub lies : (s : List ℕ) (room : ℕ) (x : Frame) → frameAt s room ≡ x → isFrame x ≡ true → Lies (lengthOf x) room
 unfolding frameAt frameLength
 lies s room x e h = by-sign (eqb (u32 s) 0) (ltb (u32 s) 2147483648) (u16 (drop 6 s)) room (u32 s) x refl e h
+
+-- ---- the length word, by cases, and back
+
+pub length-free : (w : ℕ) → w ≡ 0 → Free ≡ frameLength w
+unfolding frameLength
+length-free w h = rw (eq-eqb w 0 h)
+
+pub length-writing : (w : ℕ) → 2147483648 ≤ w → Writing ≡ frameLength w
+unfolding frameLength
+length-writing w h = let n : w ≡ 0 → ⊥ = λ e. omega arith in rw (ne-eqb w 0 n, le-ltb w 2147483648 h)
+
+pub length-finished : (w : ℕ) → (w ≡ 0 → ⊥) → w < 2147483648 → Finished w ≡ frameLength w
+unfolding frameLength
+length-finished w n h = rw (ne-eqb w 0 n, lt-ltb w 2147483648 h)
+
+-- a finished length is the word, and is positive
+abbrev pub isFinished : FrameLength → Bool
+isFinished Free = false
+isFinished Writing = false
+isFinished (Finished n) = true
+
+abbrev finishedLength : FrameLength → ℕ
+finishedLength Free = 0
+finishedLength Writing = 0
+finishedLength (Finished n) = n
+
+pub finished-word : (w n : ℕ) → frameLength w ≡ Finished n → (n ≡ w) × (n < 2147483648)
+unfolding frameLength
+finished-word w n e = go (eqb w 0) (ltb w 2147483648) refl e
+  where
+    never : {A : Type 0} (x : FrameLength) → isFinished x ≡ false → x ≡ Finished n → A
+    never x f q = let t : false ≡ true = sym f ∙ ap isFinished q in absurd (let z : _≡_ {A = ℕ} 0 1 = cc in omega arith)
+    go : (b1 b2 : Bool) → ltb w 2147483648 ≡ b2 → cond b1 Free (cond b2 (Finished w) Writing) ≡ Finished n → (n ≡ w) × (n < 2147483648)
+    go true b2 e2 q = never Free refl q
+    go false false e2 q = never Writing refl q
+    go false true e2 q = let k : w ≡ n = ap finishedLength q in (sym k, omega (arith, ltb-true w 2147483648 e2))
+
+-- ---- the frame, by its length
+
+pub frame-absent : (s : List ℕ) (room : ℕ) (x : FrameLength) → frameLength (u32 s) ≡ x → isFinished x ≡ false → Absent ≡ frameAt s room
+unfolding frameAt
+frame-absent s room Free e h = sym (ap (frameBy (u16 (drop 6 s)) room) e)
+frame-absent s room Writing e h = sym (ap (frameBy (u16 (drop 6 s)) room) e)
+frame-absent s room (Finished n) e h = absurd (let t : true ≡ false = h in let z : _≡_ {A = ℕ} 0 1 = cc in omega arith)
+
+module _ (s : List ℕ) (room n : ℕ) (e : frameLength (u32 s) ≡ Finished n) where
+  by-length : frameAt s room ≡ cond (ltb n 32 || ltb room (align n)) Unsound (cond (eqb (u16 (drop 6 s)) 0) (Padding n) (Data n))
+  unfolding frameAt
+  by-length = ap (frameBy (u16 (drop 6 s)) room) e
+
+  pub frame-short : n < 32 → Unsound ≡ frameAt s room
+  frame-short h = sym (by-length ∙ rw (lt-ltb n 32 h))
+
+  pub frame-long : 32 ≤ n → room < align n → Unsound ≡ frameAt s room
+  frame-long h l = sym (by-length ∙ rw (le-ltb n 32 h, lt-ltb room (align n) l))
+
+  pub frame-padding : 32 ≤ n → align n ≤ room → u16 (drop 6 s) ≡ 0 → Padding n ≡ frameAt s room
+  frame-padding h l t = sym (by-length ∙ rw (le-ltb n 32 h, le-ltb room (align n) l, eq-eqb (u16 (drop 6 s)) 0 t))
+
+  pub frame-data : 32 ≤ n → align n ≤ room → (u16 (drop 6 s) ≡ 0 → ⊥) → Data n ≡ frameAt s room
+  frame-data h l t = sym (by-length ∙ rw (le-ltb n 32 h, le-ltb room (align n) l, ne-eqb (u16 (drop 6 s)) 0 t))

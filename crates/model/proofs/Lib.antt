@@ -9,3 +9,4 @@ pub mod Cases
 pub mod FrameLaws
 pub mod WalkLaws
 pub mod WalkLoop
+pub mod ReaderLaws

@@ -1,6 +1,6 @@
 -- A loop over frames against the definition of the walk: `Going` is what it keeps, with the fuel and the entries hidden; one law for each
 -- way that a turn goes, and one for each way out.
-use mathlib.Core.Path.{_≡_, refl, sym, ap, ap₂, _∙_}
+use mathlib.Core.Path.{_≡_, refl, sym, ap, ap₂, _∙_, subst}
 use mathlib.Core.Logic.{_⊎_, inl, inr, ⊎-elim}
 use Prim.Native.Nat.{ℕ, zero, suc, _+_, _-_, _*_, _/_, _%_, _≤_, _<_}
 use mathlib.Core.Bool.{Bool, true, false, cond, _&&_}
@@ -292,3 +292,33 @@ module _ (log : List ℕ) (base term end at limit : ℕ) (acts : List ℕ) (slot
     pub aborted : (action : ℕ) → action ≡ nextAction (drop count acts) → action ≡ 1
         → Came log base term end at limit acts slots (entered out count offset n) (walkBy (count + 1) count (offset - at) settled)
     aborted action ea b = aborted-from (g .fuel) action refl ea b
+
+    -- ---- the same with the numbers as a loop has them: the entry's two, whether the frame ends a message, the bytes settled then
+
+    module _ (whole' : Bool) (settled' : ℕ) (a b : ℤ) (ew : whole' ≡ complete) (es : settled' ≡ cond whole' (offset + align n - at) settled) (pa : a ≡ pos (offset + 32)) (pb : b ≡ pos (n - 32)) where
+      same-settled : cond complete (offset + align n - at) settled ≡ settled'
+      same-settled = ap (λ (t : Bool). cond t (offset + align n - at) settled) (sym ew) ∙ sym es
+
+      same-entered : entered out count offset n ≡ set (set out (2 * count) a) (2 * count + 1) b
+      same-entered = ap₂ (λ (x y : ℤ). set (set out (2 * count) x) (2 * count + 1) y) (sym pa) (sym pb)
+
+      pub turn-on : (action : ℕ) → action ≡ nextAction (drop count acts) → (action ≡ 1 → ⊥) → (action ≡ 2 → ⊥)
+          → Going log base term end at limit acts slots (set (set out (2 * count) a) (2 * count + 1) b) (offset + align n) settled' (count + 1)
+      turn-on action ea n1 n2 =
+          subst (λ (s : ℕ). Going log base term end at limit acts slots (set (set out (2 * count) a) (2 * count + 1) b) (offset + align n) s (count + 1)) same-settled
+          (subst (λ (o : List ℤ). Going log base term end at limit acts slots o (offset + align n) (cond complete (offset + align n - at) settled) (count + 1)) same-entered
+          (goes-on action ea n1 n2))
+
+      pub turn-broken : (action : ℕ) → action ≡ nextAction (drop count acts) → action ≡ 2
+          → Came log base term end at limit acts slots (set (set out (2 * count) a) (2 * count + 1) b) (walkBy (count + 1) (count + 1) (offset + align n - at) settled')
+      turn-broken action ea k =
+          subst (λ (s : ℕ). Came log base term end at limit acts slots (set (set out (2 * count) a) (2 * count + 1) b) (walkBy (count + 1) (count + 1) (offset + align n - at) s)) same-settled
+          (subst (λ (o : List ℤ). Came log base term end at limit acts slots o (walkBy (count + 1) (count + 1) (offset + align n - at) (cond complete (offset + align n - at) settled))) same-entered
+          (broken action ea k))
+
+    pub turn-aborted : (a b : ℤ) → a ≡ pos (offset + 32) → b ≡ pos (n - 32) → (action moved : ℕ) → action ≡ nextAction (drop count acts) → action ≡ 1 → moved ≡ offset - at
+        → Came log base term end at limit acts slots (set (set out (2 * count) a) (2 * count + 1) b) (walkBy (count + 1) count moved settled)
+    turn-aborted a b pa pb action moved ea k em =
+        let q : entered out count offset n ≡ set (set out (2 * count) a) (2 * count + 1) b = ap₂ (λ (x y : ℤ). set (set out (2 * count) x) (2 * count + 1) y) (sym pa) (sym pb) in
+        subst (λ (m : ℕ). Came log base term end at limit acts slots (set (set out (2 * count) a) (2 * count + 1) b) (walkBy (count + 1) count m settled)) (sym em)
+        (subst (λ (o : List ℤ). Came log base term end at limit acts slots o (walkBy (count + 1) count (offset - at) settled)) q (aborted action ea k))
