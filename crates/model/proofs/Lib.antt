@@ -3,6 +3,8 @@ pub mod Splice
 pub mod Fields
 pub mod Power
 pub mod Sound
+pub mod SoundRecord
 pub mod RawTail
+pub mod Rotate
 pub mod Cut
 pub mod Cases
