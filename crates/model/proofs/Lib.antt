@@ -3,7 +3,9 @@ pub mod Splice
 pub mod Fields
 pub mod Power
 pub mod Sound
+pub mod SoundRecord
 pub mod RawTail
+pub mod Rotate
 pub mod Cut
 pub mod Cases
 pub mod FrameLaws

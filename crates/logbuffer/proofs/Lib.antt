@@ -1,0 +1,5 @@
+-- Laws that the functions' proofs share.
+pub mod Signed
+pub mod Bytes
+pub mod RawTails
+pub mod Exact
