@@ -3,3 +3,6 @@ pub mod Signed
 pub mod Bytes
 pub mod RawTails
 pub mod Exact
+pub mod Signs
+pub mod Behind
+pub mod Actions

@@ -1,5 +1,8 @@
 // The leaf library: the log's frames, read and written over a log that is lent. A file for each file of the Rust.
+mod argument;
 pub mod bit_utils;
 mod cast;
 mod field;
+pub mod frame_descriptor;
 pub mod log_buffer_descriptor;
+pub mod term_reader;

@@ -87,6 +87,7 @@ finished-word w n e = go (eqb w 0) (ltb w 2147483648) refl e
   where
     never : {A : Type 0} (x : FrameLength) → isFinished x ≡ false → x ≡ Finished n → A
     never x f q = let t : false ≡ true = sym f ∙ ap isFinished q in absurd (let z : _≡_ {A = ℕ} 0 1 = cc in omega arith)
+
     go : (b1 b2 : Bool) → ltb w 2147483648 ≡ b2 → cond b1 Free (cond b2 (Finished w) Writing) ≡ Finished n → (n ≡ w) × (n < 2147483648)
     go true b2 e2 q = never Free refl q
     go false false e2 q = never Writing refl q

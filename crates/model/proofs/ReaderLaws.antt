@@ -78,14 +78,16 @@ module _ (log : List ℕ) (base term end at limit : ℕ) (acts : List ℕ) (slot
   pub frames-came : (out : List ℤ) (e f m moved s : ℕ) → Came log base term end at limit acts slots out (walkBy e f m s) → moved ≡ m
       → (AllWalked (walkBy e f moved s) ≡ framesBy (walk term log base term end at limit acts) (cond (firstUnsound log base term end at limit) (Refuse UnsoundFrame) Pass))
       × (out ≡ entriesBy slots (walk term log base term end at limit acts) (cond (firstUnsound log base term end at limit) (Refuse UnsoundFrame) Pass))
-  frames-came out e f m moved s k q =
-      (ap (λ (x : ℕ). AllWalked (walkBy e f x s)) q ∙ ap AllWalked (k .numbers)
-      ∙ ap (λ (t : Bool). framesBy (walk term log base term end at limit acts) (cond t (Refuse UnsoundFrame) Pass)) (sym (k .first)),
-      k .written ∙ ap (λ (t : Bool). entriesBy slots (walk term log base term end at limit acts) (cond t (Refuse UnsoundFrame) Pass)) (sym (k .first)))
+  frames-came out e f m moved s k q = (
+    ap (λ (x : ℕ). AllWalked (walkBy e f x s)) q ∙ ap AllWalked (k .numbers)
+        ∙ ap (λ (t : Bool). framesBy (walk term log base term end at limit acts) (cond t (Refuse UnsoundFrame) Pass)) (sym (k .first)),
+    k .written ∙ ap (λ (t : Bool). entriesBy slots (walk term log base term end at limit acts) (cond t (Refuse UnsoundFrame) Pass)) (sym (k .first)),
+  )
 
   pub frames-first : (out : List ℤ) → (firstUnsound log base term end at limit ≡ true) × (out ≡ slots)
       → (WalkRefused UnsoundFrame ≡ framesBy (walk term log base term end at limit acts) (cond (firstUnsound log base term end at limit) (Refuse UnsoundFrame) Pass))
       × (out ≡ entriesBy slots (walk term log base term end at limit acts) (cond (firstUnsound log base term end at limit) (Refuse UnsoundFrame) Pass))
-  frames-first out h =
-      (ap (λ (t : Bool). framesBy (walk term log base term end at limit acts) (cond t (Refuse UnsoundFrame) Pass)) (sym (h .0)),
-      h .1 ∙ ap (λ (t : Bool). entriesBy slots (walk term log base term end at limit acts) (cond t (Refuse UnsoundFrame) Pass)) (sym (h .0)))
+  frames-first out h = (
+    ap (λ (t : Bool). framesBy (walk term log base term end at limit acts) (cond t (Refuse UnsoundFrame) Pass)) (sym (h .0)),
+    h .1 ∙ ap (λ (t : Bool). entriesBy slots (walk term log base term end at limit acts) (cond t (Refuse UnsoundFrame) Pass)) (sym (h .0)),
+  )

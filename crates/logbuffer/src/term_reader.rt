@@ -1,0 +1,161 @@
+// Reading a term: the walk over frames that every poll takes, `read`, and views of bodies and blocks.
+ghost use mathlib.Core.Path.{_≡_};
+ghost use mathlib.Core.Bool.{cond};
+ghost use Prim.Native.Nat.{_+_, _*_, _≤_, _<_};
+ghost use lib.ListN.{length, drop};
+ghost use Rattle.model.specs.declared.Error.the-variants.{UnsoundFrame};
+ghost use Rattle.model.specs.declared.Verdict.the-variants.{Pass, Refuse};
+ghost use Rattle.model.specs.TermReader.{nextAction, walk, firstUnsound, goodWalk, entriesBy, framesBy, framesOf, framesEntries};
+use crate::frame_descriptor;
+use model::Error;
+use model::Frame;
+use model::FramesRead;
+use model::Walk;
+
+// The handler's answer to the fragment after `passed` others; 4, continue, where none is given.
+fn action_of(actions: &[u8], passed: usize) -> usize
+    ensures { λ r. ⌜ r ≡ nextAction (drop passed (now (actions .entry))) ⌝ }
+{
+    if passed < actions.len() {
+        actions[passed] as usize
+    } else {
+        4
+    }
+}
+
+// The bytes up to the last whole message or padding, after one more fragment.
+fn last_settled(whole: bool, moved: usize, settled: usize) -> usize
+    ensures { λ r. ⌜ r ≡ cond whole moved settled ⌝ }
+{
+    if whole { moved } else { settled }
+}
+
+// Row 1 of a walk.
+fn good_walk(
+    n: usize,
+    base: usize,
+    term: usize,
+    end: usize,
+    at: usize,
+    limit: usize,
+    slots: usize,
+) -> bool
+    ensures { λ r. ⌜ r ≡ goodWalk n base term end at limit slots ⌝ }
+{
+    if base > n {
+        return false;
+    }
+    if term > n - base {
+        return false;
+    }
+    if term > 1073741824 {
+        return false;
+    }
+    if term % 32 != 0 {
+        return false;
+    }
+    if end > term {
+        return false;
+    }
+    if at % 32 != 0 {
+        return false;
+    }
+    if slots > 2147483647 {
+        return false;
+    }
+    limit <= slots / 2
+}
+
+// The walk itself, its arguments judged. Each frame is looked at once; it is left at a free place, an unsound frame, the end or the limit.
+fn walk_frames(
+    log: &[u8],
+    base: usize,
+    term: usize,
+    end: usize,
+    at: usize,
+    limit: usize,
+    actions: &[u8],
+    entries: &mut [i32],
+) -> FramesRead
+    requires { ⌜ (base + term ≤ length (now log)) × ((term ≤ 1073741824) × ((end ≤ term) × (2 * limit ≤ length (now entries)))) ⌝ }
+    ensures { λ r. ⌜ r ≡ framesBy (walk term (now (log .entry)) base term end at limit (now (actions .entry))) (cond (firstUnsound (now (log .entry)) base term end at limit) (Refuse UnsoundFrame) Pass) ⌝ }
+    ensures { λ _. ⌜ now (entries .exit) ≡ entriesBy (now (entries .entry)) (walk term (now (log .entry)) base term end at limit (now (actions .entry))) (cond (firstUnsound (now (log .entry)) base term end at limit) (Refuse UnsoundFrame) Pass) ⌝ }
+{
+    let mut offset = at;
+    let mut moved: usize = 0;
+    let mut settled: usize = 0;
+    let mut count: usize = 0;
+    loop {
+        if limit <= count {
+            break;
+        }
+        if end <= offset {
+            break;
+        }
+        match frame_descriptor::frame_at(log, base + offset, term - offset) {
+            Frame::Absent => {
+                break;
+            }
+            Frame::Unsound => {
+                if offset == at {
+                    return FramesRead::Refused(Error::UnsoundFrame);
+                }
+                break;
+            }
+            Frame::Padding(n) => {
+                offset = offset + (n + 31) / 32 * 32;
+                moved = offset - at;
+                settled = moved;
+            }
+            Frame::Data(n) => {
+                let action = action_of(actions, count);
+                let whole = frame_descriptor::ends_message(log, base + offset);
+                let p = 2 * count;
+                entries[p] = (offset + 32) as i32;
+                entries[p + 1] = (n - 32) as i32;
+                if action == 1 {
+                    return FramesRead::Walked(Walk {
+                        entries: count + 1,
+                        fragments: count,
+                        moved: moved,
+                        settled: settled,
+                    });
+                }
+                offset = offset + (n + 31) / 32 * 32;
+                moved = offset - at;
+                settled = last_settled(whole, moved, settled);
+                count = count + 1;
+                if action == 2 {
+                    break;
+                }
+            }
+        }
+    }
+    FramesRead::Walked(Walk {
+        entries: count,
+        fragments: count,
+        moved: moved,
+        settled: settled,
+    })
+}
+
+// A walk over frames for any numbers: log, where the term starts, its length, the end, the offset, the fragment limit, the handler's
+// answers, and the lent entries, two numbers each. 1 where the numbers do not fit each other, 17 where the first frame is unsound.
+pub fn read_frames(
+    log: &[u8],
+    base: usize,
+    term: usize,
+    end: usize,
+    at: usize,
+    limit: usize,
+    actions: &[u8],
+    entries: &mut [i32],
+) -> FramesRead
+    ensures { λ r. ⌜ r ≡ framesOf (now (log .entry)) base term end at limit (now (actions .entry)) (now (entries .entry)) ⌝ }
+    ensures { λ _. ⌜ now (entries .exit) ≡ framesEntries (now (log .entry)) base term end at limit (now (actions .entry)) (now (entries .entry)) ⌝ }
+{
+    if !good_walk(log.len(), base, term, end, at, limit, entries.len()) {
+        return FramesRead::Refused(Error::IllegalArgument);
+    }
+    walk_frames(log, base, term, end, at, limit, actions, entries)
+}
