@@ -1,15 +1,22 @@
 // Reading a term: the walk over frames that every poll takes, `read`, and views of bodies and blocks.
 ghost use mathlib.Core.Path.{_≡_};
-ghost use mathlib.Core.Bool.{cond};
+ghost use mathlib.Core.Bool.{cond, _&&_};
 ghost use Prim.Native.Nat.{_+_, _*_, _≤_, _<_};
 ghost use lib.ListN.{length, drop};
 ghost use Rattle.model.specs.declared.Error.the-variants.{UnsoundFrame};
 ghost use Rattle.model.specs.declared.Verdict.the-variants.{Pass, Refuse};
-ghost use Rattle.model.specs.TermReader.{nextAction, walk, firstUnsound, goodWalk, entriesBy, framesBy, framesOf, framesEntries};
+ghost use Rattle.model.specs.LogBufferDescriptor.{goodPartition, goodOffset};
+ghost use Rattle.model.specs.TermReader.{nextAction, walk, firstUnsound, goodWalk, goodEntries, entriesBy, framesBy, framesOf, framesEntries, readOf, readEntries};
+use crate::argument;
+use crate::cast;
 use crate::frame_descriptor;
+use crate::log_buffer_descriptor;
 use model::Error;
 use model::Frame;
 use model::FramesRead;
+use model::LogRecord;
+use model::Reading;
+use model::TermRead;
 use model::Walk;
 
 // The handler's answer to the fragment after `passed` others; 4, continue, where none is given.
@@ -158,4 +165,56 @@ pub fn read_frames(
         return FramesRead::Refused(Error::IllegalArgument);
     }
     walk_frames(log, base, term, end, at, limit, actions, entries)
+}
+
+// Row 1 of `read`.
+fn good_read(v: Reading, k: usize, at: usize, limit: usize, slots: usize) -> bool
+    requires { ⌜ at < 4294967296 ⌝ }
+    ensures { λ r. ⌜ r ≡ (goodPartition k && (goodOffset at v && goodEntries slots limit)) ⌝ }
+{
+    if !argument::good_place(k, at, v) {
+        return false;
+    }
+    if slots > 2147483647 {
+        return false;
+    }
+    limit <= slots / 2
+}
+
+// Reads frames of a term from an offset on, at most `limit` fragments, and lays the offset and length of each body into `entries`.
+pub fn read(
+    rec: LogRecord,
+    log: &[u8],
+    partition: i32,
+    offset: i32,
+    limit: i32,
+    entries: &mut [i32],
+) -> TermRead
+    ensures { λ r. ⌜ r ≡ readOf rec (now (log .entry)) partition offset limit (now (entries .entry)) ⌝ }
+    ensures { λ _. ⌜ now (entries .exit) ≡ readEntries rec (now (log .entry)) partition offset limit (now (entries .entry)) ⌝ }
+{
+    let v = argument::read_active(rec);
+    let k = cast::word(partition);
+    let at = cast::word(offset);
+    let most = argument::natural(limit);
+    if !good_read(v, k, at, most, entries.len()) {
+        return TermRead::Refused(Error::IllegalArgument);
+    }
+    if !log_buffer_descriptor::is_sound(v, log.len()) {
+        return TermRead::Refused(Error::IllegalRecord);
+    }
+    let term = v.term;
+    let FramesRead::Walked(walked) = read_frames(
+        log,
+        k * term,
+        term,
+        term,
+        at,
+        most,
+        &log[0..0],
+        entries,
+    ) else {
+        return TermRead::Refused(Error::UnsoundFrame);
+    };
+    TermRead::Outcome(at + walked.moved, walked.fragments)
 }

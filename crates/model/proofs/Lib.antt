@@ -12,3 +12,5 @@ pub mod FrameLaws
 pub mod WalkLaws
 pub mod WalkLoop
 pub mod ReaderLaws
+pub mod PlaceLaws
+pub mod ReadLaws

@@ -19,6 +19,20 @@ pub and-true : (a b : Bool) → (a && b) ≡ true → (a ≡ true) × (b ≡ tru
 and-true true b h = (refl, h)
 and-true false b h = absurd (let x : _≡_ {A = ℕ} 0 1 = cc in omega arith)
 
+-- two tests and a third
+pub and-not : (a b c : Bool) → (a && b) ≡ false → false ≡ (a && (b && c))
+and-not true true c h = absurd (let x : _≡_ {A = ℕ} 0 1 = cc in omega arith)
+and-not true false c h = refl
+and-not false b c h = refl
+
+pub and-then : (a b c : Bool) → (a && b) ≡ true → c ≡ (a && (b && c))
+and-then true true c h = refl
+and-then true false c h = absurd (let x : _≡_ {A = ℕ} 0 1 = cc in omega arith)
+and-then false b c h = absurd (let x : _≡_ {A = ℕ} 0 1 = cc in omega arith)
+
+pub and-both : (a b : Bool) → a ≡ true → b ≡ true → (a && b) ≡ true
+and-both a b e f = cc
+
 -- what no fact allows is false
 pub never : (b : Bool) → (b ≡ true → ⊥) → false ≡ b
 never false h = refl
