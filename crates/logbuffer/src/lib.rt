@@ -6,3 +6,4 @@ mod field;
 pub mod frame_descriptor;
 pub mod log_buffer_descriptor;
 pub mod term_reader;
+pub mod term_scan;

@@ -14,3 +14,5 @@ pub mod WalkLoop
 pub mod ReaderLaws
 pub mod PlaceLaws
 pub mod ReadLaws
+pub mod ScanLaws
+pub mod ScanRows

@@ -74,7 +74,7 @@ abbrev pub readFrom : ℕ → FramesRead → TermRead
 readFrom at (AllWalked w) = Outcome (at + w .moved) (w .fragments)
 readFrom at (WalkRefused e) = Refused e
 
-and-and : (a b c : Bool) → (a && (b && c)) ≡ true → ((a && b) ≡ true) × (c ≡ true)
+pub and-and : (a b c : Bool) → (a && (b && c)) ≡ true → ((a && b) ≡ true) × (c ≡ true)
 and-and a b c h = let p = and-true a (b && c) h in let q = and-true b c (p .1) in (ap₂ (λ (x y : Bool). x && y) (p .0) (q .0), q .1)
 
 pub read-placed : (v : Reading) (n k at limit slots : ℕ) → goodRead v k at limit slots ≡ true → sound v n ≡ true → Placed v n k at
