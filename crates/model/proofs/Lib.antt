@@ -15,4 +15,6 @@ pub mod ReaderLaws
 pub mod PlaceLaws
 pub mod ReadLaws
 pub mod ScanLaws
+pub mod GapLaws
+pub mod AvailableLaws
 pub mod ScanRows

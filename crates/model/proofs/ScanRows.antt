@@ -21,6 +21,7 @@ use Rattle.model.specs.Bytes.{word}
 use Rattle.model.specs.FrameDescriptor.{frameAt, isUnsound}
 use Rattle.model.specs.LogBufferDescriptor.{reading, sound, goodPartition, goodOffset, withinTerm}
 use Rattle.model.specs.TermReader.{natural}
+use Rattle.model.proofs.GapLaws.{gapFound}
 use Rattle.model.specs.TermScan.{scanVerdict, scanFrom, scanJudge, scanBy, scanOf, Rebuilt, rebuild, gapLength, gapJudge, gapBy, gapOf, Available, availableFrom, availabilityJudge, availabilityBy, availabilityOf}
 
 -- the ladder
@@ -63,3 +64,55 @@ module _ (r : LogRecord) (log : List ℕ) (partition offset : ℤ) (v : Reading)
     pub scan-goes : goodScan ≡ true → sound v (length log) ≡ true
         → scanBy (scanFrom (v .term) log (k * v .term) (v .term) most true at) (cond (ltb at most && unsoundAt log v k at) (Refuse UnsoundFrame) Pass) ≡ scanOf r log partition offset limit
     scan-goes h s = ap (scanBy (scanFrom (v .term) log (k * v .term) (v .term) most true at)) (passed goodScan (sound v (length log)) (ltb at most && unsoundAt log v k at) h s) ∙ as-scan
+
+  -- ---- scan_for_gap
+
+  module _ (id high : ℤ) (mark : ℕ) (em : mark ≡ word high) where
+    abbrev goodGap : Bool
+    goodGap = goodPartition k && (goodOffset at v && (eqb (mark % 32) 0 && withinTerm mark v))
+
+    as-gap : gapBy (gapFound id log (k * v .term) (v .term) mark (rebuild (v .term) log (k * v .term) (v .term) mark at)) (scanVerdict goodGap (sound v (length log)) (unsoundAt log v k at))
+        ≡ gapOf r log partition id offset high
+    unfolding gapOf gapJudge
+    as-gap =
+        let f : Reading → ℕ → ℕ → ℕ → GapScanned = λ (x : Reading) (j o m : ℕ). gapBy (gapFound id log (j * x .term) (x .term) m (rebuild (x .term) log (j * x .term) (x .term) m o))
+            (scanVerdict (goodPartition j && (goodOffset o x && (eqb (m % 32) 0 && withinTerm m x))) (sound x (length log)) (unsoundAt log x j o)) in
+        cc
+
+    pub gap-argument : goodGap ≡ false → GapRefused IllegalArgument ≡ gapOf r log partition id offset high
+    gap-argument h = sym (ap (gapBy _) (argument goodGap _ _ h)) ∙ as-gap
+
+    pub gap-record : goodGap ≡ true → sound v (length log) ≡ false → GapRefused IllegalRecord ≡ gapOf r log partition id offset high
+    gap-record h s = sym (ap (gapBy _) (unsound-record goodGap _ _ h s)) ∙ as-gap
+
+    pub gap-goes : goodGap ≡ true → sound v (length log) ≡ true
+        → gapBy (gapFound id log (k * v .term) (v .term) mark (rebuild (v .term) log (k * v .term) (v .term) mark at)) (cond (unsoundAt log v k at) (Refuse UnsoundFrame) Pass)
+        ≡ gapOf r log partition id offset high
+    gap-goes h s =
+        ap (gapBy (gapFound id log (k * v .term) (v .term) mark (rebuild (v .term) log (k * v .term) (v .term) mark at))) (passed goodGap (sound v (length log)) (unsoundAt log v k at) h s) ∙ as-gap
+
+  -- ---- scan_for_availability
+
+  module _ (maximum : ℤ) (most : ℕ) (em : most ≡ min (natural maximum) (v .term - at)) where
+    abbrev goodAvailability : Bool
+    goodAvailability = goodPartition k && goodOffset at v
+
+    abbrev reached : Available
+    reached = availableFrom (v .term) log (k * v .term) (v .term) at most 0 0
+
+    as-available : availabilityBy reached (scanVerdict goodAvailability (sound v (length log)) (unsoundAt log v k at)) ≡ availabilityOf r log partition offset maximum
+    unfolding availabilityOf availabilityJudge
+    as-available =
+        let f : Reading → ℕ → ℕ → ℕ → AvailabilityScanned = λ (x : Reading) (j o m : ℕ). availabilityBy (availableFrom (x .term) log (j * x .term) (x .term) o m 0 0)
+            (scanVerdict (goodPartition j && goodOffset o x) (sound x (length log)) (unsoundAt log x j o)) in
+        cc
+
+    pub available-argument : goodAvailability ≡ false → AvailabilityRefused IllegalArgument ≡ availabilityOf r log partition offset maximum
+    available-argument h = sym (ap (availabilityBy _) (argument goodAvailability _ _ h)) ∙ as-available
+
+    pub available-record : goodAvailability ≡ true → sound v (length log) ≡ false → AvailabilityRefused IllegalRecord ≡ availabilityOf r log partition offset maximum
+    available-record h s = sym (ap (availabilityBy _) (unsound-record goodAvailability _ _ h s)) ∙ as-available
+
+    pub available-goes : goodAvailability ≡ true → sound v (length log) ≡ true
+        → availabilityBy reached (cond (unsoundAt log v k at) (Refuse UnsoundFrame) Pass) ≡ availabilityOf r log partition offset maximum
+    available-goes h s = ap (availabilityBy reached) (passed goodAvailability (sound v (length log)) (unsoundAt log v k at) h s) ∙ as-available
