@@ -3,3 +3,5 @@ pub mod Signed
 pub mod Bytes
 pub mod RawTails
 pub mod Exact
+pub mod Copies
+pub mod Headers
