@@ -6,3 +6,5 @@ pub mod Exact
 pub mod Signs
 pub mod Behind
 pub mod Actions
+pub mod Copies
+pub mod Headers

@@ -2,8 +2,10 @@
 mod argument;
 pub mod bit_utils;
 mod cast;
+mod copying;
 mod field;
 pub mod frame_descriptor;
+mod header;
 pub mod log_buffer_descriptor;
 pub mod term_reader;
 pub mod term_scan;
