@@ -87,7 +87,7 @@ module _ (log : List ℕ) (base term high at : ℕ) where
 abbrev pub gapFound : ℤ → List ℕ → ℕ → ℕ → ℕ → Rebuilt → GapScanned
 gapFound id log base term high w = cond (w .stopped || leb high (w .at)) (NoGap (w .at)) (Gap id (w .at) (gapLength term log base high (w .at)))
 
-module _ (id : ℤ) (log : List ℕ) (base term high at : ℕ) where
+module _ (log : List ℕ) (base term high at : ℕ) where
   abbrev seen : ℕ → Frame
   seen offset = frameAt (drop (base + offset) log) (term - offset)
 
@@ -95,8 +95,8 @@ module _ (id : ℤ) (log : List ℕ) (base term high at : ℕ) where
   abbrev first : Bool
   first = isUnsound (seen at)
 
-  abbrev answer : GapScanned
-  answer = gapBy (gapFound id log base term high (rebuild term log base term high at)) (cond first (Refuse UnsoundFrame) Pass)
+  abbrev answer : ℤ → GapScanned
+  answer id = gapBy (gapFound id log base term high (rebuild term log base term high at)) (cond first (Refuse UnsoundFrame) Pass)
 
   pub record Rebuilding (offset : ℕ) : Type 0 where
     pub fuel : ℕ
@@ -115,8 +115,8 @@ module _ (id : ℤ) (log : List ℕ) (base term high at : ℕ) where
   first-seen offset x (inl p) e h = ap (λ (o : ℕ). isUnsound (seen o)) (sym p) ∙ ap isUnsound e ∙ h
 
   -- it comes to w, and the first frame was not unsound
-  comes : (w : Rebuilt) → rebuild term log base term high at ≡ w → first ≡ false → gapFound id log base term high w ≡ answer
-  comes w e f =
+  comes : (id : ℤ) (w : Rebuilt) → rebuild term log base term high at ≡ w → first ≡ false → gapFound id log base term high w ≡ answer id
+  comes id w e f =
       ap (gapFound id log base term high) (sym e) ∙ ap (λ (b : Bool). gapBy (gapFound id log base term high (rebuild term log base term high at)) (cond b (Refuse UnsoundFrame) Pass)) (sym f)
 
   -- one frame, with fuel for it
@@ -130,26 +130,26 @@ module _ (id : ℤ) (log : List ℕ) (base term high at : ℕ) where
       ∙ ap (λ (y : ℕ). gapOver x offset high (λ a. rebuild y log base term high a)) (sym q)
 
   -- a free place, at or past the mark, or before it
-  pub gap-none : (offset : ℕ) → Rebuilding offset → seen offset ≡ Absent → high ≤ offset → NoGap offset ≡ answer
-  gap-none offset g e h =
+  pub gap-none : (id : ℤ) (offset : ℕ) → Rebuilding offset → seen offset ≡ Absent → high ≤ offset → NoGap offset ≡ answer id
+  gap-none id offset g e h =
       let w : Rebuilt = record { at = offset; stopped = false } in
       let q : NoGap offset ≡ gapFound id log base term high w = rw (le-leb high offset h) in
-      q ∙ comes w (turn (g .fuel) offset g Absent refl e) (first-seen offset Absent (g .begun) e refl)
+      q ∙ comes id w (turn (g .fuel) offset g Absent refl e) (first-seen offset Absent (g .begun) e refl)
 
-  pub gap-here : (offset : ℕ) → Rebuilding offset → seen offset ≡ Absent → offset < high → Gap id offset (gapLength term log base high offset) ≡ answer
-  gap-here offset g e h =
+  pub gap-here : (id : ℤ) (offset : ℕ) → Rebuilding offset → seen offset ≡ Absent → offset < high → Gap id offset (gapLength term log base high offset) ≡ answer id
+  gap-here id offset g e h =
       let w : Rebuilt = record { at = offset; stopped = false } in
       let q : Gap id offset (gapLength term log base high offset) ≡ gapFound id log base term high w = rw (lt-leb high offset h) in
-      q ∙ comes w (turn (g .fuel) offset g Absent refl e) (first-seen offset Absent (g .begun) e refl)
+      q ∙ comes id w (turn (g .fuel) offset g Absent refl e) (first-seen offset Absent (g .begun) e refl)
 
   -- an unsound frame, later or first
-  pub gap-unsound : (offset : ℕ) → Rebuilding offset → seen offset ≡ Unsound → (offset ≡ at → ⊥) → NoGap offset ≡ answer
-  gap-unsound offset g e n =
-      comes (record { at = offset; stopped = true }) (turn (g .fuel) offset g Unsound refl e)
+  pub gap-unsound : (id : ℤ) (offset : ℕ) → Rebuilding offset → seen offset ≡ Unsound → (offset ≡ at → ⊥) → NoGap offset ≡ answer id
+  gap-unsound id offset g e n =
+      comes id (record { at = offset; stopped = true }) (turn (g .fuel) offset g Unsound refl e)
       (⊎-elim (λ (p : offset ≡ at). absurd (n p)) (λ (f : first ≡ false). f) (g .begun))
 
-  pub gap-first : (offset : ℕ) → offset ≡ at → seen offset ≡ Unsound → Refused UnsoundFrame ≡ answer
-  gap-first offset p e =
+  pub gap-first : (id : ℤ) (offset : ℕ) → offset ≡ at → seen offset ≡ Unsound → Refused UnsoundFrame ≡ answer id
+  gap-first id offset p e =
       let f : first ≡ true = ap isUnsound (ap seen (sym p) ∙ e) in
       sym (ap (λ (b : Bool). gapBy (gapFound id log base term high (rebuild term log base term high at)) (cond b (Refuse UnsoundFrame) Pass)) f)
 
@@ -167,13 +167,13 @@ module _ (id : ℤ) (log : List ℕ) (base term high at : ℕ) where
   not-unsound (Data n) h = refl
 
   -- a frame that ends at or past the mark
-  pub gap-past : (offset n : ℕ) (x : Frame) → Rebuilding offset → seen offset ≡ x → isFrame x ≡ true → lengthOf x ≡ n → high ≤ offset + align n → NoGap (offset + align n) ≡ answer
-  gap-past offset n x g e f el h =
+  pub gap-past : (id : ℤ) (offset n : ℕ) (x : Frame) → Rebuilding offset → seen offset ≡ x → isFrame x ≡ true → lengthOf x ≡ n → high ≤ offset + align n → NoGap (offset + align n) ≡ answer id
+  gap-past id offset n x g e f el h =
       let w : Rebuilt = record { at = offset + align n; stopped = false } in
       let q : NoGap (offset + align n) ≡ gapFound id log base term high w = rw (le-leb high (offset + align n) h) in
       let t : cond (leb high (offset + align n)) w (rebuild (g .fuel - 1) log base term high (offset + align n)) ≡ w = rw (le-leb high (offset + align n) h) in
       q
-      ∙ comes w
+      ∙ comes id w
       (turn (g .fuel) offset g x refl e ∙ over-frame x offset _ f
       ∙ ap (λ (m : ℕ). cond (leb high (offset + align m)) (record { at = offset + align m; stopped = false }) (rebuild (g .fuel - 1) log base term high (offset + align m))) el ∙ t)
       (first-seen offset x (g .begun) e (not-unsound x f))
@@ -183,7 +183,7 @@ module _ (id : ℤ) (log : List ℕ) (base term high at : ℕ) where
   gap-on offset n x g e f el k h =
       let z : Lies (lengthOf x) (term - offset) = lies (drop (base + offset) log) (term - offset) x e f in
       let t : cond (leb high (offset + align n)) (record { at = offset + align n; stopped = false }) (rebuild (g .fuel - 1) log base term high (offset + align n))
-          ≡ rebuild (g .fuel - 1) log base term high (offset + align n) = rw (lt-leb high (offset + align n) h) in
+      ≡ rebuild (g .fuel - 1) log base term high (offset + align n) = rw (lt-leb high (offset + align n) h) in
       record {
         fuel = g .fuel - 1;
         enough = omega (arith, g .enough, g .inside, z .header, el);
@@ -191,7 +191,7 @@ module _ (id : ℤ) (log : List ℕ) (base term high at : ℕ) where
         inside = omega arith;
         aligned = omega (arith, g .aligned);
         same =
-          turn (g .fuel) offset g x refl e ∙ over-frame x offset _ f
-          ∙ ap (λ (m : ℕ). cond (leb high (offset + align m)) (record { at = offset + align m; stopped = false }) (rebuild (g .fuel - 1) log base term high (offset + align m))) el ∙ t;
+            turn (g .fuel) offset g x refl e ∙ over-frame x offset _ f
+            ∙ ap (λ (m : ℕ). cond (leb high (offset + align m)) (record { at = offset + align m; stopped = false }) (rebuild (g .fuel - 1) log base term high (offset + align m))) el ∙ t;
         begun = inr (first-seen offset x (g .begun) e (not-unsound x f));
       }

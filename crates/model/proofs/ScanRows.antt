@@ -76,7 +76,7 @@ module _ (r : LogRecord) (log : List ℕ) (partition offset : ℤ) (v : Reading)
     unfolding gapOf gapJudge
     as-gap =
         let f : Reading → ℕ → ℕ → ℕ → GapScanned = λ (x : Reading) (j o m : ℕ). gapBy (gapFound id log (j * x .term) (x .term) m (rebuild (x .term) log (j * x .term) (x .term) m o))
-            (scanVerdict (goodPartition j && (goodOffset o x && (eqb (m % 32) 0 && withinTerm m x))) (sound x (length log)) (unsoundAt log x j o)) in
+        (scanVerdict (goodPartition j && (goodOffset o x && (eqb (m % 32) 0 && withinTerm m x))) (sound x (length log)) (unsoundAt log x j o)) in
         cc
 
     pub gap-argument : goodGap ≡ false → GapRefused IllegalArgument ≡ gapOf r log partition id offset high
@@ -104,7 +104,7 @@ module _ (r : LogRecord) (log : List ℕ) (partition offset : ℤ) (v : Reading)
     unfolding availabilityOf availabilityJudge
     as-available =
         let f : Reading → ℕ → ℕ → ℕ → AvailabilityScanned = λ (x : Reading) (j o m : ℕ). availabilityBy (availableFrom (x .term) log (j * x .term) (x .term) o m 0 0)
-            (scanVerdict (goodPartition j && goodOffset o x) (sound x (length log)) (unsoundAt log x j o)) in
+        (scanVerdict (goodPartition j && goodOffset o x) (sound x (length log)) (unsoundAt log x j o)) in
         cc
 
     pub available-argument : goodAvailability ≡ false → AvailabilityRefused IllegalArgument ≡ availabilityOf r log partition offset maximum
