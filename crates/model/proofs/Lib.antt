@@ -18,3 +18,4 @@ pub mod ScanLaws
 pub mod GapLaws
 pub mod AvailableLaws
 pub mod ScanRows
+pub mod ViewLaws
