@@ -5,3 +5,4 @@ pub mod RawTails
 pub mod Exact
 pub mod Copies
 pub mod Headers
+pub mod Appending

@@ -5,3 +5,4 @@ mod copying;
 mod field;
 mod header;
 pub mod log_buffer_descriptor;
+pub mod term_appender;

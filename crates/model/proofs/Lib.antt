@@ -7,4 +7,5 @@ pub mod SoundRecord
 pub mod RawTail
 pub mod Rotate
 pub mod Cut
+pub mod Append
 pub mod Cases
