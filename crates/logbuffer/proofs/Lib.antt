@@ -8,3 +8,4 @@ pub mod Behind
 pub mod Actions
 pub mod Copies
 pub mod Headers
+pub mod Appending

@@ -9,3 +9,4 @@ mod header;
 pub mod log_buffer_descriptor;
 pub mod term_reader;
 pub mod term_scan;
+pub mod term_appender;

@@ -7,6 +7,7 @@ pub mod SoundRecord
 pub mod RawTail
 pub mod Rotate
 pub mod Cut
+pub mod Append
 pub mod Cases
 pub mod FrameLaws
 pub mod WalkLaws
