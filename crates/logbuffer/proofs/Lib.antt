@@ -9,3 +9,5 @@ pub mod Actions
 pub mod Copies
 pub mod Headers
 pub mod Appending
+pub mod Past
+pub mod HeaderLaws

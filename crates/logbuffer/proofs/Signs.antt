@@ -43,3 +43,9 @@ natural-none (negsuc n) f h = refl
 pub natural-bits : (z : ℤ) → SFits w32 z → ltZ (toZ w32 (ofZ w32 z)) (pos 0) ≡ false → ofZ w32 z ≡ natural z
 natural-bits (pos n) f h = omega arith
 natural-bits (negsuc n) f h = absurd (let k : ofZ w32 (negsuc n) < 2147483648 = not-negative (negsuc n) f h in omega arith)
+
+-- three signed arguments, passed on
+pub passed-on : {A : Type 0} (f : ℤ → ℤ → ℤ → A) (x y z : ℤ) → SFits w32 x → SFits w32 y → SFits w32 z
+    → f (toZ w32 (ofZ w32 x)) (toZ w32 (ofZ w32 y)) (toZ w32 (ofZ w32 z)) ≡ f x y z
+passed-on f x y z a b c =
+    ap (λ (i : ℤ). f i (toZ w32 (ofZ w32 y)) (toZ w32 (ofZ w32 z))) (toZ-ofZ a) ∙ ap (λ (i : ℤ). f x i (toZ w32 (ofZ w32 z))) (toZ-ofZ b) ∙ ap (f x y) (toZ-ofZ c)

@@ -3,17 +3,22 @@ ghost use mathlib.Core.Path.{_≡_};
 ghost use mathlib.Core.Bool.{cond, _&&_};
 ghost use Prim.Native.Nat.{_+_, _*_, _≤_, _<_};
 ghost use lib.ListN.{length, drop};
+ghost use denote.Ref.{ptr};
+ghost use Rattle.logbuffer.specs.Lent.{startOf};
 ghost use Rattle.model.specs.declared.Error.the-variants.{UnsoundFrame};
 ghost use Rattle.model.specs.declared.Verdict.the-variants.{Pass, Refuse};
 ghost use Rattle.model.specs.LogBufferDescriptor.{goodPartition, goodOffset};
-ghost use Rattle.model.specs.TermReader.{nextAction, walk, firstUnsound, goodWalk, goodEntries, entriesBy, framesBy, framesOf, framesEntries, readOf, readEntries};
+ghost use Rattle.model.specs.TermReader.{nextAction, walk, firstUnsound, goodWalk, goodEntries, entriesBy, framesBy, framesOf, framesEntries, readOf, readEntries, goodView, viewOf};
+ghost use Rattle.model.specs.Parts.{partOf, locatedNumber};
 use crate::argument;
 use crate::cast;
+use crate::errors;
 use crate::frame_descriptor;
 use crate::log_buffer_descriptor;
 use model::Error;
 use model::Frame;
 use model::FramesRead;
+use model::Located;
 use model::LogRecord;
 use model::Reading;
 use model::TermRead;
@@ -217,4 +222,57 @@ pub fn read(
         return TermRead::Refused(Error::UnsoundFrame);
     };
     TermRead::Outcome(at + walked.moved, walked.fragments)
+}
+
+// ---- views
+
+// Row 1 of a view.
+fn good_view(v: Reading, k: usize, at: usize, size: usize) -> bool
+    requires { ⌜ (at < 4294967296) × (size < 4294967296) ⌝ }
+    ensures { λ r. ⌜ r ≡ goodView v k at size ⌝ }
+{
+    if k > 2 {
+        return false;
+    }
+    argument::within_term(at + size, v)
+}
+
+// Where a body or a block lies in the log: an offset of a partition's term and a length.
+pub fn view_span(rec: LogRecord, log: &[u8], partition: i32, offset: i32, length: i32) -> Located
+    ensures { λ r. ⌜ r ≡ viewOf rec (now (log .entry)) partition offset length ⌝ }
+{
+    let v = argument::read_active(rec);
+    let k = cast::word(partition);
+    let at = cast::word(offset);
+    let size = cast::word(length);
+    if !good_view(v, k, at, size) {
+        return Located::Refused(Error::IllegalArgument);
+    }
+    if !log_buffer_descriptor::is_sound(v, log.len()) {
+        return Located::Refused(Error::IllegalRecord);
+    }
+    let term = v.term;
+    let from = k * term + at;
+    Located::Span(from, from + size)
+}
+
+// A body or a block as a part of the log; the empty part for a refusal.
+pub fn view(rec: LogRecord, log: &[u8], partition: i32, offset: i32, length: i32) -> &[u8]
+    ensures { λ r. ⌜ now r ≡ partOf (now (log .entry)) (viewOf rec (now (log .entry)) partition offset length) ⌝ }
+    ensures { λ r. ⌜ ptr r ≡ ((ptr (log .entry)) .0, startOf (viewOf rec (now (log .entry)) partition offset length) + (ptr (log .entry)) .1) ⌝ }
+{
+    let Located::Span(from, to) = view_span(rec, log, partition, offset, length) else {
+        return &log[0..0];
+    };
+    &log[from..to]
+}
+
+// The companion: 0, or the number of the refusal.
+pub fn view_number(rec: LogRecord, log: &[u8], partition: i32, offset: i32, length: i32) -> i32
+    ensures { λ r. ⌜ r ≡ locatedNumber (viewOf rec (now (log .entry)) partition offset length) ⌝ }
+{
+    match view_span(rec, log, partition, offset, length) {
+        Located::Span(_, _) => 0,
+        Located::Refused(e) => errors::number(e),
+    }
 }

@@ -20,3 +20,4 @@ pub mod GapLaws
 pub mod AvailableLaws
 pub mod ScanRows
 pub mod ViewLaws
+pub mod HeaderRows

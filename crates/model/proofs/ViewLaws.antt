@@ -62,14 +62,19 @@ span-in r log partition offset size from to e = go (goodView v k at n) (sound v 
   where
     v : Reading
     v = reading r
+
     k : ℕ
     k = word partition
+
     at : ℕ
     at = word offset
+
     n : ℕ
     n = word size
+
     refused : {A : Type 0} (x : Error) → Refused x ≡ Span from to → A
     refused x q = absurd (let z : _≡_ {A = ℕ} 0 1 = cc in omega arith)
+
     go : (g s : Bool) → goodView v k at n ≡ g → sound v (length log) ≡ s
         → locatedBy (k * v .term + at) (k * v .term + at + n) (cond g (cond s Pass (Refuse IllegalRecord)) (Refuse IllegalArgument)) ≡ Span from to → (from ≤ to) × (to ≤ length log)
     go false s eg es q = refused IllegalArgument q
