@@ -6,3 +6,4 @@ pub mod Exact
 pub mod Copies
 pub mod Headers
 pub mod Appending
+pub mod Claims

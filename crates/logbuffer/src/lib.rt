@@ -1,7 +1,9 @@
 // The leaf library: the log's frames, read and written over a log that is lent. A file for each file of the Rust.
 pub mod bit_utils;
+pub mod buffer_claim;
 mod cast;
 mod copying;
+pub mod errors;
 mod field;
 mod header;
 pub mod log_buffer_descriptor;

@@ -8,4 +8,5 @@ pub mod RawTail
 pub mod Rotate
 pub mod Cut
 pub mod Append
+pub mod BufferClaim
 pub mod Cases
