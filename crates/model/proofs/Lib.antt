@@ -9,4 +9,5 @@ pub mod Rotate
 pub mod Cut
 pub mod Append
 pub mod BufferClaim
+pub mod Moving
 pub mod Cases
