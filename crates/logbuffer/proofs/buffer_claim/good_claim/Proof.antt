@@ -1,23 +1,16 @@
-use mathlib.Core.Path.{_≡_, refl, sym, ap, ap₂, subst, _∙_}
-use Prim.Native.Nat.{ℕ, _+_, _-_, _*_, _%_, _≤_, _<_}
-use native.Mathlib.Omega.{arith}
-use lib.IntN.{ℤ}
-use mir.Syntax.{w32}
-use mir.Val.{SFits, toZ, ofZ}
-use mir.Facts.{toZ-ofZ}
-use Rattle.model.specs.Bytes.{word}
+-- A test that fails settles the conjunction.
+use mathlib.Core.Path.{_≡_}
+use Prim.Native.Nat.{_-_}
 use borrow.Author.Tests.{le-leb, lt-leb, eq-eqb, ne-eqb}
-use Rattle.logbuffer.proofs.Claims.{goodNumbers, good-by}
-use Rattle.model.specs.BufferClaim.{goodClaim}
 use borrow.Author.Needs.{needs}
+use mir.Syntax.{w32}
+use mir.Val.{SFits}
+use Rattle.model.specs.Bytes.{word}
+use Rattle.model.specs.BufferClaim.{goodClaim}
+use Rattle.logbuffer.proofs.Signed.{word-by}
+use Rattle.logbuffer.proofs.Claims.{goodNumbers, good-by}
 use Rattle.logbuffer.proofs.buffer_claim.good_claim.Statement.{statement}
 use Rattle.logbuffer.proofs.buffer_claim.good_claim.Tie as tie
-use Rattle.logbuffer.proofs.buffer_claim.good_claim.Reads as reads
-use Rattle.logbuffer.proofs.buffer_claim.good_claim.Lts as lts
-use Rattle.logbuffer.proofs.cast.word.Reads as word-reads
-
-by32 : {n : ℕ} (z : ℤ) → n ≡ ofZ w32 (toZ w32 (ofZ w32 z)) → SFits w32 z → n ≡ word z
-by32 z e f = e ∙ ap (ofZ w32) (toZ-ofZ f)
 
 partition-fits : (c : tie.Start) → SFits w32 (c .args .claim .partition)
 partition-fits c = search needs
@@ -32,49 +25,38 @@ length-fits c = search needs
 law : (c : tie.After-word3) → goodNumbers (c .before .before .before .before .before .before .args .v) (c .word3 .result) (c .before .before .before .before .word .result) (c .before .before .word2 .result) ≡ goodClaim (c .before .before .before .before .before .before .args .v) (c .before .before .before .before .before .before .args .claim)
 law c =
     good-by (c .before .before .before .before .before .before .args .v) (c .before .before .before .before .before .before .args .claim) (c .word3 .result) (c .before .before .before .before .word .result) (c .before .before .word2 .result)
-    (by32 _ (c .word3 .ensures .0) (partition-fits (c .before .before .before .before .before .before))) (by32 _ (c .before .before .before .before .word .ensures .0) (offset-fits (c .before .before .before .before .before .before))) (by32 _ (c .before .before .word2 .ensures .0) (length-fits (c .before .before .before .before .before .before)))
+    (word-by _ (c .word3 .ensures .0) (partition-fits (c .before .before .before .before .before .before))) (word-by _ (c .before .before .before .before .word .ensures .0) (offset-fits (c .before .before .before .before .before .before))) (word-by _ (c .before .before .word2 .ensures .0) (length-fits (c .before .before .before .before .before .before)))
 
--- src/buffer_claim.rt:24:9
 word-requires : tie.Need-word-requires
 word-requires c κs = search needs
 
--- src/buffer_claim.rt:25:9
 word-requires-2 : tie.Need-word-requires-2
 word-requires-2 c κs = search needs
 
--- src/buffer_claim.rt:26:8
 word-requires-3 : tie.Need-word-requires-3
 word-requires-3 c κs = search needs
 
--- src/buffer_claim.rt:27:9
 returns : tie.Need-returns
 returns c = simp (lt-leb _ _ (c .if1 .taken)) at (law (c .before))
 
--- src/buffer_claim.rt:30:9
 returns-2 : tie.Need-returns-2
 returns-2 c = simp (le-leb _ _ (c .before .if1 .left), ne-eqb _ _ (c .if2 .taken)) at (law (c .before .before))
 
--- src/buffer_claim.rt:33:9
 returns-3 : tie.Need-returns-3
 returns-3 c = simp (le-leb _ _ (c .before .before .if1 .left), eq-eqb _ _ (c .before .if2 .left), lt-leb _ _ (c .if3 .taken)) at (law (c .before .before .before))
 
--- src/buffer_claim.rt:35:18
 add-if4 : tie.Need-add-if4
 add-if4 c = search needs
 
--- src/buffer_claim.rt:35:17
 mul-if4 : tie.Need-mul-if4
 mul-if4 c = search needs
 
--- src/buffer_claim.rt:35:8
 add-if4-2 : tie.Need-add-if4-2
 add-if4-2 c = search needs
 
--- src/buffer_claim.rt:36:9
 returns-4 : tie.Need-returns-4
 returns-4 c = simp (le-leb _ _ (c .before .before .before .before .if1 .left), eq-eqb _ _ (c .before .before .before .if2 .left), le-leb _ _ (c .before .before .if3 .left), lt-leb _ _ (c .if4 .taken)) at (law (c .before .before .before .before .before))
 
--- src/buffer_claim.rt:21:1
 returns-5 : tie.Need-returns-5
 returns-5 c = simp (le-leb _ _ (c .before .before .before .before .before .if1 .left), eq-eqb _ _ (c .before .before .before .before .if2 .left), le-leb _ _ (c .before .before .before .if3 .left), le-leb _ _ (c .before .if4 .left)) at (law (c .before .before .before .before .before .before))
 

@@ -1,22 +1,13 @@
-use mathlib.Core.Path.{_≡_, refl, sym, ap, ap₂, subst, _∙_}
-use Prim.Native.Nat.{ℕ, _+_, _-_, _*_, _%_, _≤_, _<_}
-use native.Mathlib.Omega.{arith}
-use lib.IntN.{ℤ}
-use mir.Syntax.{w32}
-use mir.Val.{SFits, toZ, ofZ}
-use mir.Facts.{toZ-ofZ}
-use Rattle.model.specs.Bytes.{word}
-use Rattle.logbuffer.proofs.Claims.{differs, agrees}
+-- The two words of the header decide.
+use Prim.Native.Nat.{_-_}
 use borrow.Author.Needs.{needs}
+use mir.Syntax.{w32}
+use mir.Val.{SFits}
+use Rattle.model.specs.Bytes.{word}
+use Rattle.logbuffer.proofs.Signed.{word-by}
+use Rattle.logbuffer.proofs.Claims.{differs, agrees}
 use Rattle.logbuffer.proofs.buffer_claim.shows.Statement.{statement}
 use Rattle.logbuffer.proofs.buffer_claim.shows.Tie as tie
-use Rattle.logbuffer.proofs.buffer_claim.shows.Reads as reads
-use Rattle.logbuffer.proofs.buffer_claim.shows.Lts as lts
-use Rattle.logbuffer.proofs.cast.word.Reads as word-reads
-use Rattle.logbuffer.proofs.field.word4.Reads as word4-reads
-
-by32 : {n : ℕ} (z : ℤ) → n ≡ ofZ w32 (toZ w32 (ofZ w32 z)) → SFits w32 z → n ≡ word z
-by32 z e f = e ∙ ap (ofZ w32) (toZ-ofZ f)
 
 length-fits : (c : tie.Start) → SFits w32 (c .args .claim .length)
 length-fits c = search needs
@@ -24,37 +15,29 @@ length-fits c = search needs
 id-fits : (c : tie.Start) → SFits w32 (c .args .claim .«term_id»)
 id-fits c = search needs
 
--- src/buffer_claim.rt:54:8
 word4-requires : tie.Need-word4-requires
 word4-requires c κs = search needs
 
--- src/buffer_claim.rt:54:46
 word-requires : tie.Need-word-requires
 word-requires c κs = search needs
 
--- src/buffer_claim.rt:54:33
 sub-if1 : tie.Need-sub-if1
 sub-if1 c = search needs
 
--- src/buffer_claim.rt:55:9
 returns : tie.Need-returns
-returns c = let s = c .before .before .before .before .before in differs (s .args .log .now) (s .args .at) (s .args .claim) (c .before .before .before .word4 .result) (c .before .word .result) (c .before .before .before .word4 .ensures .0) (by32 _ (c .before .word .ensures .0) (length-fits s)) (c .if1 .taken)
+returns c = let s = c .before .before .before .before .before in differs (s .args .log .now) (s .args .at) (s .args .claim) (c .before .before .before .word4 .result) (c .before .word .result) (c .before .before .before .word4 .ensures .0) (word-by _ (c .before .word .ensures .0) (length-fits s)) (c .if1 .taken)
 
--- src/buffer_claim.rt:57:23
 add-word4 : tie.Need-add-word4
 add-word4 c = search needs
 
--- src/buffer_claim.rt:57:5
 word4-requires-2 : tie.Need-word4-requires-2
 word4-requires-2 c κs = search needs
 
--- src/buffer_claim.rt:57:35
 word-requires-2 : tie.Need-word-requires-2
 word-requires-2 c κs = search needs
 
--- src/buffer_claim.rt:50:1
 returns-2 : tie.Need-returns-2
-returns-2 c = let s = c .before .before .before .before .before .before .before .before in agrees (s .args .log .now) (s .args .at) (s .args .claim) (c .before .before .before .before .before .before .word4 .result) (c .before .before .before .before .word .result) (c .before .before .before .before .before .before .word4 .ensures .0) (by32 _ (c .before .before .before .before .word .ensures .0) (length-fits s)) (c .before .before .before .if1 .left) (c .before .before .word42 .result) (c .word2 .result) (c .before .before .word42 .ensures .0) (by32 _ (c .word2 .ensures .0) (id-fits s))
+returns-2 c = let s = c .before .before .before .before .before .before .before .before in agrees (s .args .log .now) (s .args .at) (s .args .claim) (c .before .before .before .before .before .before .word4 .result) (c .before .before .before .before .word .result) (c .before .before .before .before .before .before .word4 .ensures .0) (word-by _ (c .before .before .before .before .word .ensures .0) (length-fits s)) (c .before .before .before .if1 .left) (c .before .before .word42 .result) (c .word2 .result) (c .before .before .word42 .ensures .0) (word-by _ (c .word2 .ensures .0) (id-fits s))
 
 pub shows-spec : {M : Type 1} → statement M
 shows-spec =

@@ -1,6 +1,8 @@
-use mathlib.Core.Path.{_≡_, refl, sym, ap, _∙_}
+-- By the verdict, and by whether the count is the one given.
+use mathlib.Core.Path.{_≡_, sym, ap, _∙_}
 use Prim.Native.Nat.{ℕ, _+_, _<_}
 use native.Mathlib.Omega.{arith}
+use borrow.Author.Needs.{needs}
 use mir.Syntax.{w32}
 use mir.Val.{ofZ}
 use mir.Facts.{toZ-ofZ}
@@ -11,16 +13,8 @@ use Rattle.model.specs.declared.Verdict.the-variants.{Pass}
 use Rattle.model.specs.Bytes.{word}
 use Rattle.model.specs.LogBufferDescriptor.{biased, readingOf, withCount, rotateBy, rotateLogOf}
 use Rattle.model.proofs.Rotate.{rotate-passed, rotate-is, rotate-risen, rotate-kept}
-use borrow.Author.Needs.{needs}
 use Rattle.logbuffer.proofs.log_buffer_descriptor.rotate_log.Statement.{statement}
 use Rattle.logbuffer.proofs.log_buffer_descriptor.rotate_log.Tie as tie
-use Rattle.logbuffer.proofs.log_buffer_descriptor.rotate_log.Reads as reads
-use Rattle.logbuffer.proofs.log_buffer_descriptor.rotate_log.Lts as lts
-use Rattle.logbuffer.proofs.cast.word.Reads as word-reads
-use Rattle.logbuffer.proofs.log_buffer_descriptor.next_tail.Reads as next-tail-reads
-use Rattle.logbuffer.proofs.log_buffer_descriptor.read_active.Reads as read-active-reads
-use Rattle.logbuffer.proofs.log_buffer_descriptor.rotate_verdict.Reads as rotate-verdict-reads
-use Rattle.logbuffer.proofs.log_buffer_descriptor.with_count.Reads as with-count-reads
 
 -- what the code has read, where the verdict is known
 module _ (c : tie.After-rotate-verdict) where
@@ -49,57 +43,44 @@ module _ (c : tie.After-rotate-verdict) where
   low : c .rotate-verdict .result ≡ Pass → k < 2147483647
   low e = rotate-passed (c .before .read-active .result) k t (sym (c .rotate-verdict .ensures) ∙ e)
 
--- src/log_buffer_descriptor.rt:214:9
 word-requires : tie.Need-word-requires
 word-requires c κs = search needs
 
--- src/log_buffer_descriptor.rt:215:17
 word-requires-2 : tie.Need-word-requires-2
 word-requires-2 c κs = search needs
 
--- src/log_buffer_descriptor.rt:215:17
 add-term : tie.Need-add-term
 add-term c = search needs
 
--- src/log_buffer_descriptor.rt:216:9
 read-active-requires : tie.Need-read-active-requires
 read-active-requires c κs = search needs
 
--- src/log_buffer_descriptor.rt:217:11
 rotate-verdict-requires : tie.Need-rotate-verdict-requires
 rotate-verdict-requires c κs = search needs
 
--- src/log_buffer_descriptor.rt:218:25
 enum-known-e : tie.Need-enum-known-e
 enum-known-e c = search needs
 
--- src/log_buffer_descriptor.rt:223:17
 enum-told : tie.Need-enum-told
 enum-told c = search needs
 
--- src/log_buffer_descriptor.rt:223:17
 next-tail-requires : tie.Need-next-tail-requires
 next-tail-requires c κs = let h = low (c .before .before) (c .enum-told .given .1) in omega arith
 
--- src/log_buffer_descriptor.rt:225:46
 add-with-count : tie.Need-add-with-count
 add-with-count c = search needs
 
--- src/log_buffer_descriptor.rt:225:21
 with-count-requires : tie.Need-with-count-requires
 with-count-requires c κs = let h = low (c .before .before .before .before .before) (c .before .before .before .enum-told .given .1) in omega arith
 
--- src/log_buffer_descriptor.rt:226:17
 returns : tie.Need-returns
 returns c = let j = c .before .before .before .before .before .before in
     rotate-risen (s j .args .rec) (c .with-count .result) (k j) (t j) (sym (count-is j) ∙ c .before .if1 .taken) (c .with-count .ensures ∙ ap (λ (x : LogRecord). withCount x (k j + 1)) (c .before .before .before .next-tail .ensures))
     ∙ law j Pass (c .before .before .before .before .enum-told .given .1)
 
--- src/log_buffer_descriptor.rt:211:1
 returns-2 : tie.Need-returns-2
 returns-2 c = law (c .before .before .before) _ (c .before .e .given .1)
 
--- src/log_buffer_descriptor.rt:211:1
 returns-3 : tie.Need-returns-3
 returns-3 c = let j = c .before .before .before .before .before in
     rotate-kept (s j .args .rec) (c .before .before .next-tail .result) (k j) (t j) (λ h. c .if1 .left (count-is j ∙ h)) (c .before .before .next-tail .ensures) ∙ law j Pass (c .before .before .before .enum-told .given .1)
