@@ -6,14 +6,13 @@ use Prim.Native.Nat.{ℕ, _+_, _*_, _≤_}
 use native.Mathlib.Omega.{arith}
 use lib.ListN.{length}
 use lib.IntN.{ℤ, pos}
-use mir.Syntax.{w32}
-use mir.Val.{toZ}
 use types.Run.{OneOf}
 use denote.Enum.Declared.{tagOf}
+use mir.Syntax.{w32}
+use mir.Val.{toZ}
 use Rattle.model.specs.declared.LogRecord.{LogRecord}
 use Rattle.model.specs.declared.Reading.{Reading}
 use Rattle.model.specs.declared.Appended.{Appended}
-use Rattle.model.specs.declared.AppendReply.{AppendReply}
 use Rattle.model.specs.declared.Error.{Error}
 use Rattle.model.specs.declared.Error.the-variants.{ActionPossiblyDelayed}
 use Rattle.model.specs.declared.Claim.{Claim}

@@ -1,10 +1,10 @@
 -- A copy, byte by byte, by way of another list, and chunk by chunk, is the bytes laid over the log.
-use mathlib.Core.Path.{_≡_, refl, sym, ap, _∙_}
-use mathlib.Core.List.{List, [], _++_, append-assoc}
+use mathlib.Core.Path.{_≡_, sym, ap, _∙_}
+use mathlib.Core.List.{List, _++_, append-assoc}
 use Prim.Native.Nat.{ℕ, _+_, _<_, _≤_}
 use native.Mathlib.Numerals.{add-one}
 use native.Mathlib.Omega.{arith}
-use lib.ListN.{length, take, drop, getD, set, length-drop, length-append}
+use lib.ListN.{length, take, drop, getD, set, length-drop}
 use lib.Seq.{paste, paste-suc, paste-zero, getD-drop, drop-drop, take-at, take-add, length-take-le}
 use Rattle.model.specs.Bytes.{splice}
 use Rattle.model.proofs.Splice.{drop-splice, splice-more}

@@ -11,3 +11,4 @@ pub mod Headers
 pub mod Appending
 pub mod Past
 pub mod HeaderLaws
+pub mod Claims

@@ -1,11 +1,8 @@
 -- The upper half of a raw tail, read with its sign, and the exact arithmetic of a position.
-use mathlib.Core.Path.{_≡_, refl, sym, ap, ap₂, _∙_, subst}
-use mathlib.Core.Bool.{Bool, true, false, cond}
-use Prim.Native.Nat.{ℕ, zero, suc, _+_, _-_, _*_, _/_, _%_, _^_, _<_, _≤_}
-use native.Mathlib.Nat.{one-mul, mod-eq-of-lt, mul-le-mul}
+use mathlib.Core.Path.{_≡_, ap, _∙_}
+use Prim.Native.Nat.{suc, _-_, _/_}
 use native.Mathlib.Omega.{arith}
-use lib.Pow.{pow-mono}
-use lib.IntN.{ℤ, pos, negsuc, natAbs, negℤ, _+ℤ_, _-ℤ_, _*ℤ_, subℕ}
+use lib.IntN.{ℤ, pos, negsuc}
 use lib.Signed.{shrZ}
 use mir.Syntax.{w32, w64}
 use mir.Val.{SFits, ofZ, toZ}

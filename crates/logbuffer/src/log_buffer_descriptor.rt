@@ -1,7 +1,7 @@
 // The log record: read, judged, and changed; and the arithmetic of raw tails and positions.
 ghost use mathlib.Core.Path.{_≡_};
 ghost use Prim.Native.Nat.{_+_, _≤_, _<_};
-ghost use Rattle.model.specs.LogBufferDescriptor.{termId, termOffset, indexByTermCount, indexByPosition, bitsToShift, computePosition, tailOf, readingOf, soundRecord, sound, withTail, withCount, nextTail, rotateVerdict, rotateLogOf};
+ghost use Rattle.model.specs.LogBufferDescriptor.{termId, termOffset, indexByTermCount, indexByPosition, bitsToShift, computePosition, tailOf, readingOf, reading, soundRecord, sound, withTail, withCount, nextTail, rotateVerdict, rotateLogOf};
 use crate::cast;
 use model::Error;
 use model::LogRecord;
@@ -95,6 +95,13 @@ pub fn read(rec: LogRecord, partition: usize) -> Reading
         offset: bits % 4294967296,
         closed: rec.is_closed,
     }
+}
+
+// The same at the active partition.
+pub fn read_active(rec: LogRecord) -> Reading
+    ensures { λ r. ⌜ r ≡ reading rec ⌝ }
+{
+    read(rec, cast::word(rec.active_term_count) % 3)
 }
 
 // ---- row 2
@@ -206,7 +213,7 @@ pub fn rotate_log(rec: LogRecord, count: i32, id: i32) -> RecordReply
 {
     let given = cast::word(count);
     let term = (cast::word(id) + 2147483648) % 4294967296;
-    let v = read(rec, cast::word(rec.active_term_count) % 3);
+    let v = read_active(rec);
     match rotate_verdict(v, given, term) {
         Verdict::Refuse(e) => RecordReply {
             next: rec,

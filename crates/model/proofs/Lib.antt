@@ -8,6 +8,8 @@ pub mod RawTail
 pub mod Rotate
 pub mod Cut
 pub mod Append
+pub mod BufferClaim
+pub mod Moving
 pub mod Cases
 pub mod FrameLaws
 pub mod WalkLaws

@@ -1,4 +1,5 @@
-use mathlib.Core.Path.{_≡_, refl, sym, ap, _∙_}
+-- After each turn the first i bytes are laid over dst; a chunk behind them is one piece with them.
+use mathlib.Core.Path.{_≡_, refl, ap, _∙_}
 use mathlib.Core.List.{List}
 use Prim.Native.Nat.{ℕ, _+_, _-_, _≤_}
 use native.Mathlib.Omega.{arith}
@@ -7,10 +8,6 @@ use Rattle.model.specs.Bytes.{splice}
 use Rattle.logbuffer.proofs.Copies.{more, none-yet}
 use Rattle.logbuffer.proofs.copying.copy.Statement.{statement}
 use Rattle.logbuffer.proofs.copying.copy.Tie as tie
-use Rattle.logbuffer.proofs.copying.copy.Reads as reads
-use Rattle.logbuffer.proofs.copying.copy.Lts as lts
-use Rattle.logbuffer.proofs.copying.chunk.Reads as chunk-reads
-use Rattle.logbuffer.proofs.copying.copy_chunk.Reads as copy-chunk-reads
 
 abbrev Inv-loop : tie.InvT-loop
 Inv-loop dst₀ b src a n i₀ dst i = (i ≤ n) × ((dst ≡ splice dst₀ b (take i (drop a src))) × (length dst ≡ length dst₀))
@@ -18,41 +15,32 @@ Inv-loop dst₀ b src a n i₀ dst i = (i ≤ n) × ((dst ≡ splice dst₀ b (t
 abbrev μ-loop : tie.MeasureT-loop
 μ-loop dst₀ b src a n i₀ dst i = n - i
 
--- src/copying.rt:65:5
 loop-holds : tie.Need-loop-holds Inv-loop μ-loop
 loop-holds c =
     let s = c .before .before in
     (omega arith, (none-yet (s .args .dst .now) (s .args .src .now) (s .args .b) (s .args .a), refl))
 
--- src/copying.rt:66:23
 sub-chunk : tie.Need-sub-chunk Inv-loop μ-loop
 sub-chunk c = omega arith
 
--- src/copying.rt:66:13
 chunk-requires : tie.Need-chunk-requires Inv-loop μ-loop
 chunk-requires c κs = omega arith
 
--- src/copying.rt:67:25
 add-copy-chunk : tie.Need-add-copy-chunk Inv-loop μ-loop
 add-copy-chunk c = omega arith
 
--- src/copying.rt:67:37
 add-copy-chunk-2 : tie.Need-add-copy-chunk-2 Inv-loop μ-loop
 add-copy-chunk-2 c = omega arith
 
--- src/copying.rt:67:9
 copy-chunk-requires : tie.Need-copy-chunk-requires Inv-loop μ-loop
 copy-chunk-requires c κs = omega arith
 
--- src/copying.rt:68:9
 add-i : tie.Need-add-i Inv-loop μ-loop
 add-i c = omega arith
 
--- src/copying.rt:65:5
 loop-less : tie.Need-loop-less Inv-loop μ-loop
 loop-less c = omega arith
 
--- src/copying.rt:65:5
 loop-again : tie.Need-loop-again Inv-loop μ-loop
 loop-again c =
     let call = c .before .before in
@@ -68,11 +56,9 @@ loop-again c =
       ),
     )
 
--- src/copying.rt:60:1
 same-length : tie.Need-same-length Inv-loop μ-loop
 same-length c = c .before .loop .inv .1 .1
 
--- src/copying.rt:60:1
 returns : tie.Need-returns Inv-loop μ-loop
 returns c =
     let s = c .before .before .before .before in

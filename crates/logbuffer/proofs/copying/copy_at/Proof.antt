@@ -1,12 +1,10 @@
--- `copying::copy_at` meets its contract. After i turns dst has the first i bytes from a at b. Assumes nothing.
-use mathlib.Core.Path.{_≡_, refl, sym, ap, _∙_}
-use mathlib.Core.List.{List, append-assoc}
+-- After i turns dst has the first i bytes from a at b.
+use mathlib.Core.Path.{_≡_, refl, ap, _∙_}
+use mathlib.Core.List.{List}
 use Prim.Native.Nat.{ℕ, _+_, _-_, _≤_}
 use native.Mathlib.Omega.{arith}
-use native.Mathlib.Nat.{le-antisymm}
-use lib.ListN.{length, take, drop, getD, set, length-set, length-drop}
+use lib.ListN.{length, drop, getD, set, length-set, length-drop}
 use lib.Seq.{paste, paste-zero}
-use Rattle.model.specs.Bytes.{splice}
 use Rattle.logbuffer.proofs.Copies.{turn, pasted}
 use Rattle.logbuffer.proofs.copying.copy_at.Statement.{statement}
 use Rattle.logbuffer.proofs.copying.copy_at.Tie as tie

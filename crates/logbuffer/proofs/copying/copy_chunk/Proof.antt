@@ -1,38 +1,30 @@
-use Rattle.logbuffer.proofs.Copies.{by-way}
-use Rattle.model.specs.Bytes.{splice}
-use lib.ListN.{replicate, take, drop}
-use Prim.Native.Nat.{ℕ, _+_, _-_}
+-- What was copied to the front of the array is what is copied from there.
+use mathlib.Core.List.{List}
+use mathlib.Core.Path.{ap, _∙_}
+use Prim.Native.Nat.{ℕ, _-_}
 use native.Mathlib.Omega.{arith}
-use mathlib.Core.List.{List, _++_}
-use mathlib.Core.Path.{_≡_, refl, sym, ap, _∙_}
 use borrow.Author.Needs.{needs}
+use lib.ListN.{take, drop}
+use Rattle.model.specs.Bytes.{splice}
+use Rattle.logbuffer.proofs.Copies.{by-way}
 use Rattle.logbuffer.proofs.copying.copy_chunk.Statement.{statement}
 use Rattle.logbuffer.proofs.copying.copy_chunk.Tie as tie
-use Rattle.logbuffer.proofs.copying.copy_chunk.Reads as reads
-use Rattle.logbuffer.proofs.copying.copy_chunk.Lts as lts
-use Rattle.logbuffer.proofs.copying.copy_at.Reads as copy-at-reads
 
--- src/copying.rt:47:13
 slice-aggregate-copy-at : tie.Need-slice-aggregate-copy-at
 slice-aggregate-copy-at c = search needs
 
--- src/copying.rt:47:5
 copy-at-requires : tie.Need-copy-at-requires
 copy-at-requires c κs = search needs
 
--- src/copying.rt:48:21
 slice-aggregate-copy-at-2 : tie.Need-slice-aggregate-copy-at-2
 slice-aggregate-copy-at-2 c = search needs
 
--- src/copying.rt:48:5
 copy-at-requires-2 : tie.Need-copy-at-requires-2
 copy-at-requires-2 c κs = search needs
 
--- src/copying.rt:42:1
 same-length : tie.Need-same-length
 same-length c = search needs
 
--- src/copying.rt:42:1
 returns : tie.Need-returns
 returns c = let first = c .before .before .before .before .before .before in
     let s = first .before .before .before .before in

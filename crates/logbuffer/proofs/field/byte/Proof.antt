@@ -1,19 +1,15 @@
+-- An element of a slice of bytes is below 256.
 use native.Mathlib.Omega.{arith}
 use borrow.Author.Needs.{needs}
 use Rattle.logbuffer.proofs.field.byte.Statement.{statement}
 use Rattle.logbuffer.proofs.field.byte.Tie as tie
-use Rattle.logbuffer.proofs.field.byte.Reads as reads
-use Rattle.logbuffer.proofs.field.byte.Lts as lts
 
--- src/field.rt:11:5
 shared-slice-read-result : tie.Need-shared-slice-read-result
 shared-slice-read-result c = search needs
 
--- src/field.rt:11:5
 cast-result : tie.Need-cast-result
 cast-result c = omega (arith, c .shared-slice-known .given (c .before .args .at))
 
--- src/field.rt:7:1
 returns : tie.Need-returns
 returns c = (search needs, omega (arith, c .shared-slice-known .given (c .before .args .at)))
 

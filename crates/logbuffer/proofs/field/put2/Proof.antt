@@ -1,38 +1,30 @@
+-- Two stores are a field laid over the log.
 use Prim.Native.Nat.{_/_}
-use lib.ListN.{length-set}
-use Rattle.logbuffer.proofs.Bytes.{fits-low8, two, four, eight, half-at, word-at, long-at}
 use native.Mathlib.Omega.{arith}
 use borrow.Author.Needs.{needs}
+use lib.ListN.{length-set}
+use Rattle.logbuffer.proofs.Bytes.{fits-low8, two}
 use Rattle.logbuffer.proofs.field.put2.Statement.{statement}
 use Rattle.logbuffer.proofs.field.put2.Tie as tie
-use Rattle.logbuffer.proofs.field.put2.Reads as reads
-use Rattle.logbuffer.proofs.field.put2.Lts as lts
 
--- src/field.rt:41:15
 cast-log : tie.Need-cast-log
 cast-log c = fits-low8 (c .args .n)
 
--- src/field.rt:41:5
 slice-write-log : tie.Need-slice-write-log
 slice-write-log c = search needs
 
--- src/field.rt:42:19
 cast-log-2 : tie.Need-cast-log-2
 cast-log-2 c = fits-low8 (c .args .n / 256)
 
--- src/field.rt:42:9
 add-log : tie.Need-add-log
 add-log c = search needs
 
--- src/field.rt:42:5
 slice-write-log-2 : tie.Need-slice-write-log-2
 slice-write-log-2 c = simp length-set (omega arith)
 
--- src/field.rt:37:1
 same-length : tie.Need-same-length
 same-length c = search needs
 
--- src/field.rt:37:1
 returns : tie.Need-returns
 returns c = two (c .args .log .now) (c .args .at) (c .args .n) (c .pre)
 

@@ -1,62 +1,48 @@
+-- Four stores are a field laid over the log.
 use Prim.Native.Nat.{_/_}
-use lib.ListN.{length-set}
-use Rattle.logbuffer.proofs.Bytes.{fits-low8, two, four, eight, half-at, word-at, long-at}
 use native.Mathlib.Omega.{arith}
 use borrow.Author.Needs.{needs}
+use lib.ListN.{length-set}
+use Rattle.logbuffer.proofs.Bytes.{fits-low8, four}
 use Rattle.logbuffer.proofs.field.put4.Statement.{statement}
 use Rattle.logbuffer.proofs.field.put4.Tie as tie
-use Rattle.logbuffer.proofs.field.put4.Reads as reads
-use Rattle.logbuffer.proofs.field.put4.Lts as lts
 
--- src/field.rt:49:15
 cast-log : tie.Need-cast-log
 cast-log c = fits-low8 (c .args .n)
 
--- src/field.rt:49:5
 slice-write-log : tie.Need-slice-write-log
 slice-write-log c = search needs
 
--- src/field.rt:50:19
 cast-log-2 : tie.Need-cast-log-2
 cast-log-2 c = fits-low8 (c .args .n / 256)
 
--- src/field.rt:50:9
 add-log : tie.Need-add-log
 add-log c = search needs
 
--- src/field.rt:50:5
 slice-write-log-2 : tie.Need-slice-write-log-2
 slice-write-log-2 c = simp length-set (omega arith)
 
--- src/field.rt:51:19
 cast-log-3 : tie.Need-cast-log-3
 cast-log-3 c = fits-low8 (c .args .n / 65536)
 
--- src/field.rt:51:9
 add-log-2 : tie.Need-add-log-2
 add-log-2 c = search needs
 
--- src/field.rt:51:5
 slice-write-log-3 : tie.Need-slice-write-log-3
 slice-write-log-3 c = simp length-set (omega arith)
 
--- src/field.rt:52:19
 cast-log-4 : tie.Need-cast-log-4
 cast-log-4 c = fits-low8 (c .args .n / 16777216)
 
--- src/field.rt:52:9
 add-log-3 : tie.Need-add-log-3
 add-log-3 c = search needs
 
--- src/field.rt:52:5
 slice-write-log-4 : tie.Need-slice-write-log-4
 slice-write-log-4 c = simp length-set (omega arith)
 
--- src/field.rt:45:1
 same-length : tie.Need-same-length
 same-length c = search needs
 
--- src/field.rt:45:1
 returns : tie.Need-returns
 returns c = four (c .args .log .now) (c .args .at) (c .args .n) (c .pre)
 

@@ -1,65 +1,49 @@
-use Rattle.logbuffer.proofs.Bytes.{fits-low8, two, four, eight, half-at, word-at, long-at}
+-- Four bytes, by the law on the log's own indices.
 use native.Mathlib.Omega.{arith}
 use borrow.Author.Needs.{needs}
+use Rattle.logbuffer.proofs.Bytes.{word-at}
 use Rattle.logbuffer.proofs.field.word4.Statement.{statement}
 use Rattle.logbuffer.proofs.field.word4.Tie as tie
-use Rattle.logbuffer.proofs.field.word4.Reads as reads
-use Rattle.logbuffer.proofs.field.word4.Lts as lts
-use Rattle.logbuffer.proofs.field.byte.Reads as byte-reads
 
--- src/field.rt:26:5
 byte-requires : tie.Need-byte-requires
 byte-requires c κs = search needs
 
--- src/field.rt:26:37
 add-byte : tie.Need-add-byte
 add-byte c = search needs
 
--- src/field.rt:26:27
 byte-requires-2 : tie.Need-byte-requires-2
 byte-requires-2 c κs = search needs
 
--- src/field.rt:26:21
 mul-result : tie.Need-mul-result
 mul-result c = search needs
 
--- src/field.rt:26:5
 add-result : tie.Need-add-result
 add-result c = search needs
 
--- src/field.rt:26:65
 add-byte-2 : tie.Need-add-byte-2
 add-byte-2 c = search needs
 
--- src/field.rt:26:55
 byte-requires-3 : tie.Need-byte-requires-3
 byte-requires-3 c κs = search needs
 
--- src/field.rt:26:47
 mul-result-2 : tie.Need-mul-result-2
 mul-result-2 c = search needs
 
--- src/field.rt:26:5
 add-result-2 : tie.Need-add-result-2
 add-result-2 c = search needs
 
--- src/field.rt:26:96
 add-byte-3 : tie.Need-add-byte-3
 add-byte-3 c = search needs
 
--- src/field.rt:26:86
 byte-requires-4 : tie.Need-byte-requires-4
 byte-requires-4 c κs = search needs
 
--- src/field.rt:26:75
 mul-result-3 : tie.Need-mul-result-3
 mul-result-3 c = search needs
 
--- src/field.rt:26:5
 add-result-3 : tie.Need-add-result-3
 add-result-3 c = search needs
 
--- src/field.rt:22:1
 returns : tie.Need-returns
 returns c = let s = c .before .before .before .before .before in omega (arith, word-at (s .args .log .now) (s .args .at))
 

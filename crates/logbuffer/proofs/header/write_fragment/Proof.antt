@@ -1,43 +1,31 @@
-use Rattle.logbuffer.proofs.Headers.{header-by, fragment-by}
+-- Header, reserved value and body, laid one behind the other.
 use native.Mathlib.Omega.{arith}
 use borrow.Author.Needs.{needs}
+use Rattle.logbuffer.proofs.Headers.{fragment-by}
 use Rattle.logbuffer.proofs.header.write_fragment.Statement.{statement}
 use Rattle.logbuffer.proofs.header.write_fragment.Tie as tie
-use Rattle.logbuffer.proofs.header.write_fragment.Reads as reads
-use Rattle.logbuffer.proofs.header.write_fragment.Lts as lts
-use Rattle.logbuffer.proofs.copying.copy.Reads as copy-reads
-use Rattle.logbuffer.proofs.field.put8.Reads as put8-reads
-use Rattle.logbuffer.proofs.header.write_header.Reads as write-header-reads
 
--- src/header.rt:29:38
 add-write-header : tie.Need-add-write-header
 add-write-header c = search needs
 
--- src/header.rt:29:5
 write-header-requires : tie.Need-write-header-requires
 write-header-requires c κs = search needs
 
--- src/header.rt:30:22
 add-put8 : tie.Need-add-put8
 add-put8 c = search needs
 
--- src/header.rt:30:5
 put8-requires : tie.Need-put8-requires
 put8-requires c κs = search needs
 
--- src/header.rt:31:24
 add-copy : tie.Need-add-copy
 add-copy c = search needs
 
--- src/header.rt:31:5
 copy-requires : tie.Need-copy-requires
 copy-requires c κs = search needs
 
--- src/header.rt:25:1
 same-length : tie.Need-same-length
 same-length c = search needs
 
--- src/header.rt:25:1
 returns : tie.Need-returns
 returns c = let s = c .before .before .before .before .before .before .before .before .before .before .before .before .before .before in
     fragment-by (s .args .log .now) _ _ _ (s .args .at) (s .args .v) (s .args .offset) (s .args .flags) (s .args .reserved) (s .args .src .now) (s .args .from) (s .args .n) (omega arith) (omega arith)

@@ -1,77 +1,58 @@
-use Rattle.logbuffer.proofs.Headers.{header-by, fragment-by}
+-- Six words laid one behind the other are the header.
 use native.Mathlib.Omega.{arith}
 use borrow.Author.Needs.{needs}
+use Rattle.logbuffer.proofs.Headers.{header-by}
 use Rattle.logbuffer.proofs.header.write_header.Statement.{statement}
 use Rattle.logbuffer.proofs.header.write_header.Tie as tie
-use Rattle.logbuffer.proofs.header.write_header.Reads as reads
-use Rattle.logbuffer.proofs.header.write_header.Lts as lts
-use Rattle.logbuffer.proofs.field.put4.Reads as put4-reads
 
--- src/header.rt:16:5
 put4-requires : tie.Need-put4-requires
 put4-requires c κs = search needs
 
--- src/header.rt:17:22
 add-put4 : tie.Need-add-put4
 add-put4 c = search needs
 
--- src/header.rt:17:30
 mul-put4 : tie.Need-mul-put4
 mul-put4 c = search needs
 
--- src/header.rt:17:44
 mul-put4-2 : tie.Need-mul-put4-2
 mul-put4-2 c = search needs
 
--- src/header.rt:17:30
 add-put4-2 : tie.Need-add-put4-2
 add-put4-2 c = search needs
 
--- src/header.rt:17:5
 put4-requires-2 : tie.Need-put4-requires-2
 put4-requires-2 c κs = search needs
 
--- src/header.rt:18:22
 add-put4-3 : tie.Need-add-put4-3
 add-put4-3 c = search needs
 
--- src/header.rt:18:5
 put4-requires-3 : tie.Need-put4-requires-3
 put4-requires-3 c κs = search needs
 
--- src/header.rt:19:22
 add-put4-4 : tie.Need-add-put4-4
 add-put4-4 c = search needs
 
--- src/header.rt:19:5
 put4-requires-4 : tie.Need-put4-requires-4
 put4-requires-4 c κs = search needs
 
--- src/header.rt:20:22
 add-put4-5 : tie.Need-add-put4-5
 add-put4-5 c = search needs
 
--- src/header.rt:20:5
 put4-requires-5 : tie.Need-put4-requires-5
 put4-requires-5 c κs = search needs
 
--- src/header.rt:21:22
 add-put4-6 : tie.Need-add-put4-6
 add-put4-6 c = search needs
 
--- src/header.rt:21:32
 add-put4-7 : tie.Need-add-put4-7
 add-put4-7 c = search needs
 
--- src/header.rt:21:5
 put4-requires-6 : tie.Need-put4-requires-6
 put4-requires-6 c κs = search needs
 
--- src/header.rt:12:1
 same-length : tie.Need-same-length
 same-length c = search needs
 
--- src/header.rt:12:1
 returns : tie.Need-returns
 returns c = let s = c .before .before .before .before .before .before .before .before .before .before .before .before .before .before .before .before .before .before .before .before .before .before .before .before .before .before in
     header-by (s .args .log .now) _ _ _ _ _ _ (s .args .at) (s .args .v) (s .args .offset) (s .args .len) (s .args .flags) (s .args .kind) (omega arith) (omega arith) (omega arith)

@@ -1,35 +1,27 @@
-use Rattle.model.specs.TermAppender.{padded}
-use borrow.Author.Tests.{lt-ltb, le-ltb}
+-- Where the term has room the header is written over it, else nothing is.
 use native.Mathlib.Omega.{arith}
+use borrow.Author.Tests.{lt-ltb, le-ltb}
 use borrow.Author.Needs.{needs}
+use Rattle.model.specs.TermAppender.{padded}
 use Rattle.logbuffer.proofs.header.write_padding.Statement.{statement}
 use Rattle.logbuffer.proofs.header.write_padding.Tie as tie
-use Rattle.logbuffer.proofs.header.write_padding.Reads as reads
-use Rattle.logbuffer.proofs.header.write_padding.Lts as lts
-use Rattle.logbuffer.proofs.header.write_header.Reads as write-header-reads
 
--- src/header.rt:42:27
 add-write-header : tie.Need-add-write-header
 add-write-header c = search needs
 
--- src/header.rt:42:53
 sub-write-header : tie.Need-sub-write-header
 sub-write-header c = search needs
 
--- src/header.rt:42:9
 write-header-requires : tie.Need-write-header-requires
 write-header-requires c κs = let s = c .before .before .before in let h = s .pre .1 .1 (omega arith) in omega arith
 
--- src/header.rt:35:1
 same-length : tie.Need-same-length
 same-length c = search needs
 
--- src/header.rt:35:1
 returns : tie.Need-returns
 unfolding padded
 returns c = simp (lt-ltb _ _ (c .before .before .before .before .if1 .taken)) (c .before .before .write-header .ensures)
 
--- src/header.rt:35:1
 returns-2 : tie.Need-returns-2
 unfolding padded
 returns-2 c = simp (le-ltb _ _ (c .if1 .left))

@@ -1,21 +1,20 @@
+-- Each step of the sum fits 64 bits: the difference is near 0, and the shift is at most 30.
+use mathlib.Core.Path.{_≡_, ap, ap₂}
+use Prim.Native.Nat.{_*_, _%_, _^_}
+use native.Mathlib.Nat.{lt-trans}
+use borrow.Author.Tests.{lt-ltb, le-ltb}
+use borrow.Author.Needs.{needs}
+use lib.Dec.{lit<}
+use lib.IntN.{ℤ, pos, _+ℤ_, _-ℤ_, _*ℤ_}
 use mir.Facts.{toZ-ofZ, sfits-widen, toZ-pos}
 use mir.Val.{SFits, toZ, ofZ}
 use mir.Syntax.{w32, w64}
-use native.Mathlib.Nat.{lt-trans}
-use lib.Dec.{lit<}
-use lib.IntN.{ℤ, pos, _+ℤ_, _-ℤ_, _*ℤ_}
-use Prim.Native.Nat.{ℕ, _*_, _%_, _^_}
-use Rattle.logbuffer.proofs.Signed.{lands, asks}
-use Rattle.logbuffer.proofs.Exact.{difference-fits, product-fits, position-fits, shifted-one}
 use Rattle.model.specs.declared.Positioned.the-variants.{Position}
 use Rattle.model.specs.LogBufferDescriptor.{computePosition}
-use borrow.Author.Tests.{lt-ltb, le-ltb}
-use mathlib.Core.Path.{_≡_, refl, sym, ap, ap₂, subst, _∙_}
-use borrow.Author.Needs.{needs}
+use Rattle.logbuffer.proofs.Signed.{lands, asks}
+use Rattle.logbuffer.proofs.Exact.{difference-fits, product-fits, position-fits, shifted-one}
 use Rattle.logbuffer.proofs.log_buffer_descriptor.compute_position.Statement.{statement}
 use Rattle.logbuffer.proofs.log_buffer_descriptor.compute_position.Tie as tie
-use Rattle.logbuffer.proofs.log_buffer_descriptor.compute_position.Reads as reads
-use Rattle.logbuffer.proofs.log_buffer_descriptor.compute_position.Lts as lts
 
 -- the numbers at each step of the last line
 module _ (c : tie.Else1) where
@@ -38,44 +37,34 @@ module _ (c : tie.Else1) where
   low : toZ w64 (s .args .offset) ≡ pos (s .args .offset)
   low = toZ-pos w64 (lt-trans (s .fits .offset .fits) (lit< tt))
 
--- src/log_buffer_descriptor.rt:54:9
 returns : tie.Need-returns
 unfolding computePosition
 returns c = simp (lt-ltb 30 (c .before .args .bits) (c .if1 .taken))
 
--- src/log_buffer_descriptor.rt:56:28
 cast-t7 : tie.Need-cast-t7
 cast-t7 c = asks (toZ-ofZ (c .before .fits .term-id)) (sfits-widen tt (c .before .fits .term-id))
 
--- src/log_buffer_descriptor.rt:56:47
 cast-t8 : tie.Need-cast-t8
 cast-t8 c = asks (toZ-ofZ (c .before .fits .initial)) (sfits-widen tt (c .before .fits .initial))
 
--- src/log_buffer_descriptor.rt:56:27
 sub-t9 : tie.Need-sub-t9
 sub-t9 c = asks (difference c) (difference-fits (c .before .args .term-id) (c .before .args .initial) (c .before .fits .term-id) (c .before .fits .initial))
 
--- src/log_buffer_descriptor.rt:56:75
 cast-t10 : tie.Need-cast-t10
 cast-t10 c = search needs
 
--- src/log_buffer_descriptor.rt:56:67
 shl-t11 : tie.Need-shl-t11
 shl-t11 c = search needs
 
--- src/log_buffer_descriptor.rt:56:26
 mul-t12 : tie.Need-mul-t12
 mul-t12 c = asks (product c) (product-fit c)
 
--- src/log_buffer_descriptor.rt:56:84
 cast-t13 : tie.Need-cast-t13
 cast-t13 c = search needs
 
--- src/log_buffer_descriptor.rt:56:26
 add-t14 : tie.Need-add-t14
 add-t14 c = asks (ap₂ (λ (a b : ℤ). a +ℤ b) (lands (product c) (product-fit c)) (low c)) (sum-fit c)
 
--- src/log_buffer_descriptor.rt:50:1
 returns-2 : tie.Need-returns-2
 unfolding computePosition
 returns-2 c = simp (le-ltb 30 (c .before .args .bits) (c .if1 .left)) (ap Position (lands (ap₂ (λ (a b : ℤ). a +ℤ b) (lands (product c) (product-fit c)) (low c)) (sum-fit c)))

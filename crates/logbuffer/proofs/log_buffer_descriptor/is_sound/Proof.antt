@@ -1,27 +1,21 @@
-use Rattle.model.proofs.SoundRecord.{sound-length, unsound-length, sound-record-true}
-use borrow.Author.Tests.{not-true, not-false}
-use mathlib.Core.Path.{_≡_, refl, sym, ap, ap₂, subst, _∙_}
+-- For a sound record the length of the log decides.
+use mathlib.Core.Path.{sym, _∙_}
 use native.Mathlib.Omega.{arith}
+use borrow.Author.Tests.{not-true, not-false}
 use borrow.Author.Needs.{needs}
+use Rattle.model.proofs.SoundRecord.{sound-length, unsound-length, sound-record-true}
 use Rattle.logbuffer.proofs.log_buffer_descriptor.is_sound.Statement.{statement}
 use Rattle.logbuffer.proofs.log_buffer_descriptor.is_sound.Tie as tie
-use Rattle.logbuffer.proofs.log_buffer_descriptor.is_sound.Reads as reads
-use Rattle.logbuffer.proofs.log_buffer_descriptor.is_sound.Lts as lts
-use Rattle.logbuffer.proofs.log_buffer_descriptor.is_sound_record.Reads as is-sound-record-reads
 
--- src/log_buffer_descriptor.rt:135:9
 is-sound-record-requires : tie.Need-is-sound-record-requires
 is-sound-record-requires c κs = search needs
 
--- src/log_buffer_descriptor.rt:136:9
 returns : tie.Need-returns
 returns c = unsound-length _ _ (sym (c .before .is-sound-record .ensures) ∙ not-true _ (c .if1 .taken))
 
--- src/log_buffer_descriptor.rt:138:10
 mul-result : tie.Need-mul-result
 mul-result c = omega (arith, sound-record-true _ (sym (c .before .before .is-sound-record .ensures) ∙ not-false _ (c .before .if1 .left)))
 
--- src/log_buffer_descriptor.rt:132:1
 returns-2 : tie.Need-returns-2
 returns-2 c = sound-length _ _ (sym (c .before .before .is-sound-record .ensures) ∙ not-false _ (c .before .if1 .left))
 

@@ -1,34 +1,26 @@
-use Rattle.model.proofs.Rotate.{next-set, next-kept, rotate-argument, rotate-record, rotate-last-id, rotate-last-count, rotate-pass, rotate-passed, rotate-is, rotate-risen, rotate-kept}
+-- The tests that were passed pick the verdict.
+use mathlib.Core.Path.{sym, _∙_}
 use borrow.Author.Tests.{not-true, not-false}
-use mathlib.Core.Path.{_≡_, refl, sym, ap, ap₂, subst, _∙_}
 use borrow.Author.Needs.{needs}
+use Rattle.model.proofs.Rotate.{rotate-argument, rotate-record, rotate-last-id, rotate-last-count, rotate-pass}
 use Rattle.logbuffer.proofs.log_buffer_descriptor.rotate_verdict.Statement.{statement}
 use Rattle.logbuffer.proofs.log_buffer_descriptor.rotate_verdict.Tie as tie
-use Rattle.logbuffer.proofs.log_buffer_descriptor.rotate_verdict.Reads as reads
-use Rattle.logbuffer.proofs.log_buffer_descriptor.rotate_verdict.Lts as lts
-use Rattle.logbuffer.proofs.log_buffer_descriptor.is_sound_record.Reads as is-sound-record-reads
 
--- src/log_buffer_descriptor.rt:181:9
 returns : tie.Need-returns
 returns c = rotate-argument _ _ _ (c .if1 .taken)
 
--- src/log_buffer_descriptor.rt:183:9
 is-sound-record-requires : tie.Need-is-sound-record-requires
 is-sound-record-requires c κs = search needs
 
--- src/log_buffer_descriptor.rt:184:9
 returns-2 : tie.Need-returns-2
 returns-2 c = rotate-record _ _ _ (c .before .before .if1 .left) (sym (c .before .is-sound-record .ensures) ∙ not-true _ (c .if2 .taken))
 
--- src/log_buffer_descriptor.rt:187:9
 returns-3 : tie.Need-returns-3
 returns-3 c = rotate-last-id _ _ _ (c .before .before .before .if1 .left) (sym (c .before .before .is-sound-record .ensures) ∙ not-false _ (c .before .if2 .left)) (c .if3 .taken)
 
--- src/log_buffer_descriptor.rt:190:9
 returns-4 : tie.Need-returns-4
 returns-4 c = rotate-last-count _ _ _ (c .before .before .before .before .if1 .left) (sym (c .before .before .before .is-sound-record .ensures) ∙ not-false _ (c .before .before .if2 .left)) (c .before .if3 .left) (c .if4 .taken)
 
--- src/log_buffer_descriptor.rt:177:1
 returns-5 : tie.Need-returns-5
 returns-5 c = rotate-pass _ _ _ (c .before .before .before .before .if1 .left) (sym (c .before .before .before .is-sound-record .ensures) ∙ not-false _ (c .before .before .if2 .left)) (c .before .if3 .left) (c .if4 .left)
 

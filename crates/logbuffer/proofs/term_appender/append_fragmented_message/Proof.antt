@@ -1,25 +1,20 @@
-use mathlib.Core.Path.{_≡_, refl, sym, ap, ap₂, subst, _∙_}
-use mathlib.Core.Bool.{true, false}
-use Prim.Native.Nat.{ℕ, _≤_, _<_}
+-- Row 1, and then `append_message`.
+use mathlib.Core.Path.{_≡_, sym, ap, ap₂, _∙_}
+use Prim.Native.Nat.{ℕ}
 use native.Mathlib.Omega.{arith}
 use borrow.Author.Tests.{not-true, not-false}
+use borrow.Author.Needs.{needs}
 use lib.ListN.{length}
 use lib.IntN.{ℤ}
 use mir.Syntax.{w32, w64}
 use mir.Val.{ofZ}
 use mir.Facts.{toZ-ofZ}
-use Rattle.model.specs.Bytes.{word, long}
+use Rattle.model.specs.Bytes.{word}
 use Rattle.model.specs.LogBufferDescriptor.{biased}
 use Rattle.model.specs.TermAppender.{goodFragments}
 use Rattle.model.proofs.Append.{Fragments, fragments-true, fragmented-does, fragmented-no}
-use borrow.Author.Needs.{needs}
 use Rattle.logbuffer.proofs.term_appender.append_fragmented_message.Statement.{statement}
 use Rattle.logbuffer.proofs.term_appender.append_fragmented_message.Tie as tie
-use Rattle.logbuffer.proofs.term_appender.append_fragmented_message.Reads as reads
-use Rattle.logbuffer.proofs.term_appender.append_fragmented_message.Lts as lts
-use Rattle.logbuffer.proofs.cast.word.Reads as word-reads
-use Rattle.logbuffer.proofs.term_appender.append_message.Reads as append-message-reads
-use Rattle.logbuffer.proofs.term_appender.good_fragments.Reads as good-fragments-reads
 
 part : (c : tie.After-word) → c .word .result ≡ word (c .before .before .before .args .partition)
 part c = c .word .ensures .0 ∙ ap (ofZ w32) (toZ-ofZ (c .before .before .before .fits .partition))
@@ -30,33 +25,26 @@ limit c = c .word2 .ensures .0 ∙ ap (ofZ w32) (toZ-ofZ (c .before .before .bef
 good : (c : tie.Else1) → Fragments (c .before .before .before .word .result) (length (c .before .before .before .before .before .before .args .message .now)) (c .before .before .word2 .result)
 good c = fragments-true _ _ _ (sym (c .before .good-fragments .ensures) ∙ not-false _ (c .if1 .left))
 
--- src/term_appender.rt:191:9
 word-requires : tie.Need-word-requires
 word-requires c κs = search needs
 
--- src/term_appender.rt:192:9
 word-requires-2 : tie.Need-word-requires-2
 word-requires-2 c κs = search needs
 
--- src/term_appender.rt:193:9
 good-fragments-requires : tie.Need-good-fragments-requires
 good-fragments-requires c κs = search needs
 
--- src/term_appender.rt:194:9
 returns : tie.Need-returns
 returns c = let a = c .before .before .before .before .before .before .args in
     fragmented-no (a .rec) (a .log .now) (a .message .now) (a .partition) (a .reserved) (a .payload) (a .term-id)
     (ap₂ (λ (k p : ℕ). goodFragments k (length (a .message .now)) p) (sym (part (c .before .before .before))) (sym (limit (c .before .before))) ∙ sym (c .before .good-fragments .ensures) ∙ not-true _ (c .if1 .taken))
 
--- src/term_appender.rt:196:5
 append-message-requires : tie.Need-append-message-requires
 append-message-requires c κs = let g = good (c .before) in (g .part, (g .low, (omega (arith, g .high), (g .multiple, g .whole))))
 
--- src/term_appender.rt:187:1
 same-length : tie.Need-same-length
 same-length c = search needs
 
--- src/term_appender.rt:187:1
 returns-2 : tie.Need-returns-2
 returns-2 c = let s = c .before .before .before .before .before .before .before .before .before .before in
     let a = s .args in

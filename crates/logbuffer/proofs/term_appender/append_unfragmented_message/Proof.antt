@@ -1,25 +1,20 @@
-use mathlib.Core.Path.{_≡_, refl, sym, ap, ap₂, subst, _∙_}
-use mathlib.Core.Bool.{true, false}
-use Prim.Native.Nat.{ℕ, _≤_, _<_}
+-- Row 1, and then `append_message` with a payload limit above every message.
+use mathlib.Core.Path.{_≡_, sym, ap, _∙_}
+use Prim.Native.Nat.{ℕ, _≤_}
 use native.Mathlib.Omega.{arith}
 use borrow.Author.Tests.{not-true, not-false}
+use borrow.Author.Needs.{needs}
 use lib.ListN.{length}
 use lib.IntN.{ℤ}
 use mir.Syntax.{w32, w64}
 use mir.Val.{ofZ}
 use mir.Facts.{toZ-ofZ}
-use Rattle.model.specs.Bytes.{word, long}
+use Rattle.model.specs.Bytes.{word}
 use Rattle.model.specs.LogBufferDescriptor.{biased}
 use Rattle.model.specs.TermAppender.{goodMessage}
 use Rattle.model.proofs.Append.{message-true, unfragmented-does, unfragmented-no}
-use borrow.Author.Needs.{needs}
 use Rattle.logbuffer.proofs.term_appender.append_unfragmented_message.Statement.{statement}
 use Rattle.logbuffer.proofs.term_appender.append_unfragmented_message.Tie as tie
-use Rattle.logbuffer.proofs.term_appender.append_unfragmented_message.Reads as reads
-use Rattle.logbuffer.proofs.term_appender.append_unfragmented_message.Lts as lts
-use Rattle.logbuffer.proofs.cast.word.Reads as word-reads
-use Rattle.logbuffer.proofs.term_appender.append_message.Reads as append-message-reads
-use Rattle.logbuffer.proofs.term_appender.good_message.Reads as good-message-reads
 
 part : (c : tie.After-word) → c .word .result ≡ word (c .before .before .before .args .partition)
 part c = c .word .ensures .0 ∙ ap (ofZ w32) (toZ-ofZ (c .before .before .before .fits .partition))
@@ -27,28 +22,22 @@ part c = c .word .ensures .0 ∙ ap (ofZ w32) (toZ-ofZ (c .before .before .befor
 good : (c : tie.Else1) → (c .before .before .word .result ≤ 2) × (length (c .before .before .before .before .before .args .message .now) ≤ 2147483647)
 good c = message-true _ _ (sym (c .before .good-message .ensures) ∙ not-false _ (c .if1 .left))
 
--- src/term_appender.rt:179:9
 word-requires : tie.Need-word-requires
 word-requires c κs = search needs
 
--- src/term_appender.rt:180:9
 good-message-requires : tie.Need-good-message-requires
 good-message-requires c κs = search needs
 
--- src/term_appender.rt:181:9
 returns : tie.Need-returns
 returns c = let a = c .before .before .before .before .before .args in
     unfragmented-no (a .rec) (a .log .now) (a .message .now) (a .partition) (a .reserved) (a .term-id) (ap (λ (k : ℕ). goodMessage k (length (a .message .now))) (sym (part (c .before .before))) ∙ sym (c .before .good-message .ensures) ∙ not-true _ (c .if1 .taken))
 
--- src/term_appender.rt:183:5
 append-message-requires : tie.Need-append-message-requires
 append-message-requires c κs = let g = good (c .before) in omega (arith, g)
 
--- src/term_appender.rt:175:1
 same-length : tie.Need-same-length
 same-length c = search needs
 
--- src/term_appender.rt:175:1
 returns-2 : tie.Need-returns-2
 returns-2 c = let s = c .before .before .before .before .before .before .before .before .before in
     let a = s .args in

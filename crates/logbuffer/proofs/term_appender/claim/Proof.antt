@@ -1,14 +1,14 @@
+-- Row 1, and then the parts' promises, joined by one law over the numbers that the code has.
 use mathlib.Core.Path.{_≡_, refl, sym, ap, ap₂, subst, _∙_}
-use mathlib.Core.Bool.{true, false}
 use Prim.Native.Nat.{ℕ, _≤_, _<_}
-use native.Mathlib.Omega.{arith}
 use borrow.Author.Tests.{not-true, not-false}
+use borrow.Author.Needs.{needs}
 use lib.ListN.{length}
 use lib.IntN.{ℤ}
-use mir.Syntax.{w32, w64}
+use mir.Syntax.{w32}
 use mir.Val.{ofZ}
 use mir.Facts.{toZ-ofZ}
-use Rattle.model.specs.Bytes.{word, long}
+use Rattle.model.specs.Bytes.{word}
 use Rattle.model.specs.LogBufferDescriptor.{biased}
 use Rattle.model.specs.declared.Reading.{Reading}
 use Rattle.model.specs.FrameDescriptor.{space}
@@ -16,17 +16,8 @@ use Rattle.model.specs.TermAppender.{goodMessage}
 use Rattle.model.proofs.Sound.{id-small}
 use Rattle.model.proofs.Append.{Room, course-room, message-true, claim-does, claim-no}
 use Rattle.logbuffer.proofs.Appending.{claim-is}
-use borrow.Author.Needs.{needs}
 use Rattle.logbuffer.proofs.term_appender.claim.Statement.{statement}
 use Rattle.logbuffer.proofs.term_appender.claim.Tie as tie
-use Rattle.logbuffer.proofs.term_appender.claim.Reads as reads
-use Rattle.logbuffer.proofs.term_appender.claim.Lts as lts
-use Rattle.logbuffer.proofs.cast.word.Reads as word-reads
-use Rattle.logbuffer.proofs.log_buffer_descriptor.read.Reads as read-reads
-use Rattle.logbuffer.proofs.term_appender.biased_id.Reads as biased-id-reads
-use Rattle.logbuffer.proofs.term_appender.claim_frame.Reads as claim-frame-reads
-use Rattle.logbuffer.proofs.term_appender.claim_reply.Reads as claim-reply-reads
-use Rattle.logbuffer.proofs.term_appender.good_message.Reads as good-message-reads
 
 part : (c : tie.After-word) → c .word .result ≡ word (c .before .before .args .partition)
 part c = c .word .ensures .0 ∙ ap (ofZ w32) (toZ-ofZ (c .before .before .fits .partition))
@@ -40,44 +31,34 @@ good c = message-true _ _ (sym (c .before .good-message .ensures) ∙ not-false 
 id-in : (c : tie.After-read) → c .read .result .id < 4294967296
 id-in c = subst (λ (v : Reading). v .id < 4294967296) (sym (c .read .ensures)) (id-small _ _)
 
--- src/term_appender.rt:258:9
 word-requires : tie.Need-word-requires
 word-requires c κs = search needs
 
--- src/term_appender.rt:259:9
 word-requires-2 : tie.Need-word-requires-2
 word-requires-2 c κs = search needs
 
--- src/term_appender.rt:260:9
 good-message-requires : tie.Need-good-message-requires
 good-message-requires c κs = search needs
 
--- src/term_appender.rt:261:9
 returns : tie.Need-returns
 returns c = let a = c .before .before .before .before .before .args in
     claim-no (a .rec) (a .log .now) (a .partition) (a .length) (a .term-id) (ap₂ (λ (k n : ℕ). goodMessage k n) (sym (part (c .before .before .before))) (sym (asked (c .before .before))) ∙ sym (c .before .good-message .ensures) ∙ not-true _ (c .if1 .taken))
 
--- src/term_appender.rt:263:9
 read-requires : tie.Need-read-requires
 read-requires c κs = search needs
 
--- src/term_appender.rt:264:41
 biased-id-requires : tie.Need-biased-id-requires
 biased-id-requires c κs = search needs
 
--- src/term_appender.rt:264:9
 claim-frame-requires : tie.Need-claim-frame-requires
 claim-frame-requires c κs = let g = good (c .before .before .before) in (g .0, (id-in (c .before .before), g .1))
 
--- src/term_appender.rt:265:5
 claim-reply-requires : tie.Need-claim-reply-requires
 claim-reply-requires c κs = let g = good (c .before .before .before .before .before .before) in (g .0, (id-in (c .before .before .before .before .before), (g .1, subst (Room (c .before .before .before .before .before .read .result) (space (c .before .before .before .before .before .before .before .before .word2 .result))) (sym (c .before .before .claim-frame .ensures .0)) (course-room _ _ _ _))))
 
--- src/term_appender.rt:254:1
 same-length : tie.Need-same-length
 same-length c = search needs
 
--- src/term_appender.rt:254:1
 returns-2 : tie.Need-returns-2
 returns-2 c = let s = c .before .before .before .before .before .before .before .before .before .before .before .before in
     let a = s .args in

@@ -1,20 +1,16 @@
-use mathlib.Core.Path.{_≡_, refl, sym, ap, _∙_}
-use Prim.Native.Nat.{ℕ, _+_, _*_, _≤_, _<_}
-use native.Mathlib.Omega.{arith}
+-- Where the claim fits, the log is as it was and has the room; else what began it is all.
+use mathlib.Core.Path.{_≡_, sym, ap, _∙_}
 use mathlib.Core.List.{List}
+use Prim.Native.Nat.{ℕ, _+_, _*_, _≤_}
+use native.Mathlib.Omega.{arith}
+use borrow.Author.Needs.{needs}
 use lib.ListN.{length}
-use Rattle.model.specs.declared.Course.the-variants.{Fit}
 use Rattle.model.specs.LogBufferDescriptor.{Sound}
 use Rattle.model.specs.FrameDescriptor.{space}
-use Rattle.model.specs.TermAppender.{written, cut, claimed, course, bytesBy}
+use Rattle.model.specs.TermAppender.{claimed, bytesBy}
 use Rattle.logbuffer.proofs.Appending.{no-fit, fits}
-use borrow.Author.Needs.{needs}
 use Rattle.logbuffer.proofs.term_appender.claim_frame.Statement.{statement}
 use Rattle.logbuffer.proofs.term_appender.claim_frame.Tie as tie
-use Rattle.logbuffer.proofs.term_appender.claim_frame.Reads as reads
-use Rattle.logbuffer.proofs.term_appender.claim_frame.Lts as lts
-use Rattle.logbuffer.proofs.header.write_claim.Reads as write-claim-reads
-use Rattle.logbuffer.proofs.term_appender.begin_append.Reads as begin-append-reads
 
 -- an append that fits: the log is as it was, and its partition has the room
 fit : (c : tie.After-enum-told) → (let s = c .before .before .before .before .before .before .before .args in
@@ -23,51 +19,40 @@ fit c = let s = c .before .before .before .before .before .before .before in
     fits (s .args .v) (s .args .k) (s .args .log .now) (c .before .before .before .before .begin-append .last .1 .0) (space (s .args .n)) (s .args .given)
     (sym (c .enum-told .given .1) ∙ c .before .before .before .before .begin-append .ensures .0) (c .before .before .before .before .begin-append .ensures .1) (s .pre .0)
 
--- src/term_appender.rt:227:40
 add-begin-append : tie.Need-add-begin-append
 add-begin-append c = search needs
 
--- src/term_appender.rt:227:40
 add-begin-append-2 : tie.Need-add-begin-append-2
 add-begin-append-2 c = search needs
 
--- src/term_appender.rt:227:39
 mul-begin-append : tie.Need-mul-begin-append
 mul-begin-append c = search needs
 
--- src/term_appender.rt:227:9
 begin-append-requires : tie.Need-begin-append-requires
 begin-append-requires c κs = search needs
 
--- src/term_appender.rt:230:29
 enum-told : tie.Need-enum-told
 enum-told c = search needs
 
--- src/term_appender.rt:230:34
 mul-write-claim : tie.Need-mul-write-claim
 mul-write-claim c = let f = fit (c .before) in omega (arith, f .1)
 
--- src/term_appender.rt:230:9
 write-claim-requires : tie.Need-write-claim-requires
 write-claim-requires c κs = let f = fit (c .before) in let s = c .before .before .before .before .before .before .before .before in
     (omega (arith, f .1 .1, ap length (f .0)), (s .pre .1 .0, s .pre .1 .1))
 
--- src/term_appender.rt:222:1
 same-length : tie.Need-same-length
 same-length c = search needs
 
--- src/term_appender.rt:222:1
 returns : tie.Need-returns
 returns c = let s = c .before .before .before .before .before .before .before .before .before .before .before .args in
     let f = fit (c .before .before .before .before) in
     let made : List ℕ → List ℕ = λ l. claimed (s .v) l (s .k * s .v .term) (s .n) in
     (c .before .before .before .before .before .before .before .before .begin-append .ensures .0, c .before .before .write-claim .ensures ∙ ap made (f .0) ∙ ap (bytesBy (s .v) (s .k) (s .log .now) (made (s .log .now))) (sym (c .before .before .before .before .enum-told .given .1) ∙ c .before .before .before .before .before .before .before .before .begin-append .ensures .0))
 
--- src/term_appender.rt:222:1
 same-length-2 : tie.Need-same-length-2
 same-length-2 c = search needs
 
--- src/term_appender.rt:222:1
 returns-2 : tie.Need-returns-2
 returns-2 c = let s = c .before .before .before .before .before .before .args in
     let b = c .before .before .before .begin-append in

@@ -1,40 +1,31 @@
-use Rattle.logbuffer.proofs.Appending.{claim-record-is}
-use mir.Facts.{toZ-ofZ, toZ-pos}
-use mir.Syntax.{w32}
-use mathlib.Core.Path.{_≡_, refl, sym, ap, ap₂, subst, _∙_}
+-- Numbers that fit are the numbers of their bits.
+use mathlib.Core.Path.{_∙_}
 use native.Mathlib.Omega.{arith}
 use borrow.Author.Needs.{needs}
+use mir.Facts.{toZ-ofZ, toZ-pos}
+use mir.Syntax.{w32}
+use Rattle.logbuffer.proofs.Appending.{claim-record-is}
 use Rattle.logbuffer.proofs.term_appender.claim_record.Statement.{statement}
 use Rattle.logbuffer.proofs.term_appender.claim_record.Tie as tie
-use Rattle.logbuffer.proofs.term_appender.claim_record.Reads as reads
-use Rattle.logbuffer.proofs.term_appender.claim_record.Lts as lts
-use Rattle.logbuffer.proofs.cast.to_i32.Reads as to-i32-reads
 
--- src/term_appender.rt:207:20
 cast-t4 : tie.Need-cast-t4
 cast-t4 c = search needs
 
--- src/term_appender.rt:208:17
 cast-t5 : tie.Need-cast-t5
 cast-t5 c = search needs
 
--- src/term_appender.rt:209:18
 add-t6 : tie.Need-add-t6
 add-t6 c = search needs
 
--- src/term_appender.rt:209:17
 cast-t7 : tie.Need-cast-t7
 cast-t7 c = search needs
 
--- src/term_appender.rt:210:32
 add-to-i32 : tie.Need-add-to-i32
 add-to-i32 c = omega arith
 
--- src/term_appender.rt:210:18
 to-i32-requires : tie.Need-to-i32-requires
 to-i32-requires c κs = search needs
 
--- src/term_appender.rt:202:1
 returns : tie.Need-returns
 returns c = let s = c .before .before .before .args in
     claim-record-is (s .v) (s .k) (s .n) _ _ _ _ (toZ-pos w32 (omega arith)) (toZ-pos w32 (omega arith)) (toZ-pos w32 (omega arith)) (toZ-ofZ {w = w32} {z = c .to-i32 .result} (search needs) ∙ c .to-i32 .ensures)

@@ -1,75 +1,57 @@
-use Rattle.model.proofs.Append.{Room}
+-- Case by case on the way.
+use mathlib.Core.Path.{subst}
 use Prim.Native.Nat.{_+_, _≤_}
-use Rattle.model.specs.FrameDescriptor.{space}
-use Rattle.model.specs.declared.Course.the-variants.{Fit}
-use Rattle.logbuffer.proofs.Appending.{claim-refused, claim-stray, claim-trip, claim-fit}
-use mathlib.Core.Path.{_≡_, refl, sym, ap, ap₂, subst, _∙_}
 use native.Mathlib.Omega.{arith}
 use borrow.Author.Needs.{needs}
+use Rattle.model.specs.FrameDescriptor.{space}
+use Rattle.model.proofs.Append.{Room}
+use Rattle.logbuffer.proofs.Appending.{claim-refused, claim-stray, claim-trip, claim-fit}
 use Rattle.logbuffer.proofs.term_appender.claim_reply.Statement.{statement}
 use Rattle.logbuffer.proofs.term_appender.claim_reply.Tie as tie
-use Rattle.logbuffer.proofs.term_appender.claim_reply.Reads as reads
-use Rattle.logbuffer.proofs.term_appender.claim_reply.Lts as lts
-use Rattle.logbuffer.proofs.term_appender.claim_record.Reads as claim-record-reads
-use Rattle.logbuffer.proofs.term_appender.moved.Reads as moved-reads
 
--- src/term_appender.rt:240:19
 add-needed : tie.Need-add-needed
 add-needed c = search needs
 
--- src/term_appender.rt:240:19
 add-needed-2 : tie.Need-add-needed-2
 add-needed-2 c = search needs
 
--- src/term_appender.rt:240:18
 mul-needed : tie.Need-mul-needed
 mul-needed c = search needs
 
--- src/term_appender.rt:241:9
 moved-requires : tie.Need-moved-requires
 moved-requires c κs = search needs
 
--- src/term_appender.rt:243:24
 enum-known-way : tie.Need-enum-known-way
 enum-known-way c = search needs
 
--- src/term_appender.rt:244:88
 enum-told : tie.Need-enum-told
 enum-told c = search needs
 
--- src/term_appender.rt:245:64
 enum-told-2 : tie.Need-enum-told-2
 enum-told-2 c = search needs
 
--- src/term_appender.rt:247:17
 enum-told-3 : tie.Need-enum-told-3
 enum-told-3 c = search needs
 
--- src/term_appender.rt:247:17
 claim-record-requires : tie.Need-claim-record-requires
 claim-record-requires c κs = let s = c .before .before .before in
     let r : s .args .v .offset + space (s .args .n) ≤ 2147483647 = subst (Room (s .args .v) (space (s .args .n))) (c .enum-told3 .given .1) (s .pre .1 .1 .1) in
     (s .pre .0, (s .pre .1 .0, (omega arith, omega arith)))
 
--- src/term_appender.rt:248:75
 add-t18 : tie.Need-add-t18
 add-t18 c = let s = c .before .before .before .before .before in
     let r : s .args .v .offset + space (s .args .n) ≤ 2147483647 = subst (Room (s .args .v) (space (s .args .n))) (c .before .before .enum-told3 .given .1) (s .pre .1 .1 .1) in
     omega arith
 
--- src/term_appender.rt:236:1
 returns : tie.Need-returns
 returns c = let s = c .before .before .before .before .args in claim-refused (s .rec) _ (s .v) (s .k) (s .n) (s .way) (c .before .before .before .moved .ensures) _ (c .before .way .given .1)
 
--- src/term_appender.rt:236:1
 returns-2 : tie.Need-returns-2
 returns-2 c = let s = c .before .before .before .args in claim-stray (s .rec) _ (s .v) (s .k) (s .n) (s .way) (c .before .before .moved .ensures) (c .enum-told .given .1)
 
--- src/term_appender.rt:236:1
 returns-3 : tie.Need-returns-3
 returns-3 c = let s = c .before .before .before .args in claim-trip (s .rec) _ (s .v) (s .k) (s .n) (s .way) (c .before .before .moved .ensures) (c .enum-told2 .given .1)
 
--- src/term_appender.rt:236:1
 returns-4 : tie.Need-returns-4
 returns-4 c = let s = c .before .before .before .before .before .args in claim-fit (s .rec) _ (s .v) (s .k) (s .n) (s .way) (c .before .before .before .before .moved .ensures) _ (c .before .before .enum-told3 .given .1) (c .before .claim-record .ensures)
 

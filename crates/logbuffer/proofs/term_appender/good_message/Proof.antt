@@ -1,14 +1,11 @@
+-- A test that fails settles the conjunction.
 use borrow.Author.Tests.{le-leb, lt-leb}
 use Rattle.logbuffer.proofs.term_appender.good_message.Statement.{statement}
 use Rattle.logbuffer.proofs.term_appender.good_message.Tie as tie
-use Rattle.logbuffer.proofs.term_appender.good_message.Reads as reads
-use Rattle.logbuffer.proofs.term_appender.good_message.Lts as lts
 
--- src/term_appender.rt:29:9
 returns : tie.Need-returns
 returns c = simp (lt-leb _ _ (c .if1 .taken))
 
--- src/term_appender.rt:25:1
 returns-2 : tie.Need-returns-2
 returns-2 c = simp (le-leb _ _ (c .if1 .left))
 

@@ -1,20 +1,16 @@
--- The writer at entry on the whole message is the writer now on what is left of it: that is `Left`. A turn takes one frame off, and the
--- last frame ends it.
-use native.Mathlib.Omega.{arith}
-use mathlib.Core.Path.{_≡_, refl, sym, ap, ap₂, subst, _∙_}
-use Prim.Native.Nat.{ℕ, _+_, _-_, _*_, _/_, _≤_, _<_}
+-- The writer at entry on the whole message is the writer now on what is left of it: that is `Left`. A turn takes one fragment off, and the
+-- last one ends it.
+use mathlib.Core.Path.{_≡_, refl, sym, ap, subst, _∙_}
 use mathlib.Core.List.{List}
+use Prim.Native.Nat.{ℕ, _+_, _-_, _*_, _/_, _≤_}
+use native.Mathlib.Omega.{arith}
 use lib.ListN.{length, take, drop, length-drop}
 use lib.Seq.{take-all, drop-drop}
-use Rattle.model.specs.declared.Reading.{Reading}
 use Rattle.model.specs.Bytes.{splice}
 use Rattle.model.specs.TermAppender.{fragment, fragmentBytes, written, cut}
 use Rattle.model.proofs.Cut.{Left, need-is, left-all, left-more, left-last}
 use Rattle.logbuffer.proofs.term_appender.write_fragments.Statement.{statement}
 use Rattle.logbuffer.proofs.term_appender.write_fragments.Tie as tie
-use Rattle.logbuffer.proofs.term_appender.write_fragments.Reads as reads
-use Rattle.logbuffer.proofs.term_appender.write_fragments.Lts as lts
-use Rattle.logbuffer.proofs.header.write_fragment.Reads as write-fragment-reads
 
 abbrev Inv-loop : tie.InvT-loop
 Inv-loop log₀ base v payload reserved message n offset₀ at₀ flags₀ log offset at flags =
@@ -23,11 +19,9 @@ Inv-loop log₀ base v payload reserved message n offset₀ at₀ flags₀ log o
 abbrev μ-loop : tie.MeasureT-loop
 μ-loop log₀ base v payload reserved message n offset₀ at₀ flags₀ log offset at flags = length message - at
 
--- src/term_appender.rt:66:5
 loop-holds : tie.Need-loop-holds Inv-loop μ-loop
 loop-holds c = let s = c .before .before in (omega arith, (refl, (omega arith, left-all (s .args .v) (s .args .log .now) (s .args .base) (s .args .payload) (s .args .reserved) (s .args .message .now) (omega (arith, s .pre .1 .1 .1 .1, need-is (s .args .payload) (s .args .reserved) (s .args .message .now) (omega arith) (s .pre .1 .1 .1 .0))))))
 
--- src/term_appender.rt:66:11
 sub-loop : tie.Need-sub-loop Inv-loop μ-loop
 sub-loop c = omega arith
 
@@ -52,31 +46,24 @@ ended c =
     let s = c .before .before .before .before .args in
     left-last (s .v) (l .log) (s .base) (l .offset) (s .payload) (l .flags) (s .reserved) (drop (l .at) (s .message .now)) _ (l .inv .1 .1 .1) (omega (arith, length-drop (l .at) (s .message .now)))
 
--- src/term_appender.rt:67:34
 add-write-fragment : tie.Need-add-write-fragment Inv-loop μ-loop
 add-write-fragment c = let r = turn (c .before) .1 in omega arith
 
--- src/term_appender.rt:67:9
 write-fragment-requires : tie.Need-write-fragment-requires Inv-loop μ-loop
 write-fragment-requires c κs = let r = turn (c .before) .1 in let l = c .before .before .loop in let s = c .before .before .before .before .before in (omega (arith, l .inv .1 .0), (omega arith, (s .pre .1 .0, omega arith)))
 
--- src/term_appender.rt:68:14
 add-at : tie.Need-add-at Inv-loop μ-loop
 add-at c = omega arith
 
--- src/term_appender.rt:69:28
 add-offset : tie.Need-add-offset Inv-loop μ-loop
 add-offset c = let r = turn (c .before .before .before .before) .1 in omega arith
 
--- src/term_appender.rt:69:18
 add-offset-2 : tie.Need-add-offset-2 Inv-loop μ-loop
 add-offset-2 c = let r = turn (c .before .before .before .before) .1 in omega arith
 
--- src/term_appender.rt:66:5
 loop-less : tie.Need-loop-less Inv-loop μ-loop
 loop-less c = omega arith
 
--- src/term_appender.rt:66:5
 loop-again : tie.Need-loop-again Inv-loop μ-loop
 loop-again c = let l = c .before .before .before .before .before .loop in
     let s = c .before .before .before .before .before .before .before .before .args in
@@ -95,27 +82,21 @@ loop-again c = let l = c .before .before .before .before .before .loop in
       ),
     )
 
--- src/term_appender.rt:72:30
 add-write-fragment-2 : tie.Need-add-write-fragment-2 Inv-loop μ-loop
 add-write-fragment-2 c = let r = ended (c .before) .1 in omega arith
 
--- src/term_appender.rt:72:56
 add-write-fragment-3 : tie.Need-add-write-fragment-3 Inv-loop μ-loop
 add-write-fragment-3 c = let r = ended (c .before) .1 in omega arith
 
--- src/term_appender.rt:72:91
 sub-write-fragment : tie.Need-sub-write-fragment Inv-loop μ-loop
 sub-write-fragment c = omega arith
 
--- src/term_appender.rt:72:5
 write-fragment-requires-2 : tie.Need-write-fragment-requires-2 Inv-loop μ-loop
 write-fragment-requires-2 c κs = let r = ended (c .before) .1 in let l = c .before .before .loop in let s = c .before .before .before .before .before in (omega (arith, l .inv .1 .0, length-drop (l .at) (s .args .message .now)), (omega arith, (s .pre .1 .0, omega arith)))
 
--- src/term_appender.rt:58:1
 same-length : tie.Need-same-length Inv-loop μ-loop
 same-length c = c .before .before .write-fragment2 .kept .0 ∙ c .before .before .before .before .before .loop .inv .1 .0
 
--- src/term_appender.rt:58:1
 returns : tie.Need-returns Inv-loop μ-loop
 returns c = let l = c .before .before .before .before .before .loop in
     let s = c .before .before .before .before .before .before .before .before .args in
