@@ -25,10 +25,6 @@ not-negative z f h = go z f (ap (λ (x : ℤ). ltZ x (pos 0)) (sym (toZ-ofZ f)) 
     go (pos n) f t = omega arith
     go (negsuc n) f t = absurd (let z : _≡_ {A = ℕ} 0 1 = cc in omega arith)
 
--- the bits of a number that went through a signed argument
-pub bits32 : {n : ℕ} (z : ℤ) → n ≡ ofZ w32 (toZ w32 (ofZ w32 z)) → SFits w32 z → n ≡ ofZ w32 z
-bits32 z e f = e ∙ ap (ofZ w32) (toZ-ofZ f)
-
 -- bits made a signed number, passed on, and taken as bits again
 pub back32 : (z : ℤ) (u v : ℕ) → z ≡ toZ w32 u → u ≡ v → u < 4294967296 → ofZ w32 (toZ w32 (ofZ w32 z)) ≡ v
 back32 z u v e q h =

@@ -1,20 +1,11 @@
-// The record as readers see it, and what row 1 asks of a reader's numbers.
+// What row 1 asks of a reader's numbers.
 ghost use mathlib.Core.Path.{_≡_};
 ghost use mathlib.Core.Bool.{_&&_};
 ghost use Prim.Native.Nat.{_<_};
-ghost use Rattle.model.specs.LogBufferDescriptor.{reading, withinTerm, goodPartition, goodOffset};
+ghost use Rattle.model.specs.LogBufferDescriptor.{withinTerm, goodPartition, goodOffset};
 ghost use Rattle.model.specs.TermReader.{natural as naturalOf};
 use crate::cast;
-use crate::log_buffer_descriptor;
-use model::LogRecord;
 use model::Reading;
-
-// The record's numbers, with the active partition's tail.
-pub fn read_active(rec: LogRecord) -> Reading
-    ensures { λ r. ⌜ r ≡ reading rec ⌝ }
-{
-    log_buffer_descriptor::read(rec, cast::word(rec.active_term_count) % 3)
-}
 
 // A limit; one below 0 is 0.
 pub fn natural(limit: i32) -> usize

@@ -138,7 +138,7 @@ fn fields_at(v: Reading, log: &[u8], index: usize, at: usize) -> HeaderFields
 pub fn fields(rec: LogRecord, log: &[u8], partition: i32, offset: i32) -> HeaderRead
     ensures { λ r. ⌜ r ≡ headerCall rec (now (log .entry)) partition offset ⌝ }
 {
-    let v = argument::read_active(rec);
+    let v = log_buffer_descriptor::read_active(rec);
     let k = cast::word(partition);
     let at = cast::word(offset);
     if !argument::good_place(k, at, v) {

@@ -198,7 +198,7 @@ pub fn read(
     ensures { λ r. ⌜ r ≡ readOf rec (now (log .entry)) partition offset limit (now (entries .entry)) ⌝ }
     ensures { λ _. ⌜ now (entries .exit) ≡ readEntries rec (now (log .entry)) partition offset limit (now (entries .entry)) ⌝ }
 {
-    let v = argument::read_active(rec);
+    let v = log_buffer_descriptor::read_active(rec);
     let k = cast::word(partition);
     let at = cast::word(offset);
     let most = argument::natural(limit);
@@ -241,7 +241,7 @@ fn good_view(v: Reading, k: usize, at: usize, size: usize) -> bool
 pub fn view_span(rec: LogRecord, log: &[u8], partition: i32, offset: i32, length: i32) -> Located
     ensures { λ r. ⌜ r ≡ viewOf rec (now (log .entry)) partition offset length ⌝ }
 {
-    let v = argument::read_active(rec);
+    let v = log_buffer_descriptor::read_active(rec);
     let k = cast::word(partition);
     let at = cast::word(offset);
     let size = cast::word(length);

@@ -77,7 +77,7 @@ fn good_scan(k: usize, at: usize, limit: usize, v: Reading) -> bool
 pub fn scan(rec: LogRecord, log: &[u8], partition: i32, offset: i32, limit: i32) -> Scanned
     ensures { λ r. ⌜ r ≡ scanOf rec (now (log .entry)) partition offset limit ⌝ }
 {
-    let v = argument::read_active(rec);
+    let v = log_buffer_descriptor::read_active(rec);
     let k = cast::word(partition);
     let at = cast::word(offset);
     let most = argument::natural(limit);
@@ -180,7 +180,7 @@ pub fn scan_for_gap(
 ) -> GapScanned
     ensures { λ r. ⌜ r ≡ gapOf rec (now (log .entry)) partition «term_id» offset high ⌝ }
 {
-    let v = argument::read_active(rec);
+    let v = log_buffer_descriptor::read_active(rec);
     let k = cast::word(partition);
     let at = cast::word(offset);
     let mark = cast::word(high);
@@ -270,7 +270,7 @@ pub fn scan_for_availability(
 ) -> AvailabilityScanned
     ensures { λ r. ⌜ r ≡ availabilityOf rec (now (log .entry)) partition offset maximum ⌝ }
 {
-    let v = argument::read_active(rec);
+    let v = log_buffer_descriptor::read_active(rec);
     let k = cast::word(partition);
     let at = cast::word(offset);
     let most = argument::natural(maximum);

@@ -3,12 +3,12 @@ use mathlib.Core.Path.{_≡_, refl, sym, ap, _∙_}
 use mathlib.Core.Bool.{Bool, true, false, cond, _&&_}
 use Prim.Native.Nat.{ℕ, _+_, _-_, _*_, _/_, _%_, _≤_, _<_}
 use native.Mathlib.Omega.{arith}
-use native.Mathlib.Nat.{mul-le-mul-right}
 use borrow.Author.Tests.{leb-true, eqb-true}
 use lib.Dec.{eqb, leb}
 use Rattle.model.specs.declared.Reading.{Reading}
 use Rattle.model.specs.LogBufferDescriptor.{sound, Sound, goodPartition, goodOffset, withinTerm}
 use Rattle.model.proofs.Sound.{sound-true, term-32}
+use Rattle.model.proofs.Append.{base-in}
 use Rattle.model.proofs.ReaderLaws.{and-true}
 
 pub record Placed (v : Reading) (n k at : ℕ) : Type 0 where
@@ -22,7 +22,7 @@ pub record Placed (v : Reading) (n k at : ℕ) : Type 0 where
 
 -- a partition of a sound log lies in it
 pub part-in : (v : Reading) (n k : ℕ) → Sound v n → k ≤ 2 → k * v .term + v .term ≤ n
-part-in v n k s h = let m : k * v .term ≤ 2 * v .term = mul-le-mul-right (v .term) h in omega (arith, s .three)
+part-in v n k s h = omega (arith, s .three, base-in k (v .term) h)
 
 pub placed : (v : Reading) (n k at : ℕ) → (goodPartition k && goodOffset at v) ≡ true → sound v n ≡ true → Placed v n k at
 placed v n k at g h =

@@ -1,14 +1,11 @@
+-- The first test that fails decides.
 use borrow.Author.Tests.{le-leb, lt-leb}
 use Rattle.logbuffer.proofs.argument.within_term.Statement.{statement}
 use Rattle.logbuffer.proofs.argument.within_term.Tie as tie
-use Rattle.logbuffer.proofs.argument.within_term.Reads as reads
-use Rattle.logbuffer.proofs.argument.within_term.Lts as lts
 
--- src/argument.rt:33:9
 returns : tie.Need-returns
 returns c = let a = c .before .args in rw (lt-leb (a .n) (a .v .term) (c .if1 .taken))
 
--- src/argument.rt:28:1
 returns-2 : tie.Need-returns-2
 returns-2 c = let a = c .before .args in rw (le-leb (a .n) (a .v .term) (c .if1 .left))
 

@@ -1,22 +1,17 @@
+-- The flags byte by its own index.
 use Rattle.model.specs.FrameDescriptor.{ends}
 use lib.Seq.{getD-drop}
 use mathlib.Core.Path.{_≡_, sym, ap, _∙_}
 use borrow.Author.Needs.{needs}
 use Rattle.logbuffer.proofs.frame_descriptor.ends_message.Statement.{statement}
 use Rattle.logbuffer.proofs.frame_descriptor.ends_message.Tie as tie
-use Rattle.logbuffer.proofs.frame_descriptor.ends_message.Reads as reads
-use Rattle.logbuffer.proofs.frame_descriptor.ends_message.Lts as lts
-use Rattle.logbuffer.proofs.field.byte.Reads as byte-reads
 
--- src/frame_descriptor.rt:98:34
 add-byte : tie.Need-add-byte
 add-byte c = search needs
 
--- src/frame_descriptor.rt:98:9
 byte-requires : tie.Need-byte-requires
 byte-requires c κs = search needs
 
--- src/frame_descriptor.rt:94:1
 returns : tie.Need-returns
 returns c = let a = c .before .before .args in ap ends (c .byte .ensures .0 ∙ sym (getD-drop (a .at) (a .log .now) 5 0))
 

@@ -12,34 +12,22 @@ use Rattle.logbuffer.proofs.Signs.{back32}
 use borrow.Author.Needs.{needs}
 use Rattle.logbuffer.proofs.frame_descriptor.frame_at.Statement.{statement}
 use Rattle.logbuffer.proofs.frame_descriptor.frame_at.Tie as tie
-use Rattle.logbuffer.proofs.frame_descriptor.frame_at.Reads as reads
-use Rattle.logbuffer.proofs.frame_descriptor.frame_at.Lts as lts
-use Rattle.logbuffer.proofs.cast.to_i32.Reads as to-i32-reads
-use Rattle.logbuffer.proofs.frame_descriptor.frame_length.Reads as frame-length-reads
-use Rattle.logbuffer.proofs.frame_descriptor.frame_type.Reads as frame-type-reads
-use Rattle.logbuffer.proofs.frame_descriptor.length_word.Reads as length-word-reads
 
--- src/frame_descriptor.rt:78:37
 length-word-requires : tie.Need-length-word-requires
 length-word-requires c κs = search needs
 
--- src/frame_descriptor.rt:78:24
 to-i32-requires : tie.Need-to-i32-requires
 to-i32-requires c κs = search needs
 
--- src/frame_descriptor.rt:78:11
 frame-length-requires : tie.Need-frame-length-requires
 frame-length-requires c κs = search needs
 
--- src/frame_descriptor.rt:79:30
 enum-told : tie.Need-enum-told
 enum-told c = search needs
 
--- src/frame_descriptor.rt:80:33
 enum-told-2 : tie.Need-enum-told-2
 enum-told-2 c = search needs
 
--- src/frame_descriptor.rt:81:31
 enum-known-n : tie.Need-enum-known-n
 enum-known-n c = search needs
 
@@ -57,39 +45,30 @@ told c = c .frame-length .ensures ∙ ap frameLength (back32 (c .before .to-i32 
 is : (c : tie.After-known-told) → frameLength (u32 (from (c .before .before .before))) ≡ Finished (c .before .n .given .0 .0)
 is c = sym (told (c .before .before .before)) ∙ c .before .n .given .1
 
--- src/frame_descriptor.rt:83:17
 returns : tie.Need-returns
 returns c = frame-short (from (c .before .before .before .before)) _ _ (is (c .before)) (c .if1 .taken)
 
--- src/frame_descriptor.rt:85:24
 add-if2 : tie.Need-add-if2
 add-if2 c = omega (arith, finished-word _ _ (is (c .before)))
 
--- src/frame_descriptor.rt:85:23
 mul-if2 : tie.Need-mul-if2
 mul-if2 c = omega (arith, finished-word _ _ (is (c .before)))
 
--- src/frame_descriptor.rt:86:17
 returns-2 : tie.Need-returns-2
 returns-2 c = frame-long (from (c .before .before .before .before .before)) _ _ (is (c .before .before)) (c .before .if1 .left) (c .if2 .taken)
 
--- src/frame_descriptor.rt:88:16
 frame-type-requires : tie.Need-frame-type-requires
 frame-type-requires c κs = search needs
 
--- src/frame_descriptor.rt:75:1
 returns-3 : tie.Need-returns-3
 returns-3 c = frame-absent (from (c .before .before)) _ Free (sym (told (c .before .before)) ∙ c .enum-told .given .1) refl
 
--- src/frame_descriptor.rt:75:1
 returns-4 : tie.Need-returns-4
 returns-4 c = frame-absent (from (c .before .before)) _ Writing (sym (told (c .before .before)) ∙ c .enum-told2 .given .1) refl
 
--- src/frame_descriptor.rt:75:1
 returns-5 : tie.Need-returns-5
 returns-5 c = frame-padding (from (c .before .before .before .before .before .before .before)) _ _ (is (c .before .before .before .before)) (c .before .before .before .if1 .left) (c .before .before .if2 .left) (sym (c .before .frame-type .ensures) ∙ c .if3 .taken)
 
--- src/frame_descriptor.rt:75:1
 returns-6 : tie.Need-returns-6
 returns-6 c = frame-data (from (c .before .before .before .before .before .before .before)) _ _ (is (c .before .before .before .before)) (c .before .before .before .if1 .left) (c .before .before .if2 .left) (λ e. c .if3 .left (c .before .frame-type .ensures ∙ e))
 

@@ -1,3 +1,4 @@
+-- The field at once where it lies in the log, else byte by byte.
 use Rattle.model.specs.Bytes.{u16}
 use lib.Seq.{getD-drop, drop-drop}
 use lib.ListN.{drop}
@@ -6,43 +7,33 @@ use native.Mathlib.Omega.{arith}
 use borrow.Author.Needs.{needs}
 use Rattle.logbuffer.proofs.frame_descriptor.frame_type.Statement.{statement}
 use Rattle.logbuffer.proofs.frame_descriptor.frame_type.Tie as tie
-use Rattle.logbuffer.proofs.frame_descriptor.frame_type.Reads as reads
-use Rattle.logbuffer.proofs.frame_descriptor.frame_type.Lts as lts
-use Rattle.logbuffer.proofs.field.half.Reads as half-reads
-use Rattle.logbuffer.proofs.frame_descriptor.byte_behind.Reads as byte-behind-reads
 
--- src/frame_descriptor.rt:68:37
 add-half : tie.Need-add-half
 add-half c = search needs
 
--- src/frame_descriptor.rt:68:13
 half-requires : tie.Need-half-requires
 half-requires c κs = search needs
 
--- src/frame_descriptor.rt:68:13
 returns : tie.Need-returns
 returns c = let a = c .before .before .before .before .args in c .half .ensures .0 ∙ ap u16 (sym (drop-drop 6 (a .at) (a .log .now)))
 
--- src/frame_descriptor.rt:71:5
 byte-behind-requires : tie.Need-byte-behind-requires
 byte-behind-requires c κs = search needs
 
--- src/frame_descriptor.rt:71:37
 byte-behind-requires-2 : tie.Need-byte-behind-requires-2
 byte-behind-requires-2 c κs = search needs
 
--- src/frame_descriptor.rt:71:31
 mul-result : tie.Need-mul-result
 mul-result c = search needs
 
--- src/frame_descriptor.rt:71:5
 add-result : tie.Need-add-result
 add-result c = search needs
 
--- src/frame_descriptor.rt:62:1
 returns-2 : tie.Need-returns-2
 unfolding u16
-returns-2 c = let s = drop (c .before .before .before .before .args .at) (c .before .before .before .before .args .log .now) in omega (arith, getD-drop 6 s 0 0, getD-drop 6 s 1 0)
+returns-2 c =
+    let s = drop (c .before .before .before .before .args .at) (c .before .before .before .before .args .log .now) in
+    omega (arith, getD-drop 6 s 0 0, getD-drop 6 s 1 0)
 
 pub frame-type-spec : {M : Type 1} → statement M
 frame-type-spec =

@@ -9,7 +9,7 @@ use Rattle.model.specs.declared.Reading.{Reading}
 use Rattle.model.specs.Bytes.{word}
 use Rattle.model.specs.LogBufferDescriptor.{reading, sound, goodPartition, goodOffset, withinTerm}
 use Rattle.model.proofs.PlaceLaws.{Placed, placed}
-use Rattle.logbuffer.proofs.Signs.{bits32}
+use Rattle.logbuffer.proofs.Signed.{word-by}
 use Prim.Native.Nat.{_<_}
 use Rattle.model.specs.declared.HeaderRead.the-variants.{Fields}
 use Rattle.model.specs.LogBufferDescriptor.{active}
@@ -18,13 +18,6 @@ use Rattle.model.proofs.HeaderRows.{header-argument, header-record, header-fiel
 use borrow.Author.Needs.{needs}
 use Rattle.logbuffer.proofs.header.fields.Statement.{statement}
 use Rattle.logbuffer.proofs.header.fields.Tie as tie
-use Rattle.logbuffer.proofs.header.fields.Reads as reads
-use Rattle.logbuffer.proofs.header.fields.Lts as lts
-use Rattle.logbuffer.proofs.argument.good_place.Reads as good-place-reads
-use Rattle.logbuffer.proofs.argument.read_active.Reads as read-active-reads
-use Rattle.logbuffer.proofs.cast.word.Reads as word-reads
-use Rattle.logbuffer.proofs.header.fields_at.Reads as fields-at-reads
-use Rattle.logbuffer.proofs.log_buffer_descriptor.is_sound.Reads as is-sound-reads
 
 -- the numbers as they are judged
 abbrev st : tie.After-word2 → tie.Start
@@ -40,10 +33,10 @@ abbrev at : tie.After-word2 → ℕ
 at c = c .word2 .result
 
 k-is : (c : tie.After-word2) → k c ≡ word (st c .args .partition)
-k-is c = bits32 (st c .args .partition) (c .before .word .ensures .0) (st c .fits .partition)
+k-is c = word-by (st c .args .partition) (c .before .word .ensures .0) (st c .fits .partition)
 
 at-is : (c : tie.After-word2) → at c ≡ word (st c .args .offset)
-at-is c = bits32 (st c .args .offset) (c .word2 .ensures .0) (st c .fits .offset)
+at-is c = word-by (st c .args .offset) (c .word2 .ensures .0) (st c .fits .offset)
 
 -- rows 1 and 2 passed
 abbrev num : tie.Else2 → tie.After-word2
@@ -60,49 +53,46 @@ place c = placed _ _ (k (num c)) (at (num c)) (good c) (is-sound c)
 
 -- a biased id has 32 bits
 initial-in : (c : tie.Else2) → v (num c) .initial < 4294967296
-initial-in c = let r = st (num c) .args .rec in subst (λ (x : Reading). x .initial < 4294967296) (sym (num c .before .before .read-active .ensures)) (initial-small r (active r))
+initial-in c =
+    let r = st (num c) .args .rec in
+    subst (λ (x : Reading). x .initial < 4294967296) (sym (num c .before .before .read-active .ensures)) (initial-small r (active r))
 
--- src/header.rt:135:9
 read-active-requires : tie.Need-read-active-requires
 read-active-requires c κs = search needs
 
--- src/header.rt:136:9
 word-requires : tie.Need-word-requires
 word-requires c κs = search needs
 
--- src/header.rt:137:9
 word-requires-2 : tie.Need-word-requires-2
 word-requires-2 c κs = search needs
 
--- src/header.rt:138:9
 good-place-requires : tie.Need-good-place-requires
 good-place-requires c κs = search needs
 
--- src/header.rt:139:9
 returns : tie.Need-returns
-returns c = let q = c .before .before in let a = st q .args in header-argument (a .rec) (a .log .now) (a .partition) (a .offset) (v q) (k q) (at q) (q .before .before .read-active .ensures) (k-is q) (at-is q) (sym (c .before .good-place .ensures) ∙ not-true _ (c .if1 .taken))
+returns c =
+    let q = c .before .before in
+    let a = st q .args in
+    header-argument (a .rec) (a .log .now) (a .partition) (a .offset) (v q) (k q) (at q) (q .before .before .read-active .ensures) (k-is q) (at-is q) (sym (c .before .good-place .ensures) ∙ not-true _ (c .if1 .taken))
 
--- src/header.rt:141:9
 is-sound-requires : tie.Need-is-sound-requires
 is-sound-requires c κs = search needs
 
--- src/header.rt:142:9
 returns-2 : tie.Need-returns-2
-returns-2 c = let q = c .before .before .before .before in let a = st q .args in header-record (a .rec) (a .log .now) (a .partition) (a .offset) (v q) (k q) (at q) (q .before .before .read-active .ensures) (k-is q) (at-is q) (sym (c .before .before .before .good-place .ensures) ∙ not-false _ (c .before .before .if1 .left)) (sym (c .before .is-sound .ensures) ∙ not-true _ (c .if2 .taken))
+returns-2 c =
+    let q = c .before .before .before .before in
+    let a = st q .args in
+    header-record (a .rec) (a .log .now) (a .partition) (a .offset) (v q) (k q) (at q) (q .before .before .read-active .ensures) (k-is q) (at-is q) (sym (c .before .before .before .good-place .ensures) ∙ not-false _ (c .before .before .if1 .left)) (sym (c .before .is-sound .ensures) ∙ not-true _ (c .if2 .taken))
 
--- src/header.rt:145:42
 mul-fields-at : tie.Need-mul-fields-at
 mul-fields-at c = record { fits = omega (arith, place c .inside, st (num c) .good) }
 
--- src/header.rt:145:42
 add-fields-at : tie.Need-add-fields-at
 add-fields-at c = record { fits = omega (arith, place c .inside, place c .below, st (num c) .good) }
 
--- src/header.rt:145:24
 fields-at-requires : tie.Need-fields-at-requires
 fields-at-requires c κs = let p = place c in (omega (arith, p .inside, p .header), (initial-in c, (p .term-high, num c .word2 .ensures .1)))
 
--- src/header.rt:132:1
 returns-3 : tie.Need-returns-3
 returns-3 c = ap Fields (c .fields-at .ensures) ∙ (let q = c .before .before .before .before .before in let a = st q .args in header-fields (a .rec) (a .log .now) (a .partition) (a .offset) (v q) (k q) (at q) (q .before .before .read-active .ensures) (k-is q) (at-is q) (good (c .before)) (is-sound (c .before)))
 

@@ -1,3 +1,4 @@
+-- Each field by the index where it lies.
 use mir.Syntax.{w32}
 use mir.Val.{toZ, ofZ}
 use Rattle.logbuffer.proofs.HeaderLaws.{field32, field64, past-field, same-fields}
@@ -10,123 +11,89 @@ use mathlib.Core.Path.{_≡_, refl, sym, ap, ap₂, _∙_}
 use borrow.Author.Needs.{needs}
 use Rattle.logbuffer.proofs.header.fields_at.Statement.{statement}
 use Rattle.logbuffer.proofs.header.fields_at.Tie as tie
-use Rattle.logbuffer.proofs.header.fields_at.Reads as reads
-use Rattle.logbuffer.proofs.header.fields_at.Lts as lts
-use Rattle.logbuffer.proofs.cast.to_i32.Reads as to-i32-reads
-use Rattle.logbuffer.proofs.cast.to_i64.Reads as to-i64-reads
-use Rattle.logbuffer.proofs.field.half.Reads as half-reads
-use Rattle.logbuffer.proofs.field.long8.Reads as long8-reads
-use Rattle.logbuffer.proofs.field.word4.Reads as word4-reads
-use Rattle.logbuffer.proofs.header.position_past.Reads as position-past-reads
 
--- src/header.rt:112:37
 word4-requires : tie.Need-word4-requires
 word4-requires c κs = search needs
 
--- src/header.rt:112:9
 to-i32-requires : tie.Need-to-i32-requires
 to-i32-requires c κs = search needs
 
--- src/header.rt:113:37
 add-word4 : tie.Need-add-word4
 add-word4 c = search needs
 
--- src/header.rt:113:9
 word4-requires-2 : tie.Need-word4-requires-2
 word4-requires-2 c κs = search needs
 
--- src/header.rt:114:35
 add-position-past : tie.Need-add-position-past
 add-position-past c = search needs
 
--- src/header.rt:114:9
 position-past-requires : tie.Need-position-past-requires
 position-past-requires c κs = search needs
 
--- src/header.rt:115:23
 add-version : tie.Need-add-version
 add-version c = search needs
 
--- src/header.rt:115:19
 shared-slice-read-version : tie.Need-shared-slice-read-version
 shared-slice-read-version c = search needs
 
--- src/header.rt:116:21
 add-flags : tie.Need-add-flags
 add-flags c = search needs
 
--- src/header.rt:116:17
 shared-slice-read-flags : tie.Need-shared-slice-read-flags
 shared-slice-read-flags c = search needs
 
--- src/header.rt:121:38
 add-half : tie.Need-add-half
 add-half c = search needs
 
--- src/header.rt:121:21
 half-requires : tie.Need-half-requires
 half-requires c κs = search needs
 
--- src/header.rt:121:21
 cast-t15 : tie.Need-cast-t15
 cast-t15 c = search needs
 
--- src/header.rt:122:53
 add-word4-2 : tie.Need-add-word4-2
 add-word4-2 c = search needs
 
--- src/header.rt:122:35
 word4-requires-3 : tie.Need-word4-requires-3
 word4-requires-3 c κs = search needs
 
--- src/header.rt:122:22
 to-i32-requires-2 : tie.Need-to-i32-requires-2
 to-i32-requires-2 c κs = search needs
 
--- src/header.rt:123:52
 add-word4-3 : tie.Need-add-word4-3
 add-word4-3 c = search needs
 
--- src/header.rt:123:34
 word4-requires-4 : tie.Need-word4-requires-4
 word4-requires-4 c κs = search needs
 
--- src/header.rt:123:21
 to-i32-requires-3 : tie.Need-to-i32-requires-3
 to-i32-requires-3 c κs = search needs
 
--- src/header.rt:124:51
 add-word4-4 : tie.Need-add-word4-4
 add-word4-4 c = search needs
 
--- src/header.rt:124:33
 word4-requires-5 : tie.Need-word4-requires-5
 word4-requires-5 c κs = search needs
 
--- src/header.rt:124:20
 to-i32-requires-4 : tie.Need-to-i32-requires-4
 to-i32-requires-4 c κs = search needs
 
--- src/header.rt:125:18
 to-i32-requires-5 : tie.Need-to-i32-requires-5
 to-i32-requires-5 c κs = search needs
 
--- src/header.rt:126:56
 add-long8 : tie.Need-add-long8
 add-long8 c = search needs
 
--- src/header.rt:126:38
 long8-requires : tie.Need-long8-requires
 long8-requires c κs = search needs
 
--- src/header.rt:126:25
 to-i64-requires : tie.Need-to-i64-requires
 to-i64-requires c κs = search needs
 
--- src/header.rt:108:1
 returns : tie.Need-returns
 unfolding headerAt
-returns c = let a = c .before .before .before .before .before .before .before .before .before .before .before .before .before .before .before .before .before .args in
+returns c =
+    let a = c .before .before .before .before .before .before .before .before .before .before .before .before .before .before .before .before .before .args in
     let t = c .before .before .before .before .before .before .before .before .before .before .before .before .before .word42 .ensures .0 ∙ ap u32 (sym (drop-drop 20 (a .index) (a .log .now))) in
     let n = (field32 (c .before .before .before .before .before .before .before .before .before .before .before .before .before .before .to-i32 .result) (c .before .before .before .before .before .before .before .before .before .before .before .before .before .before .before .word4 .result) _ (c .before .before .before .before .before .before .before .before .before .before .before .before .before .before .to-i32 .ensures) (c .before .before .before .before .before .before .before .before .before .before .before .before .before .before .before .word4 .ensures .1) (c .before .before .before .before .before .before .before .before .before .before .before .before .before .before .before .word4 .ensures .0)) in
     same-fields (a .v) (a .at) (headerAt (drop (a .index) (a .log .now))) _ _ _ _ _ _ _ _ _ _

@@ -1,3 +1,4 @@
+-- Each step of the sum is exact and fits.
 use Rattle.logbuffer.proofs.Past.{gap-asks, start-asks, here-asks, past-asks, past-lands}
 use Rattle.model.specs.TermReader.{alignℤ}
 use mir.Facts.{toZ-ofZ}
@@ -7,49 +8,46 @@ use mathlib.Core.Path.{_≡_, refl, sym, ap, ap₂, _∙_, subst}
 use borrow.Author.Needs.{needs}
 use Rattle.logbuffer.proofs.header.position_past.Statement.{statement}
 use Rattle.logbuffer.proofs.header.position_past.Tie as tie
-use Rattle.logbuffer.proofs.header.position_past.Reads as reads
-use Rattle.logbuffer.proofs.header.position_past.Lts as lts
-use Rattle.logbuffer.proofs.header.aligned_length.Reads as aligned-length-reads
 
--- src/header.rt:103:19
 cast-start : tie.Need-cast-start
 cast-start c = search needs
 
--- src/header.rt:103:33
 cast-start-2 : tie.Need-cast-start-2
 cast-start-2 c = search needs
 
--- src/header.rt:103:18
 sub-start : tie.Need-sub-start
-sub-start c = let a = c .args in gap-asks (a .id) (a .initial) (a .term) (a .at) (a .length) (omega arith) (omega arith) (omega arith) (omega arith) (c .fits .length)
+sub-start c =
+    let a = c .args in
+    gap-asks (a .id) (a .initial) (a .term) (a .at) (a .length) (omega arith) (omega arith) (omega arith) (omega arith) (c .fits .length)
 
--- src/header.rt:103:53
 cast-start-3 : tie.Need-cast-start-3
 cast-start-3 c = search needs
 
--- src/header.rt:103:17
 mul-start : tie.Need-mul-start
-mul-start c = let a = c .args in start-asks (a .id) (a .initial) (a .term) (a .at) (a .length) (omega arith) (omega arith) (omega arith) (omega arith) (c .fits .length)
+mul-start c =
+    let a = c .args in
+    start-asks (a .id) (a .initial) (a .term) (a .at) (a .length) (omega arith) (omega arith) (omega arith) (omega arith) (c .fits .length)
 
--- src/header.rt:104:14
 cast-result : tie.Need-cast-result
 cast-result c = search needs
 
--- src/header.rt:104:5
 add-result : tie.Need-add-result
-add-result c = let a = c .args in here-asks (a .id) (a .initial) (a .term) (a .at) (a .length) (omega arith) (omega arith) (omega arith) (omega arith) (c .fits .length)
+add-result c =
+    let a = c .args in
+    here-asks (a .id) (a .initial) (a .term) (a .at) (a .length) (omega arith) (omega arith) (omega arith) (omega arith) (c .fits .length)
 
--- src/header.rt:104:27
 aligned-length-requires : tie.Need-aligned-length-requires
 aligned-length-requires c κs = search needs
 
--- src/header.rt:104:5
 add-result-2 : tie.Need-add-result-2
-add-result-2 c = let a = c .before .args in past-asks (a .id) (a .initial) (a .term) (a .at) (a .length) (omega arith) (omega arith) (omega arith) (omega arith) (c .before .fits .length) (c .aligned-length .result) (c .aligned-length .ensures ∙ ap alignℤ (toZ-ofZ (c .before .fits .length)))
+add-result-2 c =
+    let a = c .before .args in
+    past-asks (a .id) (a .initial) (a .term) (a .at) (a .length) (omega arith) (omega arith) (omega arith) (omega arith) (c .before .fits .length) (c .aligned-length .result) (c .aligned-length .ensures ∙ ap alignℤ (toZ-ofZ (c .before .fits .length)))
 
--- src/header.rt:99:1
 returns : tie.Need-returns
-returns c = let a = c .before .args in past-lands (a .id) (a .initial) (a .term) (a .at) (a .length) (omega arith) (omega arith) (omega arith) (omega arith) (c .before .fits .length) (c .aligned-length .result) (c .aligned-length .ensures ∙ ap alignℤ (toZ-ofZ (c .before .fits .length)))
+returns c =
+    let a = c .before .args in
+    past-lands (a .id) (a .initial) (a .term) (a .at) (a .length) (omega arith) (omega arith) (omega arith) (omega arith) (c .before .fits .length) (c .aligned-length .result) (c .aligned-length .ensures ∙ ap alignℤ (toZ-ofZ (c .before .fits .length)))
 
 pub position-past-spec : {M : Type 1} → statement M
 position-past-spec =

@@ -1,24 +1,19 @@
+-- The answer at an index, or 4 past the last.
 use Rattle.logbuffer.proofs.Actions.{action-given, action-none}
 use native.Mathlib.Omega.{arith}
 use borrow.Author.Needs.{needs}
 use Rattle.logbuffer.proofs.term_reader.action_of.Statement.{statement}
 use Rattle.logbuffer.proofs.term_reader.action_of.Tie as tie
-use Rattle.logbuffer.proofs.term_reader.action_of.Reads as reads
-use Rattle.logbuffer.proofs.term_reader.action_of.Lts as lts
 
--- src/term_reader.rt:19:33
 shared-slice-read-result : tie.Need-shared-slice-read-result
 shared-slice-read-result c = search needs
 
--- src/term_reader.rt:19:33
 cast-result : tie.Need-cast-result
 cast-result c = omega (arith, c .shared-slice-known .given (c .before .before .args .passed))
 
--- src/term_reader.rt:16:1
 returns : tie.Need-returns
 returns c = let a = c .before .before .args in action-given (a .actions .now) (a .passed) (c .before .if1 .taken)
 
--- src/term_reader.rt:16:1
 returns-2 : tie.Need-returns-2
 returns-2 c = let a = c .before .args in action-none (a .actions .now) (a .passed) (c .if1 .left)
 

@@ -18,18 +18,10 @@ use Rattle.model.specs.LogBufferDescriptor.{reading, sound}
 use Rattle.model.specs.TermReader.{natural, framesOf, framesEntries, goodWalk, readOf, readEntries}
 use Rattle.model.proofs.PlaceLaws.{Placed}
 use Rattle.model.proofs.ReadLaws.{goodRead, readFrom, read-argument, read-record, read-goes, read-placed, read-walk, frames-refuse, frames-moved}
-use Rattle.logbuffer.proofs.Signs.{bits32}
+use Rattle.logbuffer.proofs.Signed.{word-by}
 use borrow.Author.Needs.{needs}
 use Rattle.logbuffer.proofs.term_reader.read.Statement.{statement}
 use Rattle.logbuffer.proofs.term_reader.read.Tie as tie
-use Rattle.logbuffer.proofs.term_reader.read.Reads as reads
-use Rattle.logbuffer.proofs.term_reader.read.Lts as lts
-use Rattle.logbuffer.proofs.argument.natural.Reads as natural-reads
-use Rattle.logbuffer.proofs.argument.read_active.Reads as read-active-reads
-use Rattle.logbuffer.proofs.cast.word.Reads as word-reads
-use Rattle.logbuffer.proofs.log_buffer_descriptor.is_sound.Reads as is-sound-reads
-use Rattle.logbuffer.proofs.term_reader.good_read.Reads as good-read-reads
-use Rattle.logbuffer.proofs.term_reader.read_frames.Reads as read-frames-reads
 
 -- the numbers as they are judged
 abbrev st : tie.After-natural → tie.Start
@@ -48,10 +40,10 @@ abbrev most : tie.After-natural → ℕ
 most c = c .natural .result
 
 k-is : (c : tie.After-natural) → k c ≡ word (st c .args .partition)
-k-is c = bits32 (st c .args .partition) (c .before .before .word .ensures .0) (st c .fits .partition)
+k-is c = word-by (st c .args .partition) (c .before .before .word .ensures .0) (st c .fits .partition)
 
 at-is : (c : tie.After-natural) → at c ≡ word (st c .args .offset)
-at-is c = bits32 (st c .args .offset) (c .before .word2 .ensures .0) (st c .fits .offset)
+at-is c = word-by (st c .args .offset) (c .before .word2 .ensures .0) (st c .fits .offset)
 
 most-is : (c : tie.After-natural) → most c ≡ natural (st c .args .limit)
 most-is c = c .natural .ensures .0 ∙ ap natural (toZ-ofZ (st c .fits .limit))
@@ -87,85 +79,79 @@ goes c =
 walks : (c : tie.After-read-frames) → goodWalk (length (st (num c) .args .log .now)) (k (num c) * v (num c) .term) (v (num c) .term) (v (num c) .term) (at (num c)) (most (num c)) (length (st (num c) .args .entries .now)) ≡ true
 walks c = read-walk (v (num c)) (length (st (num c) .args .log .now)) (k (num c)) (at (num c)) (most (num c)) (length (st (num c) .args .entries .now)) (good (c .before .before .before)) (is-sound (c .before .before .before))
 
--- src/term_reader.rt:189:9
 read-active-requires : tie.Need-read-active-requires
 read-active-requires c κs = search needs
 
--- src/term_reader.rt:190:9
 word-requires : tie.Need-word-requires
 word-requires c κs = search needs
 
--- src/term_reader.rt:191:9
 word-requires-2 : tie.Need-word-requires-2
 word-requires-2 c κs = search needs
 
--- src/term_reader.rt:192:9
 natural-requires : tie.Need-natural-requires
 natural-requires c κs = search needs
 
--- src/term_reader.rt:193:9
 good-read-requires : tie.Need-good-read-requires
 good-read-requires c κs = search needs
 
--- src/term_reader.rt:194:9
 returns : tie.Need-returns
-returns c = let q = c .before .before in let a = st q .args in read-argument (a .rec) (a .log .now) (a .partition) (a .offset) (a .limit) (a .entries .now) (v q) (k q) (at q) (most q) (q .before .before .before .read-active .ensures) (k-is q) (at-is q) (most-is q) (sym (c .before .good-read .ensures) ∙ not-true _ (c .if1 .taken))
+returns c =
+    let q = c .before .before in
+    let a = st q .args in
+    read-argument (a .rec) (a .log .now) (a .partition) (a .offset) (a .limit) (a .entries .now) (v q) (k q) (at q) (most q) (q .before .before .before .read-active .ensures) (k-is q) (at-is q) (most-is q) (sym (c .before .good-read .ensures) ∙ not-true _ (c .if1 .taken))
 
--- src/term_reader.rt:196:9
 is-sound-requires : tie.Need-is-sound-requires
 is-sound-requires c κs = search needs
 
--- src/term_reader.rt:197:9
 returns-2 : tie.Need-returns-2
-returns-2 c = let q = c .before .before .before .before in let a = st q .args in read-record (a .rec) (a .log .now) (a .partition) (a .offset) (a .limit) (a .entries .now) (v q) (k q) (at q) (most q) (q .before .before .before .read-active .ensures) (k-is q) (at-is q) (most-is q) (sym (c .before .before .before .good-read .ensures) ∙ not-false _ (c .before .before .if1 .left)) (sym (c .before .is-sound .ensures) ∙ not-true _ (c .if2 .taken))
+returns-2 c =
+    let q = c .before .before .before .before in
+    let a = st q .args in
+    read-record (a .rec) (a .log .now) (a .partition) (a .offset) (a .limit) (a .entries .now) (v q) (k q) (at q) (most q) (q .before .before .before .read-active .ensures) (k-is q) (at-is q) (most-is q) (sym (c .before .before .before .good-read .ensures) ∙ not-false _ (c .before .before .if1 .left)) (sym (c .before .is-sound .ensures) ∙ not-true _ (c .if2 .taken))
 
--- src/term_reader.rt:200:55
 mul-read-frames : tie.Need-mul-read-frames
 mul-read-frames c = record { fits = omega (arith, place c .inside, c .before .before .before .before .before .before .before .before .before .good) }
 
--- src/term_reader.rt:200:87
 sub-read-frames : tie.Need-sub-read-frames
 sub-read-frames c = search needs
 
--- src/term_reader.rt:200:87
 part-read-frames-start : tie.Need-part-read-frames-start
 part-read-frames-start c = search needs
 
--- src/term_reader.rt:200:87
 part-read-frames-end : tie.Need-part-read-frames-end
 part-read-frames-end c = search needs
 
--- src/term_reader.rt:200:38
 read-frames-requires : tie.Need-read-frames-requires
 read-frames-requires c κs = search needs
 
--- src/term_reader.rt:200:28
 enum-known-walked : tie.Need-enum-known-walked
 enum-known-walked c = search needs
 
--- src/term_reader.rt:201:34
 enum-told : tie.Need-enum-told
 enum-told c = search needs
 
--- src/term_reader.rt:201:9
 same-length : tie.Need-same-length
 same-length c = search needs
 
--- src/term_reader.rt:201:9
 returns-3 : tie.Need-returns-3
-returns-3 c = let f = c .before .before .before in let told = c .enum-told .given .1 in let u = frames-refuse _ _ _ _ _ _ _ _ (walks f) _ (sym (went f) ∙ told) in (ap TermRefused (sym u) ∙ ap (readFrom (at (num f))) (sym told) ∙ goes f .0, goes f .1)
+returns-3 c =
+    let f = c .before .before .before in
+    let told = c .enum-told .given .1 in
+    let u = frames-refuse _ _ _ _ _ _ _ _ (walks f) _ (sym (went f) ∙ told) in
+    (ap TermRefused (sym u) ∙ ap (readFrom (at (num f))) (sym told) ∙ goes f .0, goes f .1)
 
--- src/term_reader.rt:203:23
 add-t14 : tie.Need-add-t14
-add-t14 c = let f = c .before .before .before .before .before in omega (arith, frames-moved _ _ _ _ _ _ _ _ (walks f) _ (sym (went f) ∙ c .before .before .walked .given .1), place (f .before .before .before))
+add-t14 c =
+    let f = c .before .before .before .before .before in
+    omega (arith, frames-moved _ _ _ _ _ _ _ _ (walks f) _ (sym (went f) ∙ c .before .before .walked .given .1), place (f .before .before .before))
 
--- src/term_reader.rt:185:1
 same-length-2 : tie.Need-same-length-2
 same-length-2 c = search needs
 
--- src/term_reader.rt:185:1
 returns-4 : tie.Need-returns-4
-returns-4 c = let f = c .before .before .before .before .before in (ap (readFrom (at (num f))) (sym (c .before .before .walked .given .1)) ∙ goes f .0, goes f .1)
+returns-4 c =
+    let f = c .before .before .before .before .before in
+    (ap (readFrom (at (num f))) (sym (c .before .before .walked .given .1)) ∙ goes f .0, goes f .1)
 
 pub read-spec : {M : Type 1} → statement M
 read-spec =

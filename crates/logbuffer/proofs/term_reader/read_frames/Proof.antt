@@ -1,3 +1,4 @@
+-- Row 1 is judged, and the walk answers the rest.
 use Rattle.model.proofs.ReaderLaws.{good-walk-true, frames-refused, frames-by}
 use borrow.Author.Tests.{not-true, not-false}
 use lib.ListN.{length}
@@ -6,30 +7,29 @@ use mathlib.Core.Path.{_≡_, sym, ap, _∙_}
 use borrow.Author.Needs.{needs}
 use Rattle.logbuffer.proofs.term_reader.read_frames.Statement.{statement}
 use Rattle.logbuffer.proofs.term_reader.read_frames.Tie as tie
-use Rattle.logbuffer.proofs.term_reader.read_frames.Reads as reads
-use Rattle.logbuffer.proofs.term_reader.read_frames.Lts as lts
-use Rattle.logbuffer.proofs.term_reader.good_walk.Reads as good-walk-reads
-use Rattle.logbuffer.proofs.term_reader.walk_frames.Reads as walk-frames-reads
 
--- src/term_reader.rt:117:9
 good-walk-requires : tie.Need-good-walk-requires
 good-walk-requires c κs = search needs
 
--- src/term_reader.rt:118:9
 returns : tie.Need-returns
-returns c = let a = c .before .before .before .before .args in frames-refused (a .log .now) (a .base) (a .term) (a .end) (a .at) (a .limit) (a .actions .now) (a .entries .now) (sym (c .before .good-walk .ensures) ∙ not-true _ (c .if1 .taken))
+returns c =
+    let a = c .before .before .before .before .args in
+    frames-refused (a .log .now) (a .base) (a .term) (a .end) (a .at) (a .limit) (a .actions .now) (a .entries .now) (sym (c .before .good-walk .ensures) ∙ not-true _ (c .if1 .taken))
 
--- src/term_reader.rt:120:5
 walk-frames-requires : tie.Need-walk-frames-requires
-walk-frames-requires c κs = let a = c .before .before .before .before .before .args in let g = good-walk-true (length (a .log .now)) (a .base) (a .term) (a .end) (a .at) (a .limit) (length (a .entries .now)) (sym (c .before .before .good-walk .ensures) ∙ not-false _ (c .before .if1 .left)) in (g .inside, (g .term-high, (g .end-in, omega (arith, g .room))))
+walk-frames-requires c κs =
+    let a = c .before .before .before .before .before .args in
+    let g = good-walk-true (length (a .log .now)) (a .base) (a .term) (a .end) (a .at) (a .limit) (length (a .entries .now)) (sym (c .before .before .good-walk .ensures) ∙ not-false _ (c .before .if1 .left)) in
+    (g .inside, (g .term-high, (g .end-in, omega (arith, g .room))))
 
--- src/term_reader.rt:113:1
 same-length : tie.Need-same-length
 same-length c = search needs
 
--- src/term_reader.rt:113:1
 returns-2 : tie.Need-returns-2
-returns-2 c = let a = c .before .before .before .before .before .before .before .args in let k = frames-by (a .log .now) (a .base) (a .term) (a .end) (a .at) (a .limit) (a .actions .now) (a .entries .now) (sym (c .before .before .before .before .good-walk .ensures) ∙ not-false _ (c .before .before .before .if1 .left)) in (c .before .walk-frames .ensures .0 ∙ k .0, c .before .walk-frames .ensures .1 ∙ k .1)
+returns-2 c =
+    let a = c .before .before .before .before .before .before .before .args in
+    let k = frames-by (a .log .now) (a .base) (a .term) (a .end) (a .at) (a .limit) (a .actions .now) (a .entries .now) (sym (c .before .before .before .before .good-walk .ensures) ∙ not-false _ (c .before .before .before .if1 .left)) in
+    (c .before .walk-frames .ensures .0 ∙ k .0, c .before .walk-frames .ensures .1 ∙ k .1)
 
 pub read-frames-spec : {M : Type 1} → statement M
 read-frames-spec =

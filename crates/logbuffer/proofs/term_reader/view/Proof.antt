@@ -13,9 +13,6 @@ use Rattle.logbuffer.specs.Lent.{startOf}
 use borrow.Author.Needs.{needs}
 use Rattle.logbuffer.proofs.term_reader.view.Statement.{statement}
 use Rattle.logbuffer.proofs.term_reader.view.Tie as tie
-use Rattle.logbuffer.proofs.term_reader.view.Reads as reads
-use Rattle.logbuffer.proofs.term_reader.view.Lts as lts
-use Rattle.logbuffer.proofs.term_reader.view_span.Reads as view-span-reads
 
 -- the span, of the arguments as they came
 located : (c : tie.After-view-span) → let s = c .before .before in
@@ -30,51 +27,48 @@ is-span : (c : tie.After-known-told) → let s = c .before .before .before .befo
 is-span c = sym (located (c .before .before .before)) ∙ c .before .from .given .1
 
 inside : (c : tie.After-known-told) → (c .before .from .given .0 .0 ≤ c .before .from .given .0 .1 .0) × (c .before .from .given .0 .1 .0 ≤ length (c .before .before .before .before .before .args .log .now))
-inside c = let a = c .before .before .before .before .before .args in span-in (a .rec) (a .log .now) (a .partition) (a .offset) (a .length) _ _ (is-span c)
+inside c =
+    let a = c .before .before .before .before .before .args in
+    span-in (a .rec) (a .log .now) (a .partition) (a .offset) (a .length) _ _ (is-span c)
 
--- src/term_reader.rt:264:35
 view-span-requires : tie.Need-view-span-requires
 view-span-requires c κs = search needs
 
--- src/term_reader.rt:264:23
 enum-known-from : tie.Need-enum-known-from
 enum-known-from c = search needs
 
--- src/term_reader.rt:265:16
 enum-told : tie.Need-enum-told
 enum-told c = search needs
 
--- src/term_reader.rt:265:16
 sub-result : tie.Need-sub-result
 sub-result c = search needs
 
--- src/term_reader.rt:265:16
 part-result-start : tie.Need-part-result-start
 part-result-start c = search needs
 
--- src/term_reader.rt:265:16
 part-result-end : tie.Need-part-result-end
 part-result-end c = search needs
 
--- src/term_reader.rt:265:9
 returns : tie.Need-returns
-returns c = let a = c .before .before .before .before .before .args in let e = sym (c .before .enum-told .given .1) ∙ located (c .before .before .before) in (ap (partOf (a .log .now)) e, ap (λ (x : Located). (a .log .ptr .0, startOf x + a .log .ptr .1)) e)
+returns c =
+    let a = c .before .before .before .before .before .args in
+    let e = sym (c .before .enum-told .given .1) ∙ located (c .before .before .before) in
+    (ap (partOf (a .log .now)) e, ap (λ (x : Located). (a .log .ptr .0, startOf x + a .log .ptr .1)) e)
 
--- src/term_reader.rt:267:5
 sub-result-2 : tie.Need-sub-result-2
 sub-result-2 c = inside c .0
 
--- src/term_reader.rt:267:5
 part-result-start-2 : tie.Need-part-result-start-2
 part-result-start-2 c = inside c .0
 
--- src/term_reader.rt:267:5
 part-result-end-2 : tie.Need-part-result-end-2
 part-result-end-2 c = inside c .1
 
--- src/term_reader.rt:260:1
 returns-2 : tie.Need-returns-2
-returns-2 c = let a = c .before .before .before .before .before .before .args in let e = sym (is-span (c .before)) in (ap (partOf (a .log .now)) e, ap (λ (x : Located). (a .log .ptr .0, startOf x + a .log .ptr .1)) e)
+returns-2 c =
+    let a = c .before .before .before .before .before .before .args in
+    let e = sym (is-span (c .before)) in
+    (ap (partOf (a .log .now)) e, ap (λ (x : Located). (a .log .ptr .0, startOf x + a .log .ptr .1)) e)
 
 pub view-spec : {M : Type 1} → statement M
 view-spec =

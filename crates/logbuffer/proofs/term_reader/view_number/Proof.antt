@@ -11,10 +11,6 @@ use Rattle.model.specs.Parts.{locatedNumber}
 use borrow.Author.Needs.{needs}
 use Rattle.logbuffer.proofs.term_reader.view_number.Statement.{statement}
 use Rattle.logbuffer.proofs.term_reader.view_number.Tie as tie
-use Rattle.logbuffer.proofs.term_reader.view_number.Reads as reads
-use Rattle.logbuffer.proofs.term_reader.view_number.Lts as lts
-use Rattle.logbuffer.proofs.errors.number.Reads as number-reads
-use Rattle.logbuffer.proofs.term_reader.view_span.Reads as view-span-reads
 
 -- the span, of the arguments as they came
 located : (c : tie.After-view-span) → let s = c .before .before in
@@ -24,27 +20,21 @@ located c =
     let a = s .args in
     c .view-span .ensures ∙ passed-on (viewOf (a .rec) (a .log .now)) (a .partition) (a .offset) (a .length) (s .fits .partition) (s .fits .offset) (s .fits .length)
 
--- src/term_reader.rt:274:11
 view-span-requires : tie.Need-view-span-requires
 view-span-requires c κs = search needs
 
--- src/term_reader.rt:275:32
 enum-told : tie.Need-enum-told
 enum-told c = search needs
 
--- src/term_reader.rt:276:26
 enum-known-e : tie.Need-enum-known-e
 enum-known-e c = search needs
 
--- src/term_reader.rt:276:32
 number-requires : tie.Need-number-requires
 number-requires c κs = search needs
 
--- src/term_reader.rt:271:1
 returns : tie.Need-returns
 returns c = ap locatedNumber (sym (c .enum-told .given .1) ∙ located (c .before .before))
 
--- src/term_reader.rt:271:1
 returns-2 : tie.Need-returns-2
 returns-2 c = toZ-ofZ (record { sfits = c .number .ok }) ∙ c .number .ensures ∙ ap locatedNumber (sym (c .before .before .e .given .1) ∙ located (c .before .before .before .before))
 

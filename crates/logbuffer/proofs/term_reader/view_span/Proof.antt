@@ -9,17 +9,11 @@ use Rattle.model.specs.declared.Reading.{Reading}
 use Rattle.model.specs.Bytes.{word}
 use Rattle.model.specs.LogBufferDescriptor.{reading, sound, goodPartition, goodOffset, withinTerm}
 use Rattle.model.specs.TermReader.{goodView}
-use Rattle.logbuffer.proofs.Signs.{bits32}
+use Rattle.logbuffer.proofs.Signed.{word-by}
 use Rattle.model.proofs.ViewLaws as laws
 use borrow.Author.Needs.{needs}
 use Rattle.logbuffer.proofs.term_reader.view_span.Statement.{statement}
 use Rattle.logbuffer.proofs.term_reader.view_span.Tie as tie
-use Rattle.logbuffer.proofs.term_reader.view_span.Reads as reads
-use Rattle.logbuffer.proofs.term_reader.view_span.Lts as lts
-use Rattle.logbuffer.proofs.argument.read_active.Reads as read-active-reads
-use Rattle.logbuffer.proofs.cast.word.Reads as word-reads
-use Rattle.logbuffer.proofs.log_buffer_descriptor.is_sound.Reads as is-sound-reads
-use Rattle.logbuffer.proofs.term_reader.good_view.Reads as good-view-reads
 
 -- the numbers as they are judged
 abbrev st : tie.After-word3 → tie.Start
@@ -35,10 +29,10 @@ abbrev at : tie.After-word3 → ℕ
 at c = c .before .word2 .result
 
 k-is : (c : tie.After-word3) → k c ≡ word (st c .args .partition)
-k-is c = bits32 (st c .args .partition) (c .before .before .word .ensures .0) (st c .fits .partition)
+k-is c = word-by (st c .args .partition) (c .before .before .word .ensures .0) (st c .fits .partition)
 
 at-is : (c : tie.After-word3) → at c ≡ word (st c .args .offset)
-at-is c = bits32 (st c .args .offset) (c .before .word2 .ensures .0) (st c .fits .offset)
+at-is c = word-by (st c .args .offset) (c .before .word2 .ensures .0) (st c .fits .offset)
 
 -- rows 1 and 2 passed
 abbrev num : tie.Else2 → tie.After-word3
@@ -48,7 +42,7 @@ is-sound : (c : tie.Else2) → sound (v (num c)) (length (st (num c) .args .log 
 is-sound c = sym (c .before .is-sound .ensures) ∙ not-false _ (c .if2 .left)
 
 size-is : (c : tie.After-word3) → c .word3 .result ≡ word (st c .args .length)
-size-is c = bits32 (st c .args .length) (c .word3 .ensures .0) (st c .fits .length)
+size-is c = word-by (st c .args .length) (c .word3 .ensures .0) (st c .fits .length)
 
 good : (c : tie.Else2) → goodView (v (num c)) (k (num c)) (at (num c)) (num c .word3 .result) ≡ true
 good c = sym (c .before .before .before .good-view .ensures) ∙ not-false _ (c .before .before .if1 .left)
@@ -56,53 +50,50 @@ good c = sym (c .before .before .before .good-view .ensures) ∙ not-false _ (c 
 inside : (c : tie.Else2) → (k (num c) * v (num c) .term + at (num c) + num c .word3 .result ≤ length (st (num c) .args .log .now)) × (k (num c) ≤ 2)
 inside c = laws.view-in _ _ (k (num c)) (at (num c)) (num c .word3 .result) (good c) (is-sound c)
 
--- src/term_reader.rt:244:9
 read-active-requires : tie.Need-read-active-requires
 read-active-requires c κs = search needs
 
--- src/term_reader.rt:245:9
 word-requires : tie.Need-word-requires
 word-requires c κs = search needs
 
--- src/term_reader.rt:246:9
 word-requires-2 : tie.Need-word-requires-2
 word-requires-2 c κs = search needs
 
--- src/term_reader.rt:247:9
 word-requires-3 : tie.Need-word-requires-3
 word-requires-3 c κs = search needs
 
--- src/term_reader.rt:248:9
 good-view-requires : tie.Need-good-view-requires
 good-view-requires c κs = search needs
 
--- src/term_reader.rt:249:9
 returns : tie.Need-returns
-returns c = let q = c .before .before in let a = st q .args in laws.view-argument (a .rec) (a .log .now) (a .partition) (a .offset) (a .length) (v q) (k q) (at q) (q .word3 .result) (q .before .before .before .read-active .ensures) (k-is q) (at-is q) (size-is q) (sym (c .before .good-view .ensures) ∙ not-true _ (c .if1 .taken))
+returns c =
+    let q = c .before .before in
+    let a = st q .args in
+    laws.view-argument (a .rec) (a .log .now) (a .partition) (a .offset) (a .length) (v q) (k q) (at q) (q .word3 .result) (q .before .before .before .read-active .ensures) (k-is q) (at-is q) (size-is q) (sym (c .before .good-view .ensures) ∙ not-true _ (c .if1 .taken))
 
--- src/term_reader.rt:251:9
 is-sound-requires : tie.Need-is-sound-requires
 is-sound-requires c κs = search needs
 
--- src/term_reader.rt:252:9
 returns-2 : tie.Need-returns-2
-returns-2 c = let q = c .before .before .before .before in let a = st q .args in laws.view-record (a .rec) (a .log .now) (a .partition) (a .offset) (a .length) (v q) (k q) (at q) (q .word3 .result) (q .before .before .before .read-active .ensures) (k-is q) (at-is q) (size-is q) (sym (c .before .before .before .good-view .ensures) ∙ not-false _ (c .before .before .if1 .left)) (sym (c .before .is-sound .ensures) ∙ not-true _ (c .if2 .taken))
+returns-2 c =
+    let q = c .before .before .before .before in
+    let a = st q .args in
+    laws.view-record (a .rec) (a .log .now) (a .partition) (a .offset) (a .length) (v q) (k q) (at q) (q .word3 .result) (q .before .before .before .read-active .ensures) (k-is q) (at-is q) (size-is q) (sym (c .before .before .before .good-view .ensures) ∙ not-false _ (c .before .before .if1 .left)) (sym (c .before .is-sound .ensures) ∙ not-true _ (c .if2 .taken))
 
--- src/term_reader.rt:255:16
 mul-from : tie.Need-mul-from
 mul-from c = record { fits = omega (arith, inside c .0, st (num c) .good) }
 
--- src/term_reader.rt:255:16
 add-from : tie.Need-add-from
 add-from c = record { fits = omega (arith, inside c .0, st (num c) .good) }
 
--- src/term_reader.rt:256:25
 add-t15 : tie.Need-add-t15
 add-t15 c = record { fits = omega (arith, inside c .0, st (num c) .good) }
 
--- src/term_reader.rt:241:1
 returns-3 : tie.Need-returns-3
-returns-3 c = let q = c .before .before .before .before in let a = st q .args in laws.view-span (a .rec) (a .log .now) (a .partition) (a .offset) (a .length) (v q) (k q) (at q) (q .word3 .result) (q .before .before .before .read-active .ensures) (k-is q) (at-is q) (size-is q) (good c) (is-sound c)
+returns-3 c =
+    let q = c .before .before .before .before in
+    let a = st q .args in
+    laws.view-span (a .rec) (a .log .now) (a .partition) (a .offset) (a .length) (v q) (k q) (at q) (q .word3 .result) (q .before .before .before .read-active .ensures) (k-is q) (at-is q) (size-is q) (good c) (is-sound c)
 
 pub view-span-spec : {M : Type 1} → statement M
 view-span-spec =

@@ -18,12 +18,6 @@ use Rattle.model.proofs.WalkLoop.{Going}
 use Rattle.model.proofs.ReaderLaws.{frames-came, frames-first}
 use Rattle.logbuffer.proofs.term_reader.walk_frames.Statement.{statement}
 use Rattle.logbuffer.proofs.term_reader.walk_frames.Tie as tie
-use Rattle.logbuffer.proofs.term_reader.walk_frames.Reads as reads
-use Rattle.logbuffer.proofs.term_reader.walk_frames.Lts as lts
-use Rattle.logbuffer.proofs.frame_descriptor.ends_message.Reads as ends-message-reads
-use Rattle.logbuffer.proofs.frame_descriptor.frame_at.Reads as frame-at-reads
-use Rattle.logbuffer.proofs.term_reader.action_of.Reads as action-of-reads
-use Rattle.logbuffer.proofs.term_reader.last_settled.Reads as last-settled-reads
 
 abbrev Inv-loop : tie.InvT-loop
 Inv-loop log base term end at limit actions entries₀ offset₀ moved₀ settled₀ count₀ entries offset moved settled count =
@@ -54,131 +48,109 @@ is-data c = sym (c .before .before .before .frame-at .ensures) ∙ c .before .n2
 data-in : (c : tie.After-known-told2 Inv-loop μ-loop) → let l = head (c .before .before .before) in Lies (c .before .n2 .given .0 .0) (st l .args .term - l .loop .offset)
 data-in c = lies _ _ (Data (c .before .n2 .given .0 .0)) (is-data c) refl
 
--- src/term_reader.rt:67:5
 loop-holds : tie.Need-loop-holds Inv-loop μ-loop
-loop-holds c = let a = c .before .before .args in (refl, (omega arith, walks.start (a .log .now) (a .base) (a .term) (a .end) (a .at) (a .limit) (a .actions .now) (a .entries .now) (omega arith)))
+loop-holds c =
+    let a = c .before .before .args in
+    (refl, (omega arith, walks.start (a .log .now) (a .base) (a .term) (a .end) (a .at) (a .limit) (a .actions .now) (a .entries .now) (omega arith)))
 
--- src/term_reader.rt:74:47
 add-frame-at : tie.Need-add-frame-at Inv-loop μ-loop
 add-frame-at c = search needs
 
--- src/term_reader.rt:74:62
 sub-frame-at : tie.Need-sub-frame-at Inv-loop μ-loop
 sub-frame-at c = search needs
 
--- src/term_reader.rt:74:15
 frame-at-requires : tie.Need-frame-at-requires Inv-loop μ-loop
 frame-at-requires c κs = search needs
 
--- src/term_reader.rt:76:17
 enum-told : tie.Need-enum-told Inv-loop μ-loop
 enum-told c = search needs
 
--- src/term_reader.rt:79:20
 enum-told-2 : tie.Need-enum-told-2 Inv-loop μ-loop
 enum-told-2 c = search needs
 
--- src/term_reader.rt:80:21
 same-length : tie.Need-same-length Inv-loop μ-loop
 same-length c = search needs
 
--- src/term_reader.rt:80:21
 returns : tie.Need-returns Inv-loop μ-loop
-returns c = let l = c .before .before .before .before .before .before in let a = st l .args in let w = l .loop in frames-first (a .log .now) (a .base) (a .term) (a .end) (a .at) (a .limit) (a .actions .now) (a .entries .now) (w .entries) (walks.unsound-first (a .log .now) (a .base) (a .term) (a .end) (a .at) (a .limit) (a .actions .now) (a .entries .now) (w .entries) (w .offset) (w .settled) (w .count) (w .inv .1 .1) (c .if2 .taken) (omega arith) (omega arith) (sym (c .before .before .before .frame-at .ensures) ∙ c .before .enum-told2 .given .1))
+returns c =
+    let l = c .before .before .before .before .before .before in
+    let a = st l .args in
+    let w = l .loop in
+    frames-first (a .log .now) (a .base) (a .term) (a .end) (a .at) (a .limit) (a .actions .now) (a .entries .now) (w .entries) (walks.unsound-first (a .log .now) (a .base) (a .term) (a .end) (a .at) (a .limit) (a .actions .now) (a .entries .now) (w .entries) (w .offset) (w .settled) (w .count) (w .inv .1 .1) (c .if2 .taken) (omega arith) (omega arith) (sym (c .before .before .before .frame-at .ensures) ∙ c .before .enum-told2 .given .1))
 
--- src/term_reader.rt:84:28
 enum-known-n : tie.Need-enum-known-n Inv-loop μ-loop
 enum-known-n c = search needs
 
--- src/term_reader.rt:85:36
 add-offset : tie.Need-add-offset Inv-loop μ-loop
 add-offset c = omega (arith, padding-in c)
 
--- src/term_reader.rt:85:35
 mul-offset : tie.Need-mul-offset Inv-loop μ-loop
 mul-offset c = omega (arith, padding-in c)
 
--- src/term_reader.rt:85:26
 add-offset-2 : tie.Need-add-offset-2 Inv-loop μ-loop
 add-offset-2 c = omega (arith, padding-in c)
 
--- src/term_reader.rt:86:25
 sub-moved : tie.Need-sub-moved Inv-loop μ-loop
 sub-moved c = omega (arith, padding-in c, c .before .before .before .before .before .before .loop .inv .1 .1 .later)
 
--- src/term_reader.rt:67:5
 loop-less : tie.Need-loop-less Inv-loop μ-loop
 loop-less c = omega (arith, padding-in c)
 
--- src/term_reader.rt:67:5
 loop-again : tie.Need-loop-again Inv-loop μ-loop
-loop-again c = let l = c .before .before .before .before .before .before in let a = st l .args in let w = l .loop in (w .inv .0, (refl, walks.padding (a .log .now) (a .base) (a .term) (a .end) (a .at) (a .limit) (a .actions .now) (a .entries .now) (w .entries) (w .offset) (w .settled) (w .count) (c .before .n .given .0 .0) (w .inv .1 .1) (omega arith) (omega arith) (is-padding c)))
+loop-again c =
+    let l = c .before .before .before .before .before .before in
+    let a = st l .args in
+    let w = l .loop in
+    (w .inv .0, (refl, walks.padding (a .log .now) (a .base) (a .term) (a .end) (a .at) (a .limit) (a .actions .now) (a .entries .now) (w .entries) (w .offset) (w .settled) (w .count) (c .before .n .given .0 .0) (w .inv .1 .1) (omega arith) (omega arith) (is-padding c)))
 
--- src/term_reader.rt:89:25
 enum-known-n-2 : tie.Need-enum-known-n-2 Inv-loop μ-loop
 enum-known-n-2 c = search needs
 
--- src/term_reader.rt:90:21
 action-of-requires : tie.Need-action-of-requires Inv-loop μ-loop
 action-of-requires c κs = search needs
 
--- src/term_reader.rt:91:65
 add-ends-message : tie.Need-add-ends-message Inv-loop μ-loop
 add-ends-message c = omega (arith, data-in (c .before))
 
--- src/term_reader.rt:91:21
 ends-message-requires : tie.Need-ends-message-requires Inv-loop μ-loop
 ends-message-requires c κs = omega (arith, data-in (c .before))
 
--- src/term_reader.rt:92:25
 mul-p : tie.Need-mul-p Inv-loop μ-loop
 mul-p c = omega (arith, data-in (c .before .before))
 
--- src/term_reader.rt:93:31
 add-entries : tie.Need-add-entries Inv-loop μ-loop
 add-entries c = omega (arith, data-in (c .before .before))
 
--- src/term_reader.rt:93:30
 cast-entries : tie.Need-cast-entries Inv-loop μ-loop
 cast-entries c = record { sfits = omega (arith, data-in (c .before .before)) }
 
--- src/term_reader.rt:93:17
 mul-entries : tie.Need-mul-entries Inv-loop μ-loop
 mul-entries c = omega (arith, data-in (c .before .before))
 
--- src/term_reader.rt:93:17
 slice-set-from-entries : tie.Need-slice-set-from-entries Inv-loop μ-loop
 slice-set-from-entries c = omega (arith, data-in (c .before .before))
 
--- src/term_reader.rt:94:35
 sub-entries : tie.Need-sub-entries Inv-loop μ-loop
 sub-entries c = omega (arith, data-in (c .before .before))
 
--- src/term_reader.rt:94:34
 cast-entries-2 : tie.Need-cast-entries-2 Inv-loop μ-loop
 cast-entries-2 c = record { sfits = omega (arith, data-in (c .before .before)) }
 
--- src/term_reader.rt:94:25
 add-t29 : tie.Need-add-t29 Inv-loop μ-loop
 add-t29 c = omega (arith, data-in (c .before .before))
 
--- src/term_reader.rt:94:17
 mul-t31 : tie.Need-mul-t31 Inv-loop μ-loop
 mul-t31 c = omega (arith, data-in (c .before .before))
 
--- src/term_reader.rt:94:17
 slice-set-from-entries-2 : tie.Need-slice-set-from-entries-2 Inv-loop μ-loop
 slice-set-from-entries-2 c = simp length-set (omega arith)
 
--- src/term_reader.rt:96:63
 add-t34 : tie.Need-add-t34 Inv-loop μ-loop
 add-t34 c = omega (arith, data-in (c .before .before .before))
 
--- src/term_reader.rt:96:21
 same-length-2 : tie.Need-same-length-2 Inv-loop μ-loop
 same-length-2 c = simp length-set (search needs)
 
--- src/term_reader.rt:96:21
 returns-2 : tie.Need-returns-2 Inv-loop μ-loop
 returns-2 c = let d = c .before .before .before in
     let l = c .before .before .before .before .before .before .before .before .before in
@@ -189,35 +161,27 @@ returns-2 c = let d = c .before .before .before in
     let y : toZ w32 (n - 32) ≡ pos (n - 32) = toZ-pos w32 (omega (arith, data-in d)) in
     frames-came (a .log .now) (a .base) (a .term) (a .end) (a .at) (a .limit) (a .actions .now) (a .entries .now) _ (w .count + 1) (w .count) (w .moved) (w .moved) (w .settled) (walks.turn-aborted (a .log .now) (a .base) (a .term) (a .end) (a .at) (a .limit) (a .actions .now) (a .entries .now) (w .entries) (w .offset) (w .settled) (w .count) n (w .inv .1 .1) (omega arith) (omega arith) (is-data d) (omega arith) _ _ x y (c .before .before .action-of .result) (w .moved) (c .before .before .action-of .ensures) (c .if3 .taken) (w .inv .1 .0)) refl
 
--- src/term_reader.rt:98:36
 add-offset-3 : tie.Need-add-offset-3 Inv-loop μ-loop
 add-offset-3 c = omega (arith, data-in (c .before .before .before))
 
--- src/term_reader.rt:98:35
 mul-offset-2 : tie.Need-mul-offset-2 Inv-loop μ-loop
 mul-offset-2 c = omega (arith, data-in (c .before .before .before))
 
--- src/term_reader.rt:98:26
 add-offset-4 : tie.Need-add-offset-4 Inv-loop μ-loop
 add-offset-4 c = omega (arith, data-in (c .before .before .before))
 
--- src/term_reader.rt:99:25
 sub-moved-2 : tie.Need-sub-moved-2 Inv-loop μ-loop
 sub-moved-2 c = omega (arith, data-in (c .before .before .before), c .before .before .before .before .before .before .before .before .before .loop .inv .1 .1 .later)
 
--- src/term_reader.rt:100:17
 last-settled-requires : tie.Need-last-settled-requires Inv-loop μ-loop
 last-settled-requires c κs = search needs
 
--- src/term_reader.rt:101:25
 add-count : tie.Need-add-count Inv-loop μ-loop
 add-count c = search needs
 
--- src/term_reader.rt:67:5
 loop-less-2 : tie.Need-loop-less-2 Inv-loop μ-loop
 loop-less-2 c = omega (arith, data-in (c .before .before .before .before .before))
 
--- src/term_reader.rt:67:5
 loop-again-2 : tie.Need-loop-again-2 Inv-loop μ-loop
 loop-again-2 c = let d = c .before .before .before .before .before in
     let l = c .before .before .before .before .before .before .before .before .before .before .before in
@@ -228,43 +192,49 @@ loop-again-2 c = let d = c .before .before .before .before .before in
     let y : toZ w32 (n - 32) ≡ pos (n - 32) = toZ-pos w32 (omega (arith, data-in d)) in
     (simp length-set (w .inv .0), (refl, walks.turn-on (a .log .now) (a .base) (a .term) (a .end) (a .at) (a .limit) (a .actions .now) (a .entries .now) (w .entries) (w .offset) (w .settled) (w .count) n (w .inv .1 .1) (omega arith) (omega arith) (is-data d) (omega arith) (c .before .before .before .ends-message .result) (c .before .last-settled .result) _ _ (c .before .before .before .ends-message .ensures) (c .before .last-settled .ensures) x y (c .before .before .before .before .action-of .result) (c .before .before .before .before .action-of .ensures) (c .before .before .if3 .left) (c .if4 .left)))
 
--- src/term_reader.rt:58:1
 same-length-3 : tie.Need-same-length-3 Inv-loop μ-loop
 same-length-3 c = search needs
 
--- src/term_reader.rt:58:1
 returns-3 : tie.Need-returns-3 Inv-loop μ-loop
-returns-3 c = let l = c .before in let a = st l .args in let w = l .loop in frames-came (a .log .now) (a .base) (a .term) (a .end) (a .at) (a .limit) (a .actions .now) (a .entries .now) (w .entries) (w .count) (w .count) (w .offset - a .at) (w .moved) (w .settled) (walks.full (a .log .now) (a .base) (a .term) (a .end) (a .at) (a .limit) (a .actions .now) (a .entries .now) (w .entries) (w .offset) (w .settled) (w .count) (w .inv .1 .1) (c .loop-test .taken)) (w .inv .1 .0)
+returns-3 c =
+    let l = c .before in
+    let a = st l .args in
+    let w = l .loop in
+    frames-came (a .log .now) (a .base) (a .term) (a .end) (a .at) (a .limit) (a .actions .now) (a .entries .now) (w .entries) (w .count) (w .count) (w .offset - a .at) (w .moved) (w .settled) (walks.full (a .log .now) (a .base) (a .term) (a .end) (a .at) (a .limit) (a .actions .now) (a .entries .now) (w .entries) (w .offset) (w .settled) (w .count) (w .inv .1 .1) (c .loop-test .taken)) (w .inv .1 .0)
 
--- src/term_reader.rt:58:1
 same-length-4 : tie.Need-same-length-4 Inv-loop μ-loop
 same-length-4 c = search needs
 
--- src/term_reader.rt:58:1
 returns-4 : tie.Need-returns-4 Inv-loop μ-loop
-returns-4 c = let l = c .before .before in let a = st l .args in let w = l .loop in frames-came (a .log .now) (a .base) (a .term) (a .end) (a .at) (a .limit) (a .actions .now) (a .entries .now) (w .entries) (w .count) (w .count) (w .offset - a .at) (w .moved) (w .settled) (walks.past (a .log .now) (a .base) (a .term) (a .end) (a .at) (a .limit) (a .actions .now) (a .entries .now) (w .entries) (w .offset) (w .settled) (w .count) (w .inv .1 .1) (c .if1 .taken)) (w .inv .1 .0)
+returns-4 c =
+    let l = c .before .before in
+    let a = st l .args in
+    let w = l .loop in
+    frames-came (a .log .now) (a .base) (a .term) (a .end) (a .at) (a .limit) (a .actions .now) (a .entries .now) (w .entries) (w .count) (w .count) (w .offset - a .at) (w .moved) (w .settled) (walks.past (a .log .now) (a .base) (a .term) (a .end) (a .at) (a .limit) (a .actions .now) (a .entries .now) (w .entries) (w .offset) (w .settled) (w .count) (w .inv .1 .1) (c .if1 .taken)) (w .inv .1 .0)
 
--- src/term_reader.rt:58:1
 same-length-5 : tie.Need-same-length-5 Inv-loop μ-loop
 same-length-5 c = search needs
 
--- src/term_reader.rt:58:1
 returns-5 : tie.Need-returns-5 Inv-loop μ-loop
-returns-5 c = let l = c .before .before .before .before .before in let a = st l .args in let w = l .loop in frames-came (a .log .now) (a .base) (a .term) (a .end) (a .at) (a .limit) (a .actions .now) (a .entries .now) (w .entries) (w .count) (w .count) (w .offset - a .at) (w .moved) (w .settled) (walks.absent (a .log .now) (a .base) (a .term) (a .end) (a .at) (a .limit) (a .actions .now) (a .entries .now) (w .entries) (w .offset) (w .settled) (w .count) (w .inv .1 .1) (sym (c .before .before .frame-at .ensures) ∙ c .enum-told .given .1)) (w .inv .1 .0)
+returns-5 c =
+    let l = c .before .before .before .before .before in
+    let a = st l .args in
+    let w = l .loop in
+    frames-came (a .log .now) (a .base) (a .term) (a .end) (a .at) (a .limit) (a .actions .now) (a .entries .now) (w .entries) (w .count) (w .count) (w .offset - a .at) (w .moved) (w .settled) (walks.absent (a .log .now) (a .base) (a .term) (a .end) (a .at) (a .limit) (a .actions .now) (a .entries .now) (w .entries) (w .offset) (w .settled) (w .count) (w .inv .1 .1) (sym (c .before .before .frame-at .ensures) ∙ c .enum-told .given .1)) (w .inv .1 .0)
 
--- src/term_reader.rt:58:1
 same-length-6 : tie.Need-same-length-6 Inv-loop μ-loop
 same-length-6 c = search needs
 
--- src/term_reader.rt:58:1
 returns-6 : tie.Need-returns-6 Inv-loop μ-loop
-returns-6 c = let l = c .before .before .before .before .before .before in let a = st l .args in let w = l .loop in frames-came (a .log .now) (a .base) (a .term) (a .end) (a .at) (a .limit) (a .actions .now) (a .entries .now) (w .entries) (w .count) (w .count) (w .offset - a .at) (w .moved) (w .settled) (walks.unsound (a .log .now) (a .base) (a .term) (a .end) (a .at) (a .limit) (a .actions .now) (a .entries .now) (w .entries) (w .offset) (w .settled) (w .count) (w .inv .1 .1) (sym (c .before .before .before .frame-at .ensures) ∙ c .before .enum-told2 .given .1) (c .if2 .left)) (w .inv .1 .0)
+returns-6 c =
+    let l = c .before .before .before .before .before .before in
+    let a = st l .args in
+    let w = l .loop in
+    frames-came (a .log .now) (a .base) (a .term) (a .end) (a .at) (a .limit) (a .actions .now) (a .entries .now) (w .entries) (w .count) (w .count) (w .offset - a .at) (w .moved) (w .settled) (walks.unsound (a .log .now) (a .base) (a .term) (a .end) (a .at) (a .limit) (a .actions .now) (a .entries .now) (w .entries) (w .offset) (w .settled) (w .count) (w .inv .1 .1) (sym (c .before .before .before .frame-at .ensures) ∙ c .before .enum-told2 .given .1) (c .if2 .left)) (w .inv .1 .0)
 
--- src/term_reader.rt:58:1
 same-length-7 : tie.Need-same-length-7 Inv-loop μ-loop
 same-length-7 c = simp length-set (search needs)
 
--- src/term_reader.rt:58:1
 returns-7 : tie.Need-returns-7 Inv-loop μ-loop
 returns-7 c = let d = c .before .before .before .before .before in
     let l = c .before .before .before .before .before .before .before .before .before .before .before in

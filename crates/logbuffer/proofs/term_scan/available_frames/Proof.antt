@@ -12,10 +12,6 @@ use Rattle.model.proofs.AvailableLaws as laws
 use Rattle.model.proofs.AvailableLaws.{Availing}
 use Rattle.logbuffer.proofs.term_scan.available_frames.Statement.{statement}
 use Rattle.logbuffer.proofs.term_scan.available_frames.Tie as tie
-use Rattle.logbuffer.proofs.term_scan.available_frames.Reads as reads
-use Rattle.logbuffer.proofs.term_scan.available_frames.Lts as lts
-use Rattle.logbuffer.proofs.frame_descriptor.frame_at.Reads as frame-at-reads
-use Rattle.logbuffer.proofs.term_scan.outcome.Reads as outcome-reads
 
 abbrev Inv-loop : tie.InvT-loop
 Inv-loop log base term at most available₀ padding₀ available padding = Availing log base term at most available padding
@@ -37,155 +33,128 @@ padding-in c = lies _ _ (Padding (c .before .n .given .0 .0)) (is (c .before .be
 data-in : (c : tie.After-known-told2 Inv-loop μ-loop) → let l = c .before .before .before .before in Lies (c .before .n2 .given .0 .0) (st l .args .term - (st l .args .at + l .loop .available))
 data-in c = lies _ _ (Data (c .before .n2 .given .0 .0)) (is (c .before .before .before) _ (c .before .n2 .given .1)) refl
 
--- src/term_scan.rt:200:5
 loop-holds : tie.Need-loop-holds Inv-loop μ-loop
 loop-holds c = let a = c .before .args in laws.available-start (a .log .now) (a .base) (a .term) (a .at) (a .most) (omega arith)
 
--- src/term_scan.rt:201:55
 add-frame-at : tie.Need-add-frame-at Inv-loop μ-loop
 add-frame-at c = omega (arith, c .loop .inv .inside)
 
--- src/term_scan.rt:201:47
 add-frame-at-2 : tie.Need-add-frame-at-2 Inv-loop μ-loop
 add-frame-at-2 c = omega (arith, c .loop .inv .inside)
 
--- src/term_scan.rt:201:80
 add-frame-at-3 : tie.Need-add-frame-at-3 Inv-loop μ-loop
 add-frame-at-3 c = omega (arith, c .loop .inv .inside)
 
--- src/term_scan.rt:201:72
 sub-frame-at : tie.Need-sub-frame-at Inv-loop μ-loop
 sub-frame-at c = omega (arith, c .loop .inv .inside)
 
--- src/term_scan.rt:201:15
 frame-at-requires : tie.Need-frame-at-requires Inv-loop μ-loop
 frame-at-requires c κs = search needs
 
--- src/term_scan.rt:203:17
 enum-told : tie.Need-enum-told Inv-loop μ-loop
 enum-told c = search needs
 
--- src/term_scan.rt:206:20
 enum-told-2 : tie.Need-enum-told-2 Inv-loop μ-loop
 enum-told-2 c = search needs
 
--- src/term_scan.rt:207:21
 returns : tie.Need-returns Inv-loop μ-loop
-returns c = let l = c .before .before .before .before in let a = st l .args in laws.available-first (a .log .now) (a .base) (a .term) (a .at) (a .most) (l .loop .available) (c .if1 .taken) (is (c .before .before .before) _ (c .before .enum-told2 .given .1))
+returns c =
+    let l = c .before .before .before .before in
+    let a = st l .args in
+    laws.available-first (a .log .now) (a .base) (a .term) (a .at) (a .most) (l .loop .available) (c .if1 .taken) (is (c .before .before .before) _ (c .before .enum-told2 .given .1))
 
--- src/term_scan.rt:209:17
 outcome-requires : tie.Need-outcome-requires Inv-loop μ-loop
 outcome-requires c κs = let i = c .before .before .before .before .loop .inv in omega (arith, i .inside, i .bounded)
 
--- src/term_scan.rt:209:17
 returns-2 : tie.Need-returns-2 Inv-loop μ-loop
 returns-2 c = c .outcome .ensures ∙ (let l = c .before .before .before .before .before in let a = st l .args in laws.available-unsound (a .log .now) (a .base) (a .term) (a .at) (a .most) (l .loop .available) (l .loop .padding) (l .loop .inv) (is (c .before .before .before .before) _ (c .before .before .enum-told2 .given .1)) (c .before .if1 .left))
 
--- src/term_scan.rt:211:28
 enum-known-n : tie.Need-enum-known-n Inv-loop μ-loop
 enum-known-n c = search needs
 
--- src/term_scan.rt:212:27
 add-if2 : tie.Need-add-if2 Inv-loop μ-loop
 add-if2 c = omega (arith, c .before .before .before .before .loop .inv .inside)
 
--- src/term_scan.rt:213:21
 outcome-requires-2 : tie.Need-outcome-requires-2 Inv-loop μ-loop
 outcome-requires-2 c κs = let i = c .before .before .before .before .before .loop .inv in omega (arith, i .inside)
 
--- src/term_scan.rt:213:21
 returns-3 : tie.Need-returns-3 Inv-loop μ-loop
 returns-3 c = c .outcome2 .ensures ∙ (let d = c .before .before in let l = c .before .before .before .before .before .before in let a = st l .args in laws.over-most (a .log .now) (a .base) (a .term) (a .at) (a .most) (l .loop .available) (l .loop .padding) 32 ((d .before .n .given .0 .0 + 31) / 32 * 32 - 32) (l .loop .inv) (Padding (d .before .n .given .0 .0)) (is (d .before .before .before) _ (d .before .n .given .1)) refl (λ go. refl) (c .before .if2 .taken))
 
--- src/term_scan.rt:215:29
 add-available : tie.Need-add-available Inv-loop μ-loop
 add-available c = omega (arith, padding-in (c .before), c .before .before .before .before .before .loop .inv .inside)
 
--- src/term_scan.rt:216:28
 add-padding : tie.Need-add-padding Inv-loop μ-loop
 add-padding c = omega (arith, padding-in (c .before), c .before .before .before .before .before .loop .inv .inside)
 
--- src/term_scan.rt:216:27
 mul-padding : tie.Need-mul-padding Inv-loop μ-loop
 mul-padding c = omega (arith, padding-in (c .before), c .before .before .before .before .before .loop .inv .inside)
 
--- src/term_scan.rt:216:27
 sub-padding : tie.Need-sub-padding Inv-loop μ-loop
 sub-padding c = omega (arith, padding-in (c .before), c .before .before .before .before .before .loop .inv .inside)
 
--- src/term_scan.rt:217:28
 add-if3 : tie.Need-add-if3 Inv-loop μ-loop
 add-if3 c = omega (arith, padding-in (c .before), c .before .before .before .before .before .loop .inv .inside)
 
--- src/term_scan.rt:218:21
 outcome-requires-3 : tie.Need-outcome-requires-3 Inv-loop μ-loop
 outcome-requires-3 c κs = omega (arith, padding-in (c .before .before), c .before .before .before .before .before .before .loop .inv .inside)
 
--- src/term_scan.rt:218:21
 returns-4 : tie.Need-returns-4 Inv-loop μ-loop
 returns-4 c = c .outcome3 .ensures ∙ (let d = c .before .before .before in let l = c .before .before .before .before .before .before .before in let a = st l .args in laws.fills (a .log .now) (a .base) (a .term) (a .at) (a .most) (l .loop .available) (l .loop .padding) 32 ((d .before .n .given .0 .0 + 31) / 32 * 32 - 32) (l .loop .inv) (Padding (d .before .n .given .0 .0)) (is (d .before .before .before) _ (d .before .n .given .1)) refl (λ go. refl) (c .before .before .if2 .left) (c .before .if3 .taken))
 
--- src/term_scan.rt:200:5
 loop-less : tie.Need-loop-less Inv-loop μ-loop
 loop-less c = omega (arith, padding-in (c .before .before), c .before .before .before .before .before .before .loop .inv .inside)
 
--- src/term_scan.rt:200:5
 loop-again : tie.Need-loop-again Inv-loop μ-loop
-loop-again c = let d = c .before .before in let l = c .before .before .before .before .before .before in let a = st l .args in laws.goes-on (a .log .now) (a .base) (a .term) (a .at) (a .most) (l .loop .available) (l .loop .padding) 32 ((d .before .n .given .0 .0 + 31) / 32 * 32 - 32) (l .loop .inv) (Padding (d .before .n .given .0 .0)) (is (d .before .before .before) _ (d .before .n .given .1)) refl (λ go. refl) (omega arith) (omega arith) (omega (arith, padding-in d)) (c .if3 .left)
+loop-again c =
+    let d = c .before .before in
+    let l = c .before .before .before .before .before .before in
+    let a = st l .args in
+    laws.goes-on (a .log .now) (a .base) (a .term) (a .at) (a .most) (l .loop .available) (l .loop .padding) 32 ((d .before .n .given .0 .0 + 31) / 32 * 32 - 32) (l .loop .inv) (Padding (d .before .n .given .0 .0)) (is (d .before .before .before) _ (d .before .n .given .1)) refl (λ go. refl) (omega arith) (omega arith) (omega (arith, padding-in d)) (c .if3 .left)
 
--- src/term_scan.rt:221:25
 enum-known-n-2 : tie.Need-enum-known-n-2 Inv-loop μ-loop
 enum-known-n-2 c = search needs
 
--- src/term_scan.rt:222:29
 add-size : tie.Need-add-size Inv-loop μ-loop
 add-size c = omega (arith, data-in c, c .before .before .before .before .loop .inv .inside)
 
--- src/term_scan.rt:222:28
 mul-size : tie.Need-mul-size Inv-loop μ-loop
 mul-size c = omega (arith, data-in c, c .before .before .before .before .loop .inv .inside)
 
--- src/term_scan.rt:223:27
 add-if4 : tie.Need-add-if4 Inv-loop μ-loop
 add-if4 c = omega (arith, data-in c, c .before .before .before .before .loop .inv .inside)
 
--- src/term_scan.rt:224:21
 outcome-requires-4 : tie.Need-outcome-requires-4 Inv-loop μ-loop
 outcome-requires-4 c κs = omega (arith, c .before .before .before .before .before .loop .inv .inside)
 
--- src/term_scan.rt:224:21
 returns-5 : tie.Need-returns-5 Inv-loop μ-loop
 returns-5 c = c .outcome4 .ensures ∙ (let d = c .before .before in let l = c .before .before .before .before .before .before in let a = st l .args in laws.over-most (a .log .now) (a .base) (a .term) (a .at) (a .most) (l .loop .available) (l .loop .padding) ((d .before .n2 .given .0 .0 + 31) / 32 * 32) (l .loop .padding) (l .loop .inv) (Data (d .before .n2 .given .0 .0)) (is (d .before .before .before) _ (d .before .n2 .given .1)) refl (λ go. refl) (c .before .if4 .taken))
 
--- src/term_scan.rt:226:29
 add-available-2 : tie.Need-add-available-2 Inv-loop μ-loop
 add-available-2 c = omega (arith, data-in (c .before), c .before .before .before .before .before .loop .inv .inside, c .before .before .before .before .before .loop .inv .bounded)
 
--- src/term_scan.rt:227:28
 add-if5 : tie.Need-add-if5 Inv-loop μ-loop
 add-if5 c = omega (arith, data-in (c .before), c .before .before .before .before .before .loop .inv .inside, c .before .before .before .before .before .loop .inv .bounded)
 
--- src/term_scan.rt:228:21
 outcome-requires-5 : tie.Need-outcome-requires-5 Inv-loop μ-loop
 outcome-requires-5 c κs = omega (arith, data-in (c .before .before), c .before .before .before .before .before .before .loop .inv .inside, c .before .before .before .before .before .before .loop .inv .bounded)
 
--- src/term_scan.rt:228:21
 returns-6 : tie.Need-returns-6 Inv-loop μ-loop
 returns-6 c = c .outcome5 .ensures ∙ (let d = c .before .before .before in let l = c .before .before .before .before .before .before .before in let a = st l .args in laws.fills (a .log .now) (a .base) (a .term) (a .at) (a .most) (l .loop .available) (l .loop .padding) ((d .before .n2 .given .0 .0 + 31) / 32 * 32) (l .loop .padding) (l .loop .inv) (Data (d .before .n2 .given .0 .0)) (is (d .before .before .before) _ (d .before .n2 .given .1)) refl (λ go. refl) (c .before .before .if4 .left) (c .before .if5 .taken))
 
--- src/term_scan.rt:200:5
 loop-less-2 : tie.Need-loop-less-2 Inv-loop μ-loop
 loop-less-2 c = omega (arith, data-in (c .before .before), c .before .before .before .before .before .before .loop .inv .inside)
 
--- src/term_scan.rt:200:5
 loop-again-2 : tie.Need-loop-again-2 Inv-loop μ-loop
-loop-again-2 c = let d = c .before .before in let l = c .before .before .before .before .before .before in let a = st l .args in laws.goes-on (a .log .now) (a .base) (a .term) (a .at) (a .most) (l .loop .available) (l .loop .padding) ((d .before .n2 .given .0 .0 + 31) / 32 * 32) (l .loop .padding) (l .loop .inv) (Data (d .before .n2 .given .0 .0)) (is (d .before .before .before) _ (d .before .n2 .given .1)) refl (λ go. refl) (omega arith) (omega (arith, data-in d)) (l .loop .inv .bounded) (c .if5 .left)
+loop-again-2 c =
+    let d = c .before .before in
+    let l = c .before .before .before .before .before .before in
+    let a = st l .args in
+    laws.goes-on (a .log .now) (a .base) (a .term) (a .at) (a .most) (l .loop .available) (l .loop .padding) ((d .before .n2 .given .0 .0 + 31) / 32 * 32) (l .loop .padding) (l .loop .inv) (Data (d .before .n2 .given .0 .0)) (is (d .before .before .before) _ (d .before .n2 .given .1)) refl (λ go. refl) (omega arith) (omega (arith, data-in d)) (l .loop .inv .bounded) (c .if5 .left)
 
--- src/term_scan.rt:233:5
 outcome-requires-6 : tie.Need-outcome-requires-6 Inv-loop μ-loop
 outcome-requires-6 c κs = let i = c .before .before .before .loop .inv in omega (arith, i .inside, i .bounded)
 
--- src/term_scan.rt:194:1
 returns-7 : tie.Need-returns-7 Inv-loop μ-loop
 returns-7 c = c .outcome6 .ensures ∙ (let l = c .before .before .before .before in let a = st l .args in laws.available-absent (a .log .now) (a .base) (a .term) (a .at) (a .most) (l .loop .available) (l .loop .padding) (l .loop .inv) (is (c .before .before .before) _ (c .before .enum-told .given .1)))
 

@@ -7,9 +7,6 @@ use Rattle.model.proofs.GapLaws as laws
 use Rattle.model.proofs.GapLaws.{Measuring}
 use Rattle.logbuffer.proofs.term_scan.gap_length.Statement.{statement}
 use Rattle.logbuffer.proofs.term_scan.gap_length.Tie as tie
-use Rattle.logbuffer.proofs.term_scan.gap_length.Reads as reads
-use Rattle.logbuffer.proofs.term_scan.gap_length.Lts as lts
-use Rattle.logbuffer.proofs.field.word4.Reads as word4-reads
 
 abbrev Inv-loop : tie.InvT-loop
 Inv-loop log base term high at gap₀ gap = (at + gap ≤ high) × Measuring log base term high at gap
@@ -17,45 +14,41 @@ Inv-loop log base term high at gap₀ gap = (at + gap ≤ high) × Measuring log
 abbrev μ-loop : tie.MeasureT-loop
 μ-loop log base term high at gap₀ gap = high - gap
 
--- src/term_scan.rt:102:5
 loop-holds : tie.Need-loop-holds Inv-loop μ-loop
 loop-holds c = let a = c .before .args in (omega arith, laws.measure-start (a .log .now) (a .base) (a .term) (a .high) (a .at) (omega arith))
 
--- src/term_scan.rt:103:20
 add-loop : tie.Need-add-loop Inv-loop μ-loop
 add-loop c = omega arith
 
--- src/term_scan.rt:106:38
 add-word4 : tie.Need-add-word4 Inv-loop μ-loop
 add-word4 c = omega arith
 
--- src/term_scan.rt:106:30
 add-word4-2 : tie.Need-add-word4-2 Inv-loop μ-loop
 add-word4-2 c = omega arith
 
--- src/term_scan.rt:106:12
 word4-requires : tie.Need-word4-requires Inv-loop μ-loop
 word4-requires c κs = omega (arith, c .before .loop .inv .1 .aligned)
 
--- src/term_scan.rt:109:15
 add-gap : tie.Need-add-gap Inv-loop μ-loop
 add-gap c = omega arith
 
--- src/term_scan.rt:102:5
 loop-less : tie.Need-loop-less Inv-loop μ-loop
 loop-less c = omega arith
 
--- src/term_scan.rt:102:5
 loop-again : tie.Need-loop-again Inv-loop μ-loop
 loop-again c = (omega (arith, c .before .before .before .loop .inv .1 .aligned), let l = c .before .before .before in let a = l .before .before .args in laws.measure-on (a .log .now) (a .base) (a .term) (a .high) (a .at) (l .loop .gap) (l .loop .inv .1) (omega arith) (sym (c .before .word4 .ensures .0) ∙ c .if1 .left))
 
--- src/term_scan.rt:97:1
 returns : tie.Need-returns Inv-loop μ-loop
-returns c = let l = c .before in let a = l .before .before .args in laws.measure-mark (a .log .now) (a .base) (a .term) (a .high) (a .at) (l .loop .gap) (l .loop .inv .1) (c .loop-test .taken)
+returns c =
+    let l = c .before in
+    let a = l .before .before .args in
+    laws.measure-mark (a .log .now) (a .base) (a .term) (a .high) (a .at) (l .loop .gap) (l .loop .inv .1) (c .loop-test .taken)
 
--- src/term_scan.rt:97:1
 returns-2 : tie.Need-returns-2 Inv-loop μ-loop
-returns-2 c = let l = c .before .before .before in let a = l .before .before .args in laws.measure-word (a .log .now) (a .base) (a .term) (a .high) (a .at) (l .loop .gap) (l .loop .inv .1) (λ q. c .if1 .taken (c .before .word4 .ensures .0 ∙ q))
+returns-2 c =
+    let l = c .before .before .before in
+    let a = l .before .before .args in
+    laws.measure-word (a .log .now) (a .base) (a .term) (a .high) (a .at) (l .loop .gap) (l .loop .inv .1) (λ q. c .if1 .taken (c .before .word4 .ensures .0 ∙ q))
 
 pub gap-length-spec : {M : Type 1} → statement M
 gap-length-spec =

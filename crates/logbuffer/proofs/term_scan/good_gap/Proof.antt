@@ -1,3 +1,4 @@
+-- The first test that fails decides.
 use Rattle.model.proofs.ReaderLaws.{and-not, and-then}
 use Rattle.model.specs.LogBufferDescriptor.{goodPartition, goodOffset, withinTerm}
 use borrow.Author.Tests.{not-true, not-false, eq-eqb, ne-eqb}
@@ -8,30 +9,29 @@ use mathlib.Core.Path.{_≡_, refl, sym, ap, _∙_}
 use borrow.Author.Needs.{needs}
 use Rattle.logbuffer.proofs.term_scan.good_gap.Statement.{statement}
 use Rattle.logbuffer.proofs.term_scan.good_gap.Tie as tie
-use Rattle.logbuffer.proofs.term_scan.good_gap.Reads as reads
-use Rattle.logbuffer.proofs.term_scan.good_gap.Lts as lts
-use Rattle.logbuffer.proofs.argument.good_place.Reads as good-place-reads
-use Rattle.logbuffer.proofs.argument.within_term.Reads as within-term-reads
 
--- src/term_scan.rt:156:9
 good-place-requires : tie.Need-good-place-requires
 good-place-requires c κs = search needs
 
--- src/term_scan.rt:157:9
 returns : tie.Need-returns
-returns c = let a = c .before .before .args in and-not (goodPartition (a .k)) (goodOffset (a .at) (a .v)) _ (sym (c .before .good-place .ensures) ∙ not-true _ (c .if1 .taken))
+returns c =
+    let a = c .before .before .args in
+    and-not (goodPartition (a .k)) (goodOffset (a .at) (a .v)) _ (sym (c .before .good-place .ensures) ∙ not-true _ (c .if1 .taken))
 
--- src/term_scan.rt:160:9
 returns-2 : tie.Need-returns-2
-returns-2 c = let a = c .before .before .before .args in let e : (eqb (a .mark % 32) 0 && withinTerm (a .mark) (a .v)) ≡ false = rw (ne-eqb (a .mark % 32) 0 (c .if2 .taken)) in sym e ∙ and-then (goodPartition (a .k)) (goodOffset (a .at) (a .v)) _ (sym (c .before .before .good-place .ensures) ∙ not-false _ (c .before .if1 .left))
+returns-2 c =
+    let a = c .before .before .before .args in
+    let e : (eqb (a .mark % 32) 0 && withinTerm (a .mark) (a .v)) ≡ false = rw (ne-eqb (a .mark % 32) 0 (c .if2 .taken)) in
+    sym e ∙ and-then (goodPartition (a .k)) (goodOffset (a .at) (a .v)) _ (sym (c .before .before .good-place .ensures) ∙ not-false _ (c .before .if1 .left))
 
--- src/term_scan.rt:162:5
 within-term-requires : tie.Need-within-term-requires
 within-term-requires c κs = search needs
 
--- src/term_scan.rt:152:1
 returns-3 : tie.Need-returns-3
-returns-3 c = let a = c .before .before .before .before .args in let e : (eqb (a .mark % 32) 0 && withinTerm (a .mark) (a .v)) ≡ withinTerm (a .mark) (a .v) = rw (eq-eqb (a .mark % 32) 0 (c .before .if2 .left)) in c .within-term .ensures ∙ sym e ∙ and-then (goodPartition (a .k)) (goodOffset (a .at) (a .v)) _ (sym (c .before .before .before .good-place .ensures) ∙ not-false _ (c .before .before .if1 .left))
+returns-3 c =
+    let a = c .before .before .before .before .args in
+    let e : (eqb (a .mark % 32) 0 && withinTerm (a .mark) (a .v)) ≡ withinTerm (a .mark) (a .v) = rw (eq-eqb (a .mark % 32) 0 (c .before .if2 .left)) in
+    c .within-term .ensures ∙ sym e ∙ and-then (goodPartition (a .k)) (goodOffset (a .at) (a .v)) _ (sym (c .before .before .before .good-place .ensures) ∙ not-false _ (c .before .before .if1 .left))
 
 pub good-gap-spec : {M : Type 1} → statement M
 good-gap-spec =

@@ -1,3 +1,4 @@
+-- The first test that fails decides.
 use Rattle.model.proofs.ReaderLaws.{and-not, and-then}
 use Rattle.model.specs.LogBufferDescriptor.{goodPartition, goodOffset}
 use borrow.Author.Tests.{not-true, not-false}
@@ -5,26 +6,22 @@ use mathlib.Core.Path.{_≡_, refl, sym, ap, _∙_}
 use borrow.Author.Needs.{needs}
 use Rattle.logbuffer.proofs.term_scan.good_scan.Statement.{statement}
 use Rattle.logbuffer.proofs.term_scan.good_scan.Tie as tie
-use Rattle.logbuffer.proofs.term_scan.good_scan.Reads as reads
-use Rattle.logbuffer.proofs.term_scan.good_scan.Lts as lts
-use Rattle.logbuffer.proofs.argument.good_place.Reads as good-place-reads
-use Rattle.logbuffer.proofs.argument.within_term.Reads as within-term-reads
 
--- src/term_scan.rt:68:9
 good-place-requires : tie.Need-good-place-requires
 good-place-requires c κs = search needs
 
--- src/term_scan.rt:69:9
 returns : tie.Need-returns
-returns c = let a = c .before .before .args in and-not (goodPartition (a .k)) (goodOffset (a .at) (a .v)) _ (sym (c .before .good-place .ensures) ∙ not-true _ (c .if1 .taken))
+returns c =
+    let a = c .before .before .args in
+    and-not (goodPartition (a .k)) (goodOffset (a .at) (a .v)) _ (sym (c .before .good-place .ensures) ∙ not-true _ (c .if1 .taken))
 
--- src/term_scan.rt:71:5
 within-term-requires : tie.Need-within-term-requires
 within-term-requires c κs = search needs
 
--- src/term_scan.rt:64:1
 returns-2 : tie.Need-returns-2
-returns-2 c = let a = c .before .before .before .args in c .within-term .ensures ∙ and-then (goodPartition (a .k)) (goodOffset (a .at) (a .v)) _ (sym (c .before .before .good-place .ensures) ∙ not-false _ (c .before .if1 .left))
+returns-2 c =
+    let a = c .before .before .before .args in
+    c .within-term .ensures ∙ and-then (goodPartition (a .k)) (goodOffset (a .at) (a .v)) _ (sym (c .before .before .good-place .ensures) ∙ not-false _ (c .before .if1 .left))
 
 pub good-scan-spec : {M : Type 1} → statement M
 good-scan-spec = tie.close (tie.spec good-place-requires returns within-term-requires returns-2)

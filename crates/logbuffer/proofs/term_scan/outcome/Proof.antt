@@ -1,3 +1,4 @@
+-- Both numbers are small, so the sum is exact.
 use Rattle.model.specs.declared.AvailabilityScanned.the-variants.{Outcome}
 use mir.Facts.{toZ-pos}
 use mir.Syntax.{w64}
@@ -6,22 +7,16 @@ use mathlib.Core.Path.{_≡_, refl, sym, ap, _∙_}
 use borrow.Author.Needs.{needs}
 use Rattle.logbuffer.proofs.term_scan.outcome.Statement.{statement}
 use Rattle.logbuffer.proofs.term_scan.outcome.Tie as tie
-use Rattle.logbuffer.proofs.term_scan.outcome.Reads as reads
-use Rattle.logbuffer.proofs.term_scan.outcome.Lts as lts
 
--- src/term_scan.rt:190:35
 mul-t3 : tie.Need-mul-t3
 mul-t3 c = search needs
 
--- src/term_scan.rt:190:35
 add-t4 : tie.Need-add-t4
 add-t4 c = search needs
 
--- src/term_scan.rt:190:34
 cast-t5 : tie.Need-cast-t5
 cast-t5 c = search needs
 
--- src/term_scan.rt:186:1
 returns : tie.Need-returns
 returns c = ap Outcome (toZ-pos w64 (omega arith))
 

@@ -13,19 +13,11 @@ use Rattle.model.specs.TermReader.{natural}
 use Rattle.model.proofs.PlaceLaws.{Placed, placed}
 use Rattle.model.proofs.ReaderLaws.{and-true}
 use Rattle.model.proofs.ReadLaws.{and-and}
-use Rattle.logbuffer.proofs.Signs.{bits32}
+use Rattle.logbuffer.proofs.Signed.{word-by}
 use Rattle.model.proofs.ScanRows.{scan-argument, scan-record, scan-goes}
 use borrow.Author.Needs.{needs}
 use Rattle.logbuffer.proofs.term_scan.scan.Statement.{statement}
 use Rattle.logbuffer.proofs.term_scan.scan.Tie as tie
-use Rattle.logbuffer.proofs.term_scan.scan.Reads as reads
-use Rattle.logbuffer.proofs.term_scan.scan.Lts as lts
-use Rattle.logbuffer.proofs.argument.natural.Reads as natural-reads
-use Rattle.logbuffer.proofs.argument.read_active.Reads as read-active-reads
-use Rattle.logbuffer.proofs.cast.word.Reads as word-reads
-use Rattle.logbuffer.proofs.log_buffer_descriptor.is_sound.Reads as is-sound-reads
-use Rattle.logbuffer.proofs.term_scan.good_scan.Reads as good-scan-reads
-use Rattle.logbuffer.proofs.term_scan.scan_frames.Reads as scan-frames-reads
 
 -- the numbers as they are judged
 abbrev st : tie.After-natural → tie.Start
@@ -41,10 +33,10 @@ abbrev at : tie.After-natural → ℕ
 at c = c .before .word2 .result
 
 k-is : (c : tie.After-natural) → k c ≡ word (st c .args .partition)
-k-is c = bits32 (st c .args .partition) (c .before .before .word .ensures .0) (st c .fits .partition)
+k-is c = word-by (st c .args .partition) (c .before .before .word .ensures .0) (st c .fits .partition)
 
 at-is : (c : tie.After-natural) → at c ≡ word (st c .args .offset)
-at-is c = bits32 (st c .args .offset) (c .before .word2 .ensures .0) (st c .fits .offset)
+at-is c = word-by (st c .args .offset) (c .before .word2 .ensures .0) (st c .fits .offset)
 
 most-is : (c : tie.After-natural) → c .natural .result ≡ natural (st c .args .limit)
 most-is c = c .natural .ensures .0 ∙ ap natural (toZ-ofZ (st c .fits .limit))
@@ -65,47 +57,42 @@ place c = placed _ _ (k (num c)) (at (num c)) (and-and (goodPartition (k (num c)
 most-in : (c : tie.Else2) → num c .natural .result ≤ v (num c) .term
 most-in c = leb-true _ _ (and-true _ _ (and-and (goodPartition (k (num c))) (goodOffset (at (num c)) (v (num c))) _ (good c) .1) .0)
 
--- src/term_scan.rt:78:9
 read-active-requires : tie.Need-read-active-requires
 read-active-requires c κs = search needs
 
--- src/term_scan.rt:79:9
 word-requires : tie.Need-word-requires
 word-requires c κs = search needs
 
--- src/term_scan.rt:80:9
 word-requires-2 : tie.Need-word-requires-2
 word-requires-2 c κs = search needs
 
--- src/term_scan.rt:81:9
 natural-requires : tie.Need-natural-requires
 natural-requires c κs = search needs
 
--- src/term_scan.rt:82:9
 good-scan-requires : tie.Need-good-scan-requires
 good-scan-requires c κs = search needs
 
--- src/term_scan.rt:83:9
 returns : tie.Need-returns
-returns c = let q = c .before .before in let a = st q .args in scan-argument (a .rec) (a .log .now) (a .partition) (a .offset) (v q) (k q) (at q) (q .before .before .before .read-active .ensures) (k-is q) (at-is q) (a .limit) (q .natural .result) (most-is q) (sym (c .before .good-scan .ensures) ∙ not-true _ (c .if1 .taken))
+returns c =
+    let q = c .before .before in
+    let a = st q .args in
+    scan-argument (a .rec) (a .log .now) (a .partition) (a .offset) (v q) (k q) (at q) (q .before .before .before .read-active .ensures) (k-is q) (at-is q) (a .limit) (q .natural .result) (most-is q) (sym (c .before .good-scan .ensures) ∙ not-true _ (c .if1 .taken))
 
--- src/term_scan.rt:85:9
 is-sound-requires : tie.Need-is-sound-requires
 is-sound-requires c κs = search needs
 
--- src/term_scan.rt:86:9
 returns-2 : tie.Need-returns-2
-returns-2 c = let q = c .before .before .before .before in let a = st q .args in scan-record (a .rec) (a .log .now) (a .partition) (a .offset) (v q) (k q) (at q) (q .before .before .before .read-active .ensures) (k-is q) (at-is q) (a .limit) (q .natural .result) (most-is q) (sym (c .before .before .before .good-scan .ensures) ∙ not-false _ (c .before .before .if1 .left)) (sym (c .before .is-sound .ensures) ∙ not-true _ (c .if2 .taken))
+returns-2 c =
+    let q = c .before .before .before .before in
+    let a = st q .args in
+    scan-record (a .rec) (a .log .now) (a .partition) (a .offset) (v q) (k q) (at q) (q .before .before .before .read-active .ensures) (k-is q) (at-is q) (a .limit) (q .natural .result) (most-is q) (sym (c .before .before .before .good-scan .ensures) ∙ not-false _ (c .before .before .if1 .left)) (sym (c .before .is-sound .ensures) ∙ not-true _ (c .if2 .taken))
 
--- src/term_scan.rt:89:22
 mul-scan-frames : tie.Need-mul-scan-frames
 mul-scan-frames c = record { fits = omega (arith, place c .inside, st (num c) .good) }
 
--- src/term_scan.rt:89:5
 scan-frames-requires : tie.Need-scan-frames-requires
 scan-frames-requires c κs = let p = place c in (p .inside, (p .term-high, (p .below, most-in c)))
 
--- src/term_scan.rt:75:1
 returns-3 : tie.Need-returns-3
 returns-3 c = c .scan-frames .ensures ∙ (let q = c .before .before .before .before .before in let a = st q .args in scan-goes (a .rec) (a .log .now) (a .partition) (a .offset) (v q) (k q) (at q) (q .before .before .before .read-active .ensures) (k-is q) (at-is q) (a .limit) (q .natural .result) (most-is q) (good (c .before)) (is-sound (c .before)))
 

@@ -13,20 +13,11 @@ use Rattle.model.specs.TermReader.{natural}
 use Rattle.model.proofs.PlaceLaws.{Placed, placed}
 use Rattle.model.proofs.ReaderLaws.{and-true}
 use Rattle.model.proofs.ReadLaws.{and-and}
-use Rattle.logbuffer.proofs.Signs.{bits32}
+use Rattle.logbuffer.proofs.Signed.{word-by}
 use Rattle.model.proofs.ScanRows.{available-argument, available-record, available-goes}
 use borrow.Author.Needs.{needs}
 use Rattle.logbuffer.proofs.term_scan.scan_for_availability.Statement.{statement}
 use Rattle.logbuffer.proofs.term_scan.scan_for_availability.Tie as tie
-use Rattle.logbuffer.proofs.term_scan.scan_for_availability.Reads as reads
-use Rattle.logbuffer.proofs.term_scan.scan_for_availability.Lts as lts
-use Rattle.logbuffer.proofs.argument.good_place.Reads as good-place-reads
-use Rattle.logbuffer.proofs.argument.natural.Reads as natural-reads
-use Rattle.logbuffer.proofs.argument.read_active.Reads as read-active-reads
-use Rattle.logbuffer.proofs.cast.word.Reads as word-reads
-use Rattle.logbuffer.proofs.log_buffer_descriptor.is_sound.Reads as is-sound-reads
-use Rattle.logbuffer.proofs.term_scan.at_most.Reads as at-most-reads
-use Rattle.logbuffer.proofs.term_scan.available_frames.Reads as available-frames-reads
 
 -- the numbers as they are judged
 abbrev st : tie.After-natural → tie.Start
@@ -42,10 +33,10 @@ abbrev at : tie.After-natural → ℕ
 at c = c .before .word2 .result
 
 k-is : (c : tie.After-natural) → k c ≡ word (st c .args .partition)
-k-is c = bits32 (st c .args .partition) (c .before .before .word .ensures .0) (st c .fits .partition)
+k-is c = word-by (st c .args .partition) (c .before .before .word .ensures .0) (st c .fits .partition)
 
 at-is : (c : tie.After-natural) → at c ≡ word (st c .args .offset)
-at-is c = bits32 (st c .args .offset) (c .before .word2 .ensures .0) (st c .fits .offset)
+at-is c = word-by (st c .args .offset) (c .before .word2 .ensures .0) (st c .fits .offset)
 
 -- rows 1 and 2 passed
 abbrev num : tie.Else2 → tie.After-natural
@@ -61,57 +52,52 @@ place : (c : tie.Else2) → Placed (v (num c)) (length (st (num c) .args .log .n
 place c = placed _ _ (k (num c)) (at (num c)) (good c) (is-sound c)
 
 most-is : (c : tie.After-at-most) → c .at-most .result ≡ min (natural (st (num (c .before)) .args .maximum)) (v (num (c .before)) .term - at (num (c .before)))
-most-is c = let q = num (c .before) in c .at-most .ensures ∙ ap (λ (n : ℕ). min n (v q .term - at q)) (q .natural .ensures .0 ∙ ap natural (toZ-ofZ (st q .fits .maximum)))
+most-is c =
+    let q = num (c .before) in
+    c .at-most .ensures ∙ ap (λ (n : ℕ). min n (v q .term - at q)) (q .natural .ensures .0 ∙ ap natural (toZ-ofZ (st q .fits .maximum)))
 
--- src/term_scan.rt:247:9
 read-active-requires : tie.Need-read-active-requires
 read-active-requires c κs = search needs
 
--- src/term_scan.rt:248:9
 word-requires : tie.Need-word-requires
 word-requires c κs = search needs
 
--- src/term_scan.rt:249:9
 word-requires-2 : tie.Need-word-requires-2
 word-requires-2 c κs = search needs
 
--- src/term_scan.rt:250:9
 natural-requires : tie.Need-natural-requires
 natural-requires c κs = search needs
 
--- src/term_scan.rt:251:9
 good-place-requires : tie.Need-good-place-requires
 good-place-requires c κs = search needs
 
--- src/term_scan.rt:252:9
 returns : tie.Need-returns
-returns c = let q = c .before .before in let a = st q .args in available-argument (a .rec) (a .log .now) (a .partition) (a .offset) (v q) (k q) (at q) (q .before .before .before .read-active .ensures) (k-is q) (at-is q) (a .maximum) _ refl (sym (c .before .good-place .ensures) ∙ not-true _ (c .if1 .taken))
+returns c =
+    let q = c .before .before in
+    let a = st q .args in
+    available-argument (a .rec) (a .log .now) (a .partition) (a .offset) (v q) (k q) (at q) (q .before .before .before .read-active .ensures) (k-is q) (at-is q) (a .maximum) _ refl (sym (c .before .good-place .ensures) ∙ not-true _ (c .if1 .taken))
 
--- src/term_scan.rt:254:9
 is-sound-requires : tie.Need-is-sound-requires
 is-sound-requires c κs = search needs
 
--- src/term_scan.rt:255:9
 returns-2 : tie.Need-returns-2
-returns-2 c = let q = c .before .before .before .before in let a = st q .args in available-record (a .rec) (a .log .now) (a .partition) (a .offset) (v q) (k q) (at q) (q .before .before .before .read-active .ensures) (k-is q) (at-is q) (a .maximum) _ refl (sym (c .before .before .before .good-place .ensures) ∙ not-false _ (c .before .before .if1 .left)) (sym (c .before .is-sound .ensures) ∙ not-true _ (c .if2 .taken))
+returns-2 c =
+    let q = c .before .before .before .before in
+    let a = st q .args in
+    available-record (a .rec) (a .log .now) (a .partition) (a .offset) (v q) (k q) (at q) (q .before .before .before .read-active .ensures) (k-is q) (at-is q) (a .maximum) _ refl (sym (c .before .before .before .good-place .ensures) ∙ not-false _ (c .before .before .if1 .left)) (sym (c .before .is-sound .ensures) ∙ not-true _ (c .if2 .taken))
 
--- src/term_scan.rt:258:27
 mul-available-frames : tie.Need-mul-available-frames
 mul-available-frames c = record { fits = omega (arith, place c .inside, st (num c) .good) }
 
--- src/term_scan.rt:258:61
 sub-at-most : tie.Need-sub-at-most
 sub-at-most c = omega (arith, place c .below)
 
--- src/term_scan.rt:258:47
 at-most-requires : tie.Need-at-most-requires
 at-most-requires c κs = search needs
 
--- src/term_scan.rt:258:5
 available-frames-requires : tie.Need-available-frames-requires
 available-frames-requires c κs = let p = place (c .before) in (p .inside, (p .term-high, (p .below, omega (arith, c .at-most .ensures))))
 
--- src/term_scan.rt:244:1
 returns-3 : tie.Need-returns-3
 returns-3 c = c .available-frames .ensures ∙ (let q = c .before .before .before .before .before .before in let a = st q .args in available-goes (a .rec) (a .log .now) (a .partition) (a .offset) (v q) (k q) (at q) (q .before .before .before .read-active .ensures) (k-is q) (at-is q) (a .maximum) (c .before .at-most .result) (most-is (c .before)) (good (c .before .before)) (is-sound (c .before .before)))
 

@@ -13,7 +13,7 @@ use Rattle.model.specs.TermReader.{natural}
 use Rattle.model.proofs.PlaceLaws.{Placed, placed}
 use Rattle.model.proofs.ReaderLaws.{and-true}
 use Rattle.model.proofs.ReadLaws.{and-and}
-use Rattle.logbuffer.proofs.Signs.{bits32}
+use Rattle.logbuffer.proofs.Signed.{word-by}
 use lib.Dec.{eqb}
 use lib.IntN.{ℤ}
 use mir.Syntax.{w32}
@@ -23,13 +23,6 @@ use Rattle.model.proofs.ScanRows.{gap-argument, gap-record, gap-goes}
 use borrow.Author.Needs.{needs}
 use Rattle.logbuffer.proofs.term_scan.scan_for_gap.Statement.{statement}
 use Rattle.logbuffer.proofs.term_scan.scan_for_gap.Tie as tie
-use Rattle.logbuffer.proofs.term_scan.scan_for_gap.Reads as reads
-use Rattle.logbuffer.proofs.term_scan.scan_for_gap.Lts as lts
-use Rattle.logbuffer.proofs.argument.read_active.Reads as read-active-reads
-use Rattle.logbuffer.proofs.cast.word.Reads as word-reads
-use Rattle.logbuffer.proofs.log_buffer_descriptor.is_sound.Reads as is-sound-reads
-use Rattle.logbuffer.proofs.term_scan.gap_frames.Reads as gap-frames-reads
-use Rattle.logbuffer.proofs.term_scan.good_gap.Reads as good-gap-reads
 
 -- the numbers as they are judged
 abbrev st : tie.After-word3 → tie.Start
@@ -45,10 +38,10 @@ abbrev at : tie.After-word3 → ℕ
 at c = c .before .word2 .result
 
 k-is : (c : tie.After-word3) → k c ≡ word (st c .args .partition)
-k-is c = bits32 (st c .args .partition) (c .before .before .word .ensures .0) (st c .fits .partition)
+k-is c = word-by (st c .args .partition) (c .before .before .word .ensures .0) (st c .fits .partition)
 
 at-is : (c : tie.After-word3) → at c ≡ word (st c .args .offset)
-at-is c = bits32 (st c .args .offset) (c .before .word2 .ensures .0) (st c .fits .offset)
+at-is c = word-by (st c .args .offset) (c .before .word2 .ensures .0) (st c .fits .offset)
 
 -- rows 1 and 2 passed
 abbrev num : tie.Else2 → tie.After-word3
@@ -58,7 +51,7 @@ is-sound : (c : tie.Else2) → sound (v (num c)) (length (st (num c) .args .log 
 is-sound c = sym (c .before .is-sound .ensures) ∙ not-false _ (c .if2 .left)
 
 mark-is : (c : tie.After-word3) → c .word3 .result ≡ word (st c .args .high)
-mark-is c = bits32 (st c .args .high) (c .word3 .ensures .0) (st c .fits .high)
+mark-is c = word-by (st c .args .high) (c .word3 .ensures .0) (st c .fits .high)
 
 good : (c : tie.Else2) → (goodPartition (k (num c)) && (goodOffset (at (num c)) (v (num c)) && (eqb (num c .word3 .result % 32) 0 && withinTerm (num c .word3 .result) (v (num c))))) ≡ true
 good c = sym (c .before .before .before .good-gap .ensures) ∙ not-false _ (c .before .before .if1 .left)
@@ -71,49 +64,50 @@ mark-in c =
     let p = and-true (eqb (num c .word3 .result % 32) 0) _ (and-and (goodPartition (k (num c))) (goodOffset (at (num c)) (v (num c))) _ (good c) .1) in
     (leb-true _ _ (and-true _ _ (p .1) .0), eqb-true _ _ (p .0))
 
--- src/term_scan.rt:169:9
 read-active-requires : tie.Need-read-active-requires
 read-active-requires c κs = search needs
 
--- src/term_scan.rt:170:9
 word-requires : tie.Need-word-requires
 word-requires c κs = search needs
 
--- src/term_scan.rt:171:9
 word-requires-2 : tie.Need-word-requires-2
 word-requires-2 c κs = search needs
 
--- src/term_scan.rt:172:9
 word-requires-3 : tie.Need-word-requires-3
 word-requires-3 c κs = search needs
 
--- src/term_scan.rt:173:9
 good-gap-requires : tie.Need-good-gap-requires
 good-gap-requires c κs = search needs
 
--- src/term_scan.rt:174:9
 returns : tie.Need-returns
-returns c = let q = c .before .before in let a = st q .args in gap-argument (a .rec) (a .log .now) (a .partition) (a .offset) (v q) (k q) (at q) (q .before .before .before .read-active .ensures) (k-is q) (at-is q) (a .«term-id») (a .high) (q .word3 .result) (mark-is q) (sym (c .before .good-gap .ensures) ∙ not-true _ (c .if1 .taken))
+returns c =
+    let q = c .before .before in
+    let a = st q .args in
+    gap-argument (a .rec) (a .log .now) (a .partition) (a .offset) (v q) (k q) (at q) (q .before .before .before .read-active .ensures) (k-is q) (at-is q) (a .«term-id») (a .high) (q .word3 .result) (mark-is q) (sym (c .before .good-gap .ensures) ∙ not-true _ (c .if1 .taken))
 
--- src/term_scan.rt:176:9
 is-sound-requires : tie.Need-is-sound-requires
 is-sound-requires c κs = search needs
 
--- src/term_scan.rt:177:9
 returns-2 : tie.Need-returns-2
-returns-2 c = let q = c .before .before .before .before in let a = st q .args in gap-record (a .rec) (a .log .now) (a .partition) (a .offset) (v q) (k q) (at q) (q .before .before .before .read-active .ensures) (k-is q) (at-is q) (a .«term-id») (a .high) (q .word3 .result) (mark-is q) (sym (c .before .before .before .good-gap .ensures) ∙ not-false _ (c .before .before .if1 .left)) (sym (c .before .is-sound .ensures) ∙ not-true _ (c .if2 .taken))
+returns-2 c =
+    let q = c .before .before .before .before in
+    let a = st q .args in
+    gap-record (a .rec) (a .log .now) (a .partition) (a .offset) (v q) (k q) (at q) (q .before .before .before .read-active .ensures) (k-is q) (at-is q) (a .«term-id») (a .high) (q .word3 .result) (mark-is q) (sym (c .before .before .before .good-gap .ensures) ∙ not-false _ (c .before .before .if1 .left)) (sym (c .before .is-sound .ensures) ∙ not-true _ (c .if2 .taken))
 
--- src/term_scan.rt:180:21
 mul-gap-frames : tie.Need-mul-gap-frames
 mul-gap-frames c = record { fits = omega (arith, place c .inside, st (num c) .good) }
 
--- src/term_scan.rt:180:5
 gap-frames-requires : tie.Need-gap-frames-requires
-gap-frames-requires c κs = let p = place c in let m = mark-in c in (p .inside, (p .term-high, (m .0, (m .1, (p .at-32, p .below)))))
+gap-frames-requires c κs =
+    let p = place c in
+    let m = mark-in c in
+    (p .inside, (p .term-high, (m .0, (m .1, (p .at-32, p .below)))))
 
--- src/term_scan.rt:166:1
 returns-3 : tie.Need-returns-3
-returns-3 c = let q = c .before .before .before .before .before in let a = st q .args in c .gap-frames .ensures ∙ gap-goes (a .rec) (a .log .now) (a .partition) (a .offset) (v q) (k q) (at q) (q .before .before .before .read-active .ensures) (k-is q) (at-is q) (toZ w32 (ofZ w32 (a .«term-id»))) (a .high) (q .word3 .result) (mark-is q) (good (c .before)) (is-sound (c .before)) ∙ ap (λ (i : ℤ). gapOf (a .rec) (a .log .now) (a .partition) i (a .offset) (a .high)) (toZ-ofZ (st q .fits .«term-id»))
+returns-3 c =
+    let q = c .before .before .before .before .before in
+    let a = st q .args in
+    c .gap-frames .ensures ∙ gap-goes (a .rec) (a .log .now) (a .partition) (a .offset) (v q) (k q) (at q) (q .before .before .before .read-active .ensures) (k-is q) (at-is q) (toZ w32 (ofZ w32 (a .«term-id»))) (a .high) (q .word3 .result) (mark-is q) (good (c .before)) (is-sound (c .before)) ∙ ap (λ (i : ℤ). gapOf (a .rec) (a .log .now) (a .partition) i (a .offset) (a .high)) (toZ-ofZ (st q .fits .«term-id»))
 
 pub scan-for-gap-spec : {M : Type 1} → statement M
 scan-for-gap-spec =

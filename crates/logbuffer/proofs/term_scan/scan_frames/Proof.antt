@@ -11,9 +11,6 @@ use Rattle.model.proofs.ScanLaws as laws
 use Rattle.model.proofs.ScanLaws.{Scanning}
 use Rattle.logbuffer.proofs.term_scan.scan_frames.Statement.{statement}
 use Rattle.logbuffer.proofs.term_scan.scan_frames.Tie as tie
-use Rattle.logbuffer.proofs.term_scan.scan_frames.Reads as reads
-use Rattle.logbuffer.proofs.term_scan.scan_frames.Lts as lts
-use Rattle.logbuffer.proofs.frame_descriptor.frame_at.Reads as frame-at-reads
 
 abbrev Inv-loop : tie.InvT-loop
 Inv-loop log base term limit at offset₀ offset = Scanning log base term limit at offset
@@ -42,97 +39,98 @@ is-data c = sym (c .before .before .before .frame-at .ensures) ∙ c .before .n2
 data-in : (c : tie.After-known-told2 Inv-loop μ-loop) → let l = head (c .before .before .before) in Lies (c .before .n2 .given .0 .0) (st l .args .term - l .loop .offset)
 data-in c = lies _ _ (Data (c .before .n2 .given .0 .0)) (is-data c) refl
 
--- src/term_scan.rt:31:5
 loop-holds : tie.Need-loop-holds Inv-loop μ-loop
 loop-holds c = let a = c .before .args in laws.scan-start (a .log .now) (a .base) (a .term) (a .limit) (a .at) (omega arith)
 
--- src/term_scan.rt:35:47
 add-frame-at : tie.Need-add-frame-at Inv-loop μ-loop
 add-frame-at c = search needs
 
--- src/term_scan.rt:35:62
 sub-frame-at : tie.Need-sub-frame-at Inv-loop μ-loop
 sub-frame-at c = search needs
 
--- src/term_scan.rt:35:15
 frame-at-requires : tie.Need-frame-at-requires Inv-loop μ-loop
 frame-at-requires c κs = search needs
 
--- src/term_scan.rt:37:17
 enum-told : tie.Need-enum-told Inv-loop μ-loop
 enum-told c = search needs
 
--- src/term_scan.rt:40:20
 enum-told-2 : tie.Need-enum-told-2 Inv-loop μ-loop
 enum-told-2 c = search needs
 
--- src/term_scan.rt:41:21
 returns : tie.Need-returns Inv-loop μ-loop
-returns c = let l = c .before .before .before .before .before in let a = st l .args in laws.scan-first (a .log .now) (a .base) (a .term) (a .limit) (a .at) (l .loop .offset) (c .if1 .taken) (omega arith) (sym (c .before .before .before .frame-at .ensures) ∙ c .before .enum-told2 .given .1)
+returns c =
+    let l = c .before .before .before .before .before in
+    let a = st l .args in
+    laws.scan-first (a .log .now) (a .base) (a .term) (a .limit) (a .at) (l .loop .offset) (c .if1 .taken) (omega arith) (sym (c .before .before .before .frame-at .ensures) ∙ c .before .enum-told2 .given .1)
 
--- src/term_scan.rt:45:28
 enum-known-n : tie.Need-enum-known-n Inv-loop μ-loop
 enum-known-n c = search needs
 
--- src/term_scan.rt:47:50
 add-t17 : tie.Need-add-t17 Inv-loop μ-loop
 add-t17 c = omega (arith, padding-in (c .before))
 
--- src/term_scan.rt:47:49
 mul-t19 : tie.Need-mul-t19 Inv-loop μ-loop
 mul-t19 c = omega (arith, padding-in (c .before))
 
--- src/term_scan.rt:47:44
 add-t20 : tie.Need-add-t20 Inv-loop μ-loop
 add-t20 c = omega (arith, padding-in (c .before))
 
--- src/term_scan.rt:47:21
 returns-2 : tie.Need-returns-2 Inv-loop μ-loop
-returns-2 c = let l = c .before .before .before .before .before .before in let a = st l .args in laws.scan-past (a .log .now) (a .base) (a .term) (a .limit) (a .at) (l .loop .offset) (c .before .before .n .given .0 .0) (l .loop .inv) (omega arith) (is-padding (c .before)) (c .if2 .taken)
+returns-2 c =
+    let l = c .before .before .before .before .before .before in
+    let a = st l .args in
+    laws.scan-past (a .log .now) (a .base) (a .term) (a .limit) (a .at) (l .loop .offset) (c .before .before .n .given .0 .0) (l .loop .inv) (omega arith) (is-padding (c .before)) (c .if2 .taken)
 
--- src/term_scan.rt:51:25
 enum-known-n-2 : tie.Need-enum-known-n-2 Inv-loop μ-loop
 enum-known-n-2 c = search needs
 
--- src/term_scan.rt:52:38
 add-next : tie.Need-add-next Inv-loop μ-loop
 add-next c = omega (arith, data-in c)
 
--- src/term_scan.rt:52:37
 mul-next : tie.Need-mul-next Inv-loop μ-loop
 mul-next c = omega (arith, data-in c)
 
--- src/term_scan.rt:52:28
 add-next-2 : tie.Need-add-next-2 Inv-loop μ-loop
 add-next-2 c = omega (arith, data-in c)
 
--- src/term_scan.rt:31:5
 loop-less : tie.Need-loop-less Inv-loop μ-loop
 loop-less c = omega (arith, data-in (c .before))
 
--- src/term_scan.rt:31:5
 loop-again : tie.Need-loop-again Inv-loop μ-loop
-loop-again c = let l = c .before .before .before .before .before .before in let a = st l .args in laws.scan-on (a .log .now) (a .base) (a .term) (a .limit) (a .at) (l .loop .offset) (c .before .before .n2 .given .0 .0) (l .loop .inv) (omega arith) (c .if3 .left) (is-data (c .before))
+loop-again c =
+    let l = c .before .before .before .before .before .before in
+    let a = st l .args in
+    laws.scan-on (a .log .now) (a .base) (a .term) (a .limit) (a .at) (l .loop .offset) (c .before .before .n2 .given .0 .0) (l .loop .inv) (omega arith) (c .if3 .left) (is-data (c .before))
 
--- src/term_scan.rt:26:1
 returns-3 : tie.Need-returns-3 Inv-loop μ-loop
-returns-3 c = let l = c .before in let a = st l .args in laws.scan-full (a .log .now) (a .base) (a .term) (a .limit) (a .at) (l .loop .offset) (l .loop .inv) (c .loop-test .taken)
+returns-3 c =
+    let l = c .before in
+    let a = st l .args in
+    laws.scan-full (a .log .now) (a .base) (a .term) (a .limit) (a .at) (l .loop .offset) (l .loop .inv) (c .loop-test .taken)
 
--- src/term_scan.rt:26:1
 returns-4 : tie.Need-returns-4 Inv-loop μ-loop
-returns-4 c = let l = c .before .before .before .before in let a = st l .args in laws.scan-absent (a .log .now) (a .base) (a .term) (a .limit) (a .at) (l .loop .offset) (l .loop .inv) (sym (c .before .before .frame-at .ensures) ∙ c .enum-told .given .1)
+returns-4 c =
+    let l = c .before .before .before .before in
+    let a = st l .args in
+    laws.scan-absent (a .log .now) (a .base) (a .term) (a .limit) (a .at) (l .loop .offset) (l .loop .inv) (sym (c .before .before .frame-at .ensures) ∙ c .enum-told .given .1)
 
--- src/term_scan.rt:26:1
 returns-5 : tie.Need-returns-5 Inv-loop μ-loop
-returns-5 c = let l = c .before .before .before .before .before in let a = st l .args in laws.scan-unsound (a .log .now) (a .base) (a .term) (a .limit) (a .at) (l .loop .offset) (l .loop .inv) (sym (c .before .before .before .frame-at .ensures) ∙ c .before .enum-told2 .given .1) (c .if1 .left)
+returns-5 c =
+    let l = c .before .before .before .before .before in
+    let a = st l .args in
+    laws.scan-unsound (a .log .now) (a .base) (a .term) (a .limit) (a .at) (l .loop .offset) (l .loop .inv) (sym (c .before .before .before .frame-at .ensures) ∙ c .before .enum-told2 .given .1) (c .if1 .left)
 
--- src/term_scan.rt:26:1
 returns-6 : tie.Need-returns-6 Inv-loop μ-loop
-returns-6 c = let l = c .before .before .before .before .before .before in let a = st l .args in laws.scan-padding (a .log .now) (a .base) (a .term) (a .limit) (a .at) (l .loop .offset) (c .before .before .n .given .0 .0) (l .loop .inv) (is-padding (c .before)) (c .if2 .left)
+returns-6 c =
+    let l = c .before .before .before .before .before .before in
+    let a = st l .args in
+    laws.scan-padding (a .log .now) (a .base) (a .term) (a .limit) (a .at) (l .loop .offset) (c .before .before .n .given .0 .0) (l .loop .inv) (is-padding (c .before)) (c .if2 .left)
 
--- src/term_scan.rt:26:1
 returns-7 : tie.Need-returns-7 Inv-loop μ-loop
-returns-7 c = let l = c .before .before .before .before .before .before in let a = st l .args in laws.scan-long (a .log .now) (a .base) (a .term) (a .limit) (a .at) (l .loop .offset) (c .before .before .n2 .given .0 .0) (l .loop .inv) (is-data (c .before)) (c .if3 .taken)
+returns-7 c =
+    let l = c .before .before .before .before .before .before in
+    let a = st l .args in
+    laws.scan-long (a .log .now) (a .base) (a .term) (a .limit) (a .at) (l .loop .offset) (c .before .before .n2 .given .0 .0) (l .loop .inv) (is-data (c .before)) (c .if3 .taken)
 
 pub scan-frames-spec : {M : Type 1} → statement M
 scan-frames-spec =
