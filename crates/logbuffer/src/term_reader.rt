@@ -133,7 +133,8 @@ fn walk_frames(
                         settled: settled,
                     });
                 }
-                offset = offset + (n + 31) / 32 * 32;
+                let size = (n + 31) / 32 * 32;
+                offset = offset + size;
                 moved = offset - at;
                 settled = last_settled(whole, moved, settled);
                 count = count + 1;

@@ -136,17 +136,17 @@ sub-entries c = omega (arith, data-in (c .before .before))
 cast-entries-2 : tie.Need-cast-entries-2 Inv-loop μ-loop
 cast-entries-2 c = record { sfits = omega (arith, data-in (c .before .before)) }
 
-add-t29 : tie.Need-add-t29 Inv-loop μ-loop
-add-t29 c = omega (arith, data-in (c .before .before))
+add-t30 : tie.Need-add-t30 Inv-loop μ-loop
+add-t30 c = omega (arith, data-in (c .before .before))
 
-mul-t31 : tie.Need-mul-t31 Inv-loop μ-loop
-mul-t31 c = omega (arith, data-in (c .before .before))
+mul-t32 : tie.Need-mul-t32 Inv-loop μ-loop
+mul-t32 c = omega (arith, data-in (c .before .before))
 
 slice-set-from-entries-2 : tie.Need-slice-set-from-entries-2 Inv-loop μ-loop
 slice-set-from-entries-2 c = simp length-set (omega arith)
 
-add-t34 : tie.Need-add-t34 Inv-loop μ-loop
-add-t34 c = omega (arith, data-in (c .before .before .before))
+add-t35 : tie.Need-add-t35 Inv-loop μ-loop
+add-t35 c = omega (arith, data-in (c .before .before .before))
 
 same-length-2 : tie.Need-same-length-2 Inv-loop μ-loop
 same-length-2 c = simp length-set (search needs)
@@ -161,14 +161,14 @@ returns-2 c = let d = c .before .before .before in
     let y : toZ w32 (n - 32) ≡ pos (n - 32) = toZ-pos w32 (omega (arith, data-in d)) in
     frames-came (a .log .now) (a .base) (a .term) (a .end) (a .at) (a .limit) (a .actions .now) (a .entries .now) _ (w .count + 1) (w .count) (w .moved) (w .moved) (w .settled) (walks.turn-aborted (a .log .now) (a .base) (a .term) (a .end) (a .at) (a .limit) (a .actions .now) (a .entries .now) (w .entries) (w .offset) (w .settled) (w .count) n (w .inv .1 .1) (omega arith) (omega arith) (is-data d) (omega arith) _ _ x y (c .before .before .action-of .result) (w .moved) (c .before .before .action-of .ensures) (c .if3 .taken) (w .inv .1 .0)) refl
 
+add-size : tie.Need-add-size Inv-loop μ-loop
+add-size c = omega (arith, data-in (c .before .before .before))
+
+mul-size : tie.Need-mul-size Inv-loop μ-loop
+mul-size c = omega (arith, data-in (c .before .before .before))
+
 add-offset-3 : tie.Need-add-offset-3 Inv-loop μ-loop
 add-offset-3 c = omega (arith, data-in (c .before .before .before))
-
-mul-offset-2 : tie.Need-mul-offset-2 Inv-loop μ-loop
-mul-offset-2 c = omega (arith, data-in (c .before .before .before))
-
-add-offset-4 : tie.Need-add-offset-4 Inv-loop μ-loop
-add-offset-4 c = omega (arith, data-in (c .before .before .before))
 
 sub-moved-2 : tie.Need-sub-moved-2 Inv-loop μ-loop
 sub-moved-2 c = omega (arith, data-in (c .before .before .before), c .before .before .before .before .before .before .before .before .before .loop .inv .1 .1 .later)
@@ -277,15 +277,15 @@ walk-frames-spec =
     slice-set-from-entries
     sub-entries
     cast-entries-2
-    add-t29
-    mul-t31
+    add-t30
+    mul-t32
     slice-set-from-entries-2
-    add-t34
+    add-t35
     same-length-2
     returns-2
+    add-size
+    mul-size
     add-offset-3
-    mul-offset-2
-    add-offset-4
     sub-moved-2
     last-settled-requires
     add-count
