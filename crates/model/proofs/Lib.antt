@@ -4,8 +4,11 @@ pub mod Splice
 pub mod Fields
 pub mod Power
 pub mod Sound
+pub mod SoundRecord
 pub mod RawTail
+pub mod Rotate
 pub mod Cut
+-- demand 3
 pub mod Choice
 pub mod Cells
 pub mod Walking
@@ -22,3 +25,19 @@ pub mod Calls
 pub mod Claims
 pub mod Demand
 pub mod Corollaries
+-- what the code's contracts lean on
+pub mod Append
+pub mod BufferClaim
+pub mod Moving
+pub mod FrameLaws
+pub mod WalkLaws
+pub mod WalkLoop
+pub mod ReaderLaws
+pub mod PlaceLaws
+pub mod ReadLaws
+pub mod ScanLaws
+pub mod GapLaws
+pub mod AvailableLaws
+pub mod ScanRows
+pub mod ViewLaws
+pub mod HeaderRows

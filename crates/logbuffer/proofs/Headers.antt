@@ -1,0 +1,82 @@
+-- The words of a header, laid one behind the other; and header, reserved value and body as one frame.
+use mathlib.Core.Path.{_≡_, refl, sym, ap, ap₂, _∙_}
+use mathlib.Core.List.{List, [], _∷_, _++_, append-assoc}
+use Prim.Native.Nat.{ℕ, _+_, _*_, _/_, _%_, _≤_, _<_}
+use native.Mathlib.Omega.{arith}
+use lib.Arith.{digits-mod}
+use lib.ListN.{length, take, drop, length-append, length-drop}
+use lib.Pow.{shr-shr}
+use lib.Seq.{length-take-le}
+use Rattle.model.specs.declared.Reading.{Reading}
+use Rattle.model.specs.Bytes.{splice, le2, le4, le8}
+use Rattle.model.specs.DataFrameHeader.{header24}
+use Rattle.model.specs.LogBufferDescriptor.{biased}
+use Rattle.model.specs.TermAppender.{headerOf, header, fragment, fragmentBytes}
+use Rattle.model.proofs.Splice.{splice-more}
+use Rattle.model.proofs.Fields.{length-header}
+
+-- version 0, flags and type as one number of four bytes
+flags-word : (fl ty : ℕ) → fl < 256 → ty < 65536 → le4 (fl * 256 + ty * 65536) ≡ 0 ∷ fl ∷ le2 ty
+unfolding le4 le2
+flags-word fl ty h k =
+    let n = fl * 256 + ty * 65536 in
+    let a : n % 256 ≡ 0 = omega arith in
+    let n1 : n / 256 ≡ ty * 256 + fl = omega arith in
+    let n2 : n / 65536 ≡ ty = omega arith in
+    let n3 : n / 16777216 ≡ ty / 256 = omega (arith, shr-shr n 16 8) in
+    let b : n / 256 % 256 ≡ fl = ap (λ (x : ℕ). x % 256) n1 ∙ digits-mod ty h in
+    let c : n / 65536 % 256 ≡ ty % 256 = ap (λ (x : ℕ). x % 256) n2 in
+    let d : n / 16777216 % 256 ≡ ty / 256 % 256 = ap (λ (x : ℕ). x % 256) n3 in
+    ap₂ (λ (x y : ℕ). x ∷ y ∷ n / 65536 % 256 ∷ n / 16777216 % 256 ∷ []) a b ∙ ap₂ (λ (x y : ℕ). 0 ∷ fl ∷ x ∷ y ∷ []) c d
+
+header-law : (l : List ℕ) (at : ℕ) (v : Reading) (o len fl ty : ℕ) → at + 24 ≤ length l → fl < 256 → ty < 65536
+    → splice (splice (splice (splice (splice (splice l at (le4 len)) (at + 4) (le4 (fl * 256 + ty * 65536))) (at + 8) (le4 o)) (at + 12) (le4 (v .session))) (at + 16) (le4 (v .stream))) (at + 20) (le4 (biased (v .id)))
+    ≡ splice l at (header v o len fl ty)
+unfolding header header24 le4
+header-law l at v o len fl ty h hf ht =
+    let w = fl * 256 + ty * 65536 in
+    let low : at ≤ length l = omega arith in
+    let a1 = le4 len in
+    let a2 = a1 ++ le4 w in
+    let a3 = a2 ++ le4 o in
+    let a4 = a3 ++ le4 (v .session) in
+    let a5 = a4 ++ le4 (v .stream) in
+    let i = le4 (biased (v .id)) in
+    ap (λ (x : List ℕ). splice (splice (splice (splice x (at + 8) (le4 o)) (at + 12) (le4 (v .session))) (at + 16) (le4 (v .stream))) (at + 20) i) (splice-more l at a1 (le4 w) (at + 4) refl low)
+    ∙ ap (λ (x : List ℕ). splice (splice (splice x (at + 12) (le4 (v .session))) (at + 16) (le4 (v .stream))) (at + 20) i) (splice-more l at a2 (le4 o) (at + 8) refl low)
+    ∙ ap (λ (x : List ℕ). splice (splice x (at + 16) (le4 (v .stream))) (at + 20) i) (splice-more l at a3 (le4 (v .session)) (at + 12) refl low)
+    ∙ ap (λ (x : List ℕ). splice x (at + 20) i) (splice-more l at a4 (le4 (v .stream)) (at + 16) refl low)
+    ∙ splice-more l at a5 i (at + 20) refl low
+    ∙ ap (λ (x : List ℕ). splice l at (le4 len ++ (x ++ (le4 o ++ (le4 (v .session) ++ (le4 (v .stream) ++ i)))))) (flags-word fl ty hf ht)
+
+-- step by step, as the code goes
+pub header-by : (l l1 l2 l3 l4 l5 l6 : List ℕ) (at : ℕ) (v : Reading) (o len fl ty : ℕ) → at + 24 ≤ length l → fl < 256 → ty < 65536
+    → l1 ≡ splice l at (le4 len) → l2 ≡ splice l1 (at + 4) (le4 (fl * 256 + ty * 65536)) → l3 ≡ splice l2 (at + 8) (le4 o) → l4 ≡ splice l3 (at + 12) (le4 (v .session))
+    → l5 ≡ splice l4 (at + 16) (le4 (v .stream)) → l6 ≡ splice l5 (at + 20) (le4 (biased (v .id))) → l6 ≡ splice l at (header v o len fl ty)
+header-by l l1 l2 l3 l4 l5 l6 at v o len fl ty h hf ht e1 e2 e3 e4 e5 e6 = cc (header-law l at v o len fl ty h hf ht)
+
+length-24 : (v : Reading) (o len fl ty : ℕ) → length (header v o len fl ty) ≡ 24
+unfolding header
+length-24 v o len fl ty = length-header (headerOf v o len fl ty)
+
+length-le8 : (n : ℕ) → length (le8 n) ≡ 8
+unfolding le8 le4
+length-le8 n = refl
+
+fragment-law : (l : List ℕ) (at : ℕ) (v : Reading) (o fl re : ℕ) (src : List ℕ) (a n : ℕ) → at + (n + 32) ≤ length l → a + n ≤ length src
+    → splice (splice (splice l at (header v o (n + 32) fl 1)) (at + 24) (le8 re)) (at + 32) (take n (drop a src)) ≡ splice l at (fragmentBytes v o (fragment fl re (take n (drop a src))))
+unfolding fragmentBytes
+fragment-law l at v o fl re src a n h k =
+    let low : at ≤ length l = omega arith in
+    let b = take n (drop a src) in
+    let lb : length b ≡ n = length-take-le n (drop a src) (omega (arith, length-drop a src)) in
+    let hd = header v o (n + 32) fl 1 in
+    let lh : length hd ≡ 24 = length-24 v o (n + 32) fl 1 in
+    ap (λ (x : List ℕ). splice x (at + 32) b) (splice-more l at hd (le8 re) (at + 24) (omega arith) low)
+    ∙ splice-more l at (hd ++ le8 re) b (at + 32) (omega (arith, length-append hd (le8 re), length-le8 re)) low
+    ∙ ap (splice l at) (append-assoc hd (le8 re) b ∙ ap (λ (x : ℕ). header v o (x + 32) fl 1 ++ (le8 re ++ b)) (sym lb))
+
+pub fragment-by : (l l1 l2 l3 : List ℕ) (at : ℕ) (v : Reading) (o fl re : ℕ) (src : List ℕ) (a n : ℕ) → at + (n + 32) ≤ length l → a + n ≤ length src
+    → l1 ≡ splice l at (header v o (n + 32) fl 1) → l2 ≡ splice l1 (at + 24) (le8 re) → l3 ≡ splice l2 (at + 32) (take n (drop a src))
+    → l3 ≡ splice l at (fragmentBytes v o (fragment fl re (take n (drop a src))))
+fragment-by l l1 l2 l3 at v o fl re src a n h k e1 e2 e3 = cc (fragment-law l at v o fl re src a n h k)

@@ -1,0 +1,24 @@
+-- The upper half of a raw tail, read with its sign, and the exact arithmetic of a position.
+use mathlib.Core.Path.{_≡_, ap, _∙_}
+use Prim.Native.Nat.{suc, _-_, _/_}
+use native.Mathlib.Omega.{arith}
+use lib.IntN.{ℤ, pos, negsuc}
+use lib.Signed.{shrZ}
+use mir.Syntax.{w32, w64}
+use mir.Val.{SFits, ofZ, toZ}
+use mir.Facts.{toZ-pos, toZ-neg}
+
+-- it fits 32 bits
+pub id-fits : (v : ℤ) → SFits w64 v → SFits w32 (shrZ v 4294967296)
+id-fits (pos n) f = record { sfits = omega arith }
+id-fits (negsuc n) f = record { sfits = omega arith }
+
+pub id-fits-wide : (v : ℤ) → SFits w64 v → SFits w64 (shrZ v 4294967296)
+id-fits-wide (pos n) f = record { sfits = omega arith }
+id-fits-wide (negsuc n) f = record { sfits = omega arith }
+
+pub id-of-bits : (v : ℤ) → SFits w64 v → toZ w32 (ofZ w64 v / 4294967296) ≡ shrZ v 4294967296
+id-of-bits (pos n) f = toZ-pos w32 (omega arith)
+id-of-bits (negsuc n) f =
+    let e : (18446744073709551616 - suc n) / 4294967296 ≡ 4294967296 - suc (n / 4294967296) = omega arith in
+    ap (toZ w32) e ∙ toZ-neg w32 (n / 4294967296) (omega arith)

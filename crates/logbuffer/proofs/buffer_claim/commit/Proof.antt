@@ -1,0 +1,72 @@
+-- By what was located: the length is stored 32 before the body.
+use mathlib.Core.Path.{_≡_, sym, ap, _∙_}
+use Prim.Native.Nat.{ℕ, _-_, _≤_}
+use native.Mathlib.Omega.{arith}
+use borrow.Author.Needs.{needs}
+use lib.ListN.{length}
+use mir.Syntax.{w32}
+use mir.Val.{SFits}
+use Rattle.model.specs.Bytes.{word, splice, le4}
+use Rattle.model.specs.BufferClaim.{locateOf}
+use Rattle.model.specs.declared.Located.the-variants.{Span}
+use Rattle.model.proofs.BufferClaim.{lent, refuses, commits}
+use Rattle.logbuffer.proofs.Signed.{word-by}
+use Rattle.logbuffer.proofs.buffer_claim.commit.Statement.{statement}
+use Rattle.logbuffer.proofs.buffer_claim.commit.Tie as tie
+
+length-fits : (c : tie.Start) → SFits w32 (c .args .claim .length)
+length-fits c = search needs
+
+is-span : (c : tie.After-known-told2) → locateOf (c .before .before .before .before .before .before .args .rec) (c .before .before .before .before .before .before .args .log .now) (c .before .before .before .before .before .before .args .claim) ≡ Span (c .before .from .given .0 .0) (c .before .from .given .0 .1 .0)
+is-span c = sym (c .before .before .before .locate .ensures) ∙ c .before .from .given .1
+
+inside : (c : tie.After-known-told2) → (32 ≤ c .before .from .given .0 .0) × (c .before .from .given .0 .0 ≤ length (c .before .before .before .before .before .before .args .log .now))
+inside c =
+    let l = lent (c .before .before .before .before .before .before .args .rec) (c .before .before .before .before .before .before .args .log .now) (c .before .before .before .before .before .before .args .claim) _ _ (is-span c) in
+    (omega (arith, l .starts), omega (arith, l .starts, l .low, l .inside))
+
+locate-requires : tie.Need-locate-requires
+locate-requires c κs = search needs
+
+enum-known-e : tie.Need-enum-known-e
+enum-known-e c = search needs
+
+enum-known-from : tie.Need-enum-known-from
+enum-known-from c = search needs
+
+sub-put4 : tie.Need-sub-put4
+sub-put4 c = inside (c .before) .0
+
+word-requires : tie.Need-word-requires
+word-requires c κs = search needs
+
+put4-requires : tie.Need-put4-requires
+put4-requires c κs = let i = inside (c .before .before .before) in omega arith
+
+same-length : tie.Need-same-length
+same-length c = search needs
+
+returns : tie.Need-returns
+returns c = let s = c .before .before .before .before .before .before .args in let f = refuses (s .rec) (s .log .now) (s .claim) _ (sym (c .before .before .before .locate .ensures) ∙ c .before .e .given .1) in (f .0, f .1 .0)
+
+same-length-2 : tie.Need-same-length-2
+same-length-2 c = search needs
+
+returns-2 : tie.Need-returns-2
+returns-2 c = let s = c .before .before .before .before .before .before .before .before .before .before .before .before in let f = commits (s .args .rec) (s .args .log .now) (s .args .claim) _ _ (is-span (c .before .before .before .before .before .before)) in
+    (f .0, c .before .before .put4 .ensures ∙ ap (λ (n : ℕ). splice (s .args .log .now) (c .before .before .before .before .before .before .before .from .given .0 .0 - 32) (le4 n)) (word-by _ (c .before .before .before .word .ensures .0) (length-fits s)) ∙ f .1)
+
+pub commit-spec : {M : Type 1} → statement M
+commit-spec =
+    tie.close
+    (tie.spec
+    locate-requires
+    enum-known-e
+    enum-known-from
+    sub-put4
+    word-requires
+    put4-requires
+    same-length
+    returns
+    same-length-2
+    returns-2)

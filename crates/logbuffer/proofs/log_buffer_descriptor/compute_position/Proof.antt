@@ -1,0 +1,75 @@
+-- Each step of the sum fits 64 bits: the difference is near 0, and the shift is at most 30.
+use mathlib.Core.Path.{_≡_, ap, ap₂}
+use Prim.Native.Nat.{_*_, _%_, _^_}
+use native.Mathlib.Nat.{lt-trans}
+use borrow.Author.Tests.{lt-ltb, le-ltb}
+use borrow.Author.Needs.{needs}
+use lib.Dec.{lit<}
+use lib.IntN.{ℤ, pos, _+ℤ_, _-ℤ_, _*ℤ_}
+use mir.Facts.{toZ-ofZ, sfits-widen, toZ-pos}
+use mir.Val.{SFits, toZ, ofZ}
+use mir.Syntax.{w32, w64}
+use Rattle.model.specs.declared.Positioned.the-variants.{Position}
+use Rattle.model.specs.LogBufferDescriptor.{computePosition}
+use Rattle.logbuffer.proofs.Signed.{lands, asks}
+use Rattle.logbuffer.proofs.Exact.{difference-fits, product-fits, position-fits, shifted-one}
+use Rattle.logbuffer.proofs.log_buffer_descriptor.compute_position.Statement.{statement}
+use Rattle.logbuffer.proofs.log_buffer_descriptor.compute_position.Tie as tie
+
+-- the numbers at each step of the last line
+module _ (c : tie.Else1) where
+  abbrev s : tie.Start
+  s = c .before
+
+  abbrev difference : toZ w64 (ofZ w64 (toZ w32 (ofZ w32 (s .args .term-id)))) -ℤ toZ w64 (ofZ w64 (toZ w32 (ofZ w32 (s .args .initial)))) ≡ s .args .term-id -ℤ s .args .initial
+  difference = ap₂ (λ (a b : ℤ). a -ℤ b) (lands (toZ-ofZ (s .fits .term-id)) (sfits-widen tt (s .fits .term-id))) (lands (toZ-ofZ (s .fits .initial)) (sfits-widen tt (s .fits .initial)))
+
+  abbrev product : toZ w64 (ofZ w64 (toZ w64 (ofZ w64 (toZ w32 (ofZ w32 (s .args .term-id)))) -ℤ toZ w64 (ofZ w64 (toZ w32 (ofZ w32 (s .args .initial))))))
+      *ℤ toZ w64 (1 * 2 ^ s .args .bits % 18446744073709551616) ≡ (s .args .term-id -ℤ s .args .initial) *ℤ pos (2 ^ s .args .bits)
+  product = ap₂ (λ (a b : ℤ). a *ℤ b) (lands difference (difference-fits (s .args .term-id) (s .args .initial) (s .fits .term-id) (s .fits .initial))) (shifted-one (s .args .bits) (c .if1 .left))
+
+  abbrev product-fit : SFits w64 ((s .args .term-id -ℤ s .args .initial) *ℤ pos (2 ^ s .args .bits))
+  product-fit = product-fits (s .args .term-id) (s .args .initial) (s .fits .term-id) (s .fits .initial) (s .args .bits) (c .if1 .left)
+
+  abbrev sum-fit : SFits w64 ((s .args .term-id -ℤ s .args .initial) *ℤ pos (2 ^ s .args .bits) +ℤ pos (s .args .offset))
+  sum-fit = position-fits (s .args .term-id) (s .args .initial) (s .fits .term-id) (s .fits .initial) (s .args .bits) (c .if1 .left) (s .args .offset) (s .fits .offset .fits)
+
+  low : toZ w64 (s .args .offset) ≡ pos (s .args .offset)
+  low = toZ-pos w64 (lt-trans (s .fits .offset .fits) (lit< tt))
+
+returns : tie.Need-returns
+unfolding computePosition
+returns c = simp (lt-ltb 30 (c .before .args .bits) (c .if1 .taken))
+
+cast-t7 : tie.Need-cast-t7
+cast-t7 c = asks (toZ-ofZ (c .before .fits .term-id)) (sfits-widen tt (c .before .fits .term-id))
+
+cast-t8 : tie.Need-cast-t8
+cast-t8 c = asks (toZ-ofZ (c .before .fits .initial)) (sfits-widen tt (c .before .fits .initial))
+
+sub-t9 : tie.Need-sub-t9
+sub-t9 c = asks (difference c) (difference-fits (c .before .args .term-id) (c .before .args .initial) (c .before .fits .term-id) (c .before .fits .initial))
+
+cast-t10 : tie.Need-cast-t10
+cast-t10 c = search needs
+
+shl-t11 : tie.Need-shl-t11
+shl-t11 c = search needs
+
+mul-t12 : tie.Need-mul-t12
+mul-t12 c = asks (product c) (product-fit c)
+
+cast-t13 : tie.Need-cast-t13
+cast-t13 c = search needs
+
+add-t14 : tie.Need-add-t14
+add-t14 c = asks (ap₂ (λ (a b : ℤ). a +ℤ b) (lands (product c) (product-fit c)) (low c)) (sum-fit c)
+
+returns-2 : tie.Need-returns-2
+unfolding computePosition
+returns-2 c = simp (le-ltb 30 (c .before .args .bits) (c .if1 .left)) (ap Position (lands (ap₂ (λ (a b : ℤ). a +ℤ b) (lands (product c) (product-fit c)) (low c)) (sum-fit c)))
+
+pub compute-position-spec : {M : Type 1} → statement M
+compute-position-spec =
+    tie.close
+    (tie.spec returns cast-t7 cast-t8 sub-t9 cast-t10 shl-t11 mul-t12 cast-t13 add-t14 returns-2)

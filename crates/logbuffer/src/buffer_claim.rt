@@ -1,0 +1,126 @@
+// A claim's body lent out of the middle of the log, commit and abort.
+ghost use mathlib.Core.Path.{_≡_};
+ghost use Prim.Native.Nat.{_+_, _≤_, _<_};
+ghost use denote.Ref.{ptr};
+ghost use lib.ListN.{length};
+ghost use Rattle.model.specs.Parts.{partOf, locatedNumber};
+ghost use Rattle.model.specs.BufferClaim.{claimStart, goodClaim, matches, locateOf, commitOf, commitBytes, abortBytes};
+ghost use Rattle.logbuffer.specs.Lent.{startOf};
+use crate::cast;
+use crate::errors;
+use crate::field;
+use crate::log_buffer_descriptor;
+use model::Claim;
+use model::Error;
+use model::Located;
+use model::LogRecord;
+use model::Outcome;
+use model::Reading;
+
+// A partition, an offset that is a multiple of 32, a length of at least 32, an aligned end inside the term.
+fn good_claim(v: Reading, claim: Claim) -> bool
+    ensures { λ r. ⌜ r ≡ goodClaim v claim ⌝ }
+{
+    let offset = cast::word(claim.offset);
+    let length = cast::word(claim.length);
+    if cast::word(claim.partition) > 2 {
+        return false;
+    }
+    if offset % 32 != 0 {
+        return false;
+    }
+    if length < 32 {
+        return false;
+    }
+    if offset + (length + 31) / 32 * 32 > v.term {
+        return false;
+    }
+    v.term <= 2147483647
+}
+
+// Where the claim's frame starts.
+fn start(v: Reading, claim: Claim) -> usize
+    requires { ⌜ (v .term < 4294967296) ⌝ }
+    ensures { λ r. ⌜ r ≡ claimStart v claim ⌝ }
+{
+    cast::word(claim.partition) * v.term + cast::word(claim.offset)
+}
+
+// The header at a place still shows minus the claim's length, and its term id.
+fn shows(log: &[u8], at: usize, claim: Claim) -> bool
+    requires { ⌜ at + 24 ≤ length (now log) ⌝ }
+    ensures { λ r. ⌜ r ≡ matches (now (log .entry)) at claim ⌝ }
+{
+    if field::word4(log, at) != 4294967296 - cast::word(claim.length) {
+        return false;
+    }
+    field::word4(log, at + 20) == cast::word(claim.term_id)
+}
+
+// Where the body lies, by value.
+pub fn locate(rec: LogRecord, log: &[u8], claim: Claim) -> Located
+    ensures { λ r. ⌜ r ≡ locateOf rec (now (log .entry)) claim ⌝ }
+{
+    let v = log_buffer_descriptor::read_active(rec);
+    if !good_claim(v, claim) {
+        return Located::Refused(Error::IllegalArgument);
+    }
+    if !log_buffer_descriptor::is_sound(v, log.len()) {
+        return Located::Refused(Error::IllegalRecord);
+    }
+    let at = start(v, claim);
+    if !shows(log, at, claim) {
+        return Located::Refused(Error::ClaimMismatch);
+    }
+    Located::Span(at + 32, at + cast::word(claim.length))
+}
+
+// The body between header and slack, to be written; the empty part for a refusal.
+pub fn body(rec: LogRecord, log: &mut [u8], claim: Claim) -> &mut [u8]
+    ensures { λ r. ⌜ now r ≡ partOf (now (log .entry)) (locateOf rec (now (log .entry)) claim) ⌝ }
+    ensures { λ r. ⌜ ptr r ≡ ((ptr (log .entry)) .0, startOf (locateOf rec (now (log .entry)) claim) + (ptr (log .entry)) .1) ⌝ }
+{
+    let Located::Span(from, to) = locate(rec, log, claim) else {
+        return &mut log[0..0];
+    };
+    &mut log[from..to]
+}
+
+// The companion: 0, or the number of the refusal.
+pub fn body_number(rec: LogRecord, log: &[u8], claim: Claim) -> i32
+    ensures { λ r. ⌜ r ≡ locatedNumber (locateOf rec (now (log .entry)) claim) ⌝ }
+{
+    match locate(rec, log, claim) {
+        Located::Span(_, _) => 0,
+        Located::Refused(e) => errors::number(e),
+    }
+}
+
+// The length is stored: the frame is finished.
+pub fn commit(rec: LogRecord, log: &mut [u8], claim: Claim) -> Outcome
+    ensures { λ r. ⌜ r ≡ commitOf rec (now (log .entry)) claim ⌝ }
+    ensures { λ _. ⌜ now (log .exit) ≡ commitBytes rec (now (log .entry)) claim ⌝ }
+{
+    match locate(rec, log, claim) {
+        Located::Refused(e) => Outcome::Refused(e),
+        Located::Span(from, _) => {
+            field::put4(log, from - 32, cast::word(claim.length));
+            Outcome::Done
+        }
+    }
+}
+
+// The same with type 0: the frame is padding.
+pub fn abort(rec: LogRecord, log: &mut [u8], claim: Claim) -> Outcome
+    ensures { λ r. ⌜ r ≡ commitOf rec (now (log .entry)) claim ⌝ }
+    ensures { λ _. ⌜ now (log .exit) ≡ abortBytes rec (now (log .entry)) claim ⌝ }
+{
+    match locate(rec, log, claim) {
+        Located::Refused(e) => Outcome::Refused(e),
+        Located::Span(from, _) => {
+            field::put2(log, from - 26, 0);
+            field::put4(log, from - 32, cast::word(claim.length));
+            Outcome::Done
+        }
+    }
+}

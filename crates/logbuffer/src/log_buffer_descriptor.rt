@@ -1,0 +1,237 @@
+// The log record: read, judged, and changed; and the arithmetic of raw tails and positions.
+ghost use mathlib.Core.Path.{_≡_};
+ghost use Prim.Native.Nat.{_+_, _≤_, _<_};
+ghost use Rattle.model.specs.LogBufferDescriptor.{termId, termOffset, indexByTermCount, indexByPosition, bitsToShift, computePosition, tailOf, readingOf, reading, soundRecord, sound, withTail, withCount, nextTail, rotateVerdict, rotateLogOf};
+use crate::cast;
+use model::Error;
+use model::LogRecord;
+use model::Outcome;
+use model::Positioned;
+use model::Reading;
+use model::RecordReply;
+use model::Verdict;
+
+// ---- numbers
+
+// The upper half of a raw tail, with its sign.
+pub fn term_id(raw_tail: i64) -> i32
+    ensures { λ r. ⌜ r ≡ termId «raw_tail» ⌝ }
+{
+    (raw_tail >> 32) as i32
+}
+
+// The lower half, cut to the term length.
+pub fn term_offset(raw_tail: i64, term_length: usize) -> usize
+    ensures { λ r. ⌜ r ≡ termOffset «raw_tail» «term_length» ⌝ }
+{
+    let offset = cast::long(raw_tail) % 4294967296;
+    if offset < term_length {
+        offset
+    } else {
+        term_length
+    }
+}
+
+pub fn index_by_term_count(count: usize) -> usize
+    ensures { λ r. ⌜ r ≡ indexByTermCount count ⌝ }
+{
+    count % 3
+}
+
+// No bit of a position is left by a shift past its width.
+pub fn index_by_position(position: u64, bits: u32) -> usize
+    ensures { λ r. ⌜ r ≡ indexByPosition position bits ⌝ }
+{
+    if bits > 63 {
+        return 0;
+    }
+    ((position >> bits) % 3) as usize
+}
+
+pub fn position_bits_to_shift(term_length: u32) -> u32
+    ensures { λ r. ⌜ r ≡ bitsToShift «term_length» ⌝ }
+{
+    u32::trailing_zeros(term_length)
+}
+
+pub fn compute_position(term_id: i32, offset: u32, bits: u32, initial: i32) -> Positioned
+    ensures { λ r. ⌜ r ≡ computePosition «term_id» offset bits initial ⌝ }
+{
+    if bits > 30 {
+        return Positioned::Refused(Error::IllegalArgument);
+    }
+    Positioned::Position(((term_id as i64) - (initial as i64)) * (1i64 << bits) + (offset as i64))
+}
+
+// ---- the record, read
+
+// The raw tail of a partition; 0 where there is none.
+fn tail(rec: LogRecord, partition: usize) -> i64
+    ensures { λ r. ⌜ r ≡ tailOf rec partition ⌝ }
+{
+    if partition < 3 {
+        rec.tails[partition]
+    } else {
+        0
+    }
+}
+
+// The record's numbers without signs, with the tail of a partition.
+pub fn read(rec: LogRecord, partition: usize) -> Reading
+    ensures { λ r. ⌜ r ≡ readingOf rec partition ⌝ }
+{
+    let bits = cast::long(tail(rec, partition));
+    let initial = (cast::word(rec.initial_term_id) + 2147483648) % 4294967296;
+    Reading {
+        term: cast::word(rec.term_length),
+        mtu: cast::word(rec.mtu_length),
+        count: cast::word(rec.active_term_count),
+        initial: initial,
+        session: cast::word(rec.session_id),
+        stream: cast::word(rec.stream_id),
+        connected: cast::word(rec.is_connected),
+        limit: cast::long(rec.publication_limit),
+        id: (bits / 4294967296 + 2147483648) % 4294967296,
+        offset: bits % 4294967296,
+        closed: rec.is_closed,
+    }
+}
+
+// The same at the active partition.
+pub fn read_active(rec: LogRecord) -> Reading
+    ensures { λ r. ⌜ r ≡ reading rec ⌝ }
+{
+    read(rec, cast::word(rec.active_term_count) % 3)
+}
+
+// ---- row 2
+
+// The record's own ranges.
+pub fn is_sound_record(v: Reading) -> bool
+    ensures { λ r. ⌜ r ≡ soundRecord v ⌝ }
+{
+    if v.term < 65536 {
+        return false;
+    }
+    if v.term > 1073741824 {
+        return false;
+    }
+    if usize::count_ones(v.term) != 1 {
+        return false;
+    }
+    if v.mtu < 64 {
+        return false;
+    }
+    if v.mtu > 65504 {
+        return false;
+    }
+    if v.mtu % 32 != 0 {
+        return false;
+    }
+    if v.initial < 2 {
+        return false;
+    }
+    if v.count > 2147483647 {
+        return false;
+    }
+    if v.limit > 4611686018427387904 {
+        return false;
+    }
+    if v.offset % 32 != 0 {
+        return false;
+    }
+    v.offset <= 2147483647
+}
+
+// And those of a lent log of n bytes.
+pub fn is_sound(v: Reading, n: usize) -> bool
+    ensures { λ r. ⌜ r ≡ sound v n ⌝ }
+{
+    if !is_sound_record(v) {
+        return false;
+    }
+    n == 3 * v.term
+}
+
+// ---- the record, changed
+
+// The tail of partition k at (id, offset).
+pub(crate) fn with_tail(rec: LogRecord, k: usize, id: usize, offset: usize) -> LogRecord
+    requires { ⌜ (k < 3) × ((id < 8589934592) × (offset < 4294967296)) ⌝ }
+    ensures { λ r. ⌜ r ≡ withTail rec k id offset ⌝ }
+{
+    let mut next = rec;
+    next.tails[k] = cast::to_i64((id + 2147483648) % 4294967296 * 4294967296 + offset);
+    next
+}
+
+fn with_count(rec: LogRecord, n: usize) -> LogRecord
+    requires { ⌜ n < 2147483648 ⌝ }
+    ensures { λ r. ⌜ r ≡ withCount rec n ⌝ }
+{
+    let mut next = rec;
+    next.active_term_count = n as i32;
+    next
+}
+
+// ---- rotation
+
+// The next partition's tail is set where it is two terms behind.
+fn next_tail(rec: LogRecord, count: usize, id: usize) -> LogRecord
+    requires { ⌜ (count < 2147483648) × (id < 4294967296) ⌝ }
+    ensures { λ r. ⌜ r ≡ nextTail rec count id ⌝ }
+{
+    let k = (count + 1) % 3;
+    let v = read(rec, k);
+    if v.id + 2 == id {
+        return with_tail(rec, k, id + 1, 0);
+    }
+    rec
+}
+
+fn rotate_verdict(v: Reading, count: usize, id: usize) -> Verdict
+    ensures { λ r. ⌜ r ≡ rotateVerdict v count id ⌝ }
+{
+    if count > 2147483647 {
+        return Verdict::Refuse(Error::IllegalArgument);
+    }
+    if !is_sound_record(v) {
+        return Verdict::Refuse(Error::IllegalRecord);
+    }
+    if id == 4294967295 {
+        return Verdict::Refuse(Error::LastTerm);
+    }
+    if count == 2147483647 {
+        return Verdict::Refuse(Error::LastTerm);
+    }
+    Verdict::Pass
+}
+
+// From a count and a term id: the next tail, and the count one higher if it is the one given.
+pub fn rotate_log(rec: LogRecord, count: i32, id: i32) -> RecordReply
+    ensures { λ r. ⌜ r ≡ rotateLogOf rec count id ⌝ }
+{
+    let given = cast::word(count);
+    let term = (cast::word(id) + 2147483648) % 4294967296;
+    let v = read_active(rec);
+    match rotate_verdict(v, given, term) {
+        Verdict::Refuse(e) => RecordReply {
+            next: rec,
+            answer: Outcome::Refused(e),
+        },
+        Verdict::Pass => {
+            let next = next_tail(rec, given, term);
+            if v.count == given {
+                let risen = with_count(next, given + 1);
+                return RecordReply {
+                    next: risen,
+                    answer: Outcome::Done,
+                };
+            }
+            RecordReply {
+                next: next,
+                answer: Outcome::Done,
+            }
+        }
+    }
+}

@@ -1,0 +1,364 @@
+// The appenders: a message into one partition of the log, as one frame or as many, and a claim of a frame to be written later.
+ghost use mathlib.Core.Path.{_≡_};
+ghost use Prim.Native.Nat.{_+_, _*_, _%_, _≤_, _<_};
+ghost use lib.ListN.{length};
+ghost use Rattle.model.specs.Bytes.{word, long};
+ghost use Rattle.model.specs.FrameDescriptor.{space};
+ghost use Rattle.model.specs.LogBufferDescriptor.{biased, readingOf};
+ghost use Rattle.model.specs.TermAppender.{cut, need, written, claimed, course, movedBy, bytesBy, appendedBy, goodMessage, goodFragments, unfragmentedReply, unfragmentedBytes, fragmentedReply, fragmentedBytes, claimRecord, claimAppendedBy, claimAppendReply, claimAppendBytes};
+ghost use Rattle.model.proofs.Append.{Room, appendReply, appendBytes};
+use crate::cast;
+use crate::header;
+use crate::log_buffer_descriptor;
+use model::AppendClaimReply;
+use model::AppendReply;
+use model::Appended;
+use model::AppendedClaim;
+use model::Claim;
+use model::Course;
+use model::Error;
+use model::LogRecord;
+use model::Reading;
+
+// ---- arguments
+
+fn good_message(k: usize, m: usize) -> bool
+    ensures { λ r. ⌜ r ≡ goodMessage k m ⌝ }
+{
+    if k > 2 {
+        return false;
+    }
+    m <= 2147483647
+}
+
+fn good_fragments(k: usize, m: usize, payload: usize) -> bool
+    ensures { λ r. ⌜ r ≡ goodFragments k m payload ⌝ }
+{
+    if !good_message(k, m) {
+        return false;
+    }
+    if m < 1 {
+        return false;
+    }
+    if payload < 32 {
+        return false;
+    }
+    if payload > 2147483647 {
+        return false;
+    }
+    payload % 32 == 0
+}
+
+// The bits of a term id with 2^31 added, as the record's reading has it.
+fn biased_id(id: i32) -> usize
+    ensures { λ r. ⌜ r ≡ biased (word id) ⌝ }
+{
+    (cast::word(id) + 2147483648) % 4294967296
+}
+
+// ---- the way of an append
+
+fn judge(v: Reading, n: usize, needed: usize, given: usize) -> Course
+    requires { ⌜ needed < 9223372036854775808 ⌝ }
+    ensures { λ r. ⌜ r ≡ course v n needed given ⌝ }
+{
+    if !log_buffer_descriptor::is_sound(v, n) {
+        return Course::Refuse(Error::IllegalRecord);
+    }
+    let end = v.offset + needed;
+    if end > 2147483647 {
+        return Course::Refuse(Error::TailOverflow);
+    }
+    if v.id != given {
+        return Course::Stray;
+    }
+    if end > v.term {
+        return Course::Trip;
+    }
+    Course::Fit
+}
+
+// The way of an append; where it trips, the rest of the term is padded.
+fn begin_append(v: Reading, log: &mut [u8], k: usize, needed: usize, given: usize) -> Course
+    requires { ⌜ (k ≤ 2) × ((v .id < 4294967296) × (needed < 9223372036854775808)) ⌝ }
+    ensures { λ r. ⌜ r ≡ course v (length (now (log .entry))) needed given ⌝ }
+    ensures { λ _. ⌜ now (log .exit) ≡ bytesBy v k (now (log .entry)) (now (log .entry)) (course v (length (now (log .entry))) needed given) ⌝ }
+{
+    let way = judge(v, log.len(), needed, given);
+    let term = v.term;
+    if let Course::Trip = way {
+        header::write_padding(log, k * term, v);
+    }
+    way
+}
+
+// The record after it: the tail moves first, on every way that is not refused before it.
+fn moved(rec: LogRecord, v: Reading, k: usize, needed: usize, way: Course) -> LogRecord
+    requires { ⌜ (k ≤ 2) × ((v .id < 4294967296) × Room v needed way) ⌝ }
+    ensures { λ r. ⌜ r ≡ movedBy rec v k needed way ⌝ }
+{
+    if let Course::Refuse(_) = way {
+        return rec;
+    }
+    log_buffer_descriptor::with_tail(rec, k, v.id, v.offset + needed)
+}
+
+fn appended(v: Reading, needed: usize, way: Course) -> Appended
+    requires { ⌜ Room v needed way ⌝ }
+    ensures { λ r. ⌜ r ≡ appendedBy v needed way ⌝ }
+{
+    match way {
+        Course::Refuse(e) => Appended::Refused(e),
+        Course::Stray => Appended::Refused(Error::ActionPossiblyDelayed),
+        Course::Trip => Appended::Tripped,
+        Course::Fit => Appended::Offset(v.offset + needed),
+    }
+}
+
+// ---- messages
+
+// What a message of m bytes needs: its aligned length, or the sum over its frames.
+fn need_of(payload: usize, m: usize) -> usize
+    requires { ⌜ (32 ≤ payload) × ((payload ≤ 2147483648) × (m ≤ 2147483647)) ⌝ }
+    ensures { λ r. ⌜ r ≡ need payload m ⌝ }
+{
+    if m <= payload {
+        return (m + 32 + 31) / 32 * 32;
+    }
+    let full = m / payload * (payload + 32);
+    let rest = m % payload;
+    if rest == 0 {
+        return full;
+    }
+    full + (rest + 32 + 31) / 32 * 32
+}
+
+// The fragments of a message, one after another from the tail's offset on.
+fn write_fragments(
+    log: &mut [u8],
+    base: usize,
+    v: Reading,
+    payload: usize,
+    reserved: usize,
+    message: &[u8],
+)
+    requires { ⌜ (base + v .term ≤ length (now log)) × ((v .id < 4294967296) × ((0 < payload) × ((payload % 32 ≡ 0) × (v .offset + need payload (length (now message)) ≤ v .term)))) ⌝ }
+    ensures { λ _. ⌜ now (log .exit) ≡ written v (now (log .entry)) base (v .offset) (cut payload reserved (now (message .entry))) ⌝ }
+{
+    let n = message.len();
+    let mut offset = v.offset;
+    let mut at: usize = 0;
+    let mut flags: usize = 128;
+    while n - at > payload {
+        header::write_fragment(
+            log,
+            base + offset,
+            v,
+            offset,
+            flags,
+            reserved,
+            message,
+            at,
+            payload,
+        );
+        at = at + payload;
+        offset = offset + (payload + 32);
+        flags = 0;
+    }
+    header::write_fragment(
+        log,
+        base + offset,
+        v,
+        offset,
+        flags + 64,
+        reserved,
+        message,
+        at,
+        n - at,
+    );
+}
+
+// The way that a message goes, and what it leaves in the log.
+fn append(
+    v: Reading,
+    log: &mut [u8],
+    k: usize,
+    payload: usize,
+    message: &[u8],
+    reserved: usize,
+    needed: usize,
+    given: usize,
+) -> Course
+    requires { ⌜ (k ≤ 2) × ((v .id < 4294967296) × ((32 ≤ payload) × ((payload % 32 ≡ 0) × ((needed < 9223372036854775808) × (needed ≡ need payload (length (now message))))))) ⌝ }
+    ensures { λ r. ⌜ r ≡ course v (length (now (log .entry))) needed given ⌝ }
+    ensures { λ _. ⌜ now (log .exit) ≡ bytesBy v k (now (log .entry)) (written v (now (log .entry)) (k * v .term) (v .offset) (cut payload reserved (now (message .entry)))) (course v (length (now (log .entry))) needed given) ⌝ }
+{
+    let way = begin_append(v, log, k, needed, given);
+    let term = v.term;
+    if let Course::Fit = way {
+        write_fragments(log, k * term, v, payload, reserved, message);
+    }
+    way
+}
+
+// Both appenders of messages, their arguments judged.
+fn append_message(
+    rec: LogRecord,
+    log: &mut [u8],
+    k: usize,
+    payload: usize,
+    message: &[u8],
+    reserved: i64,
+    term_id: i32,
+) -> AppendReply
+    requires { ⌜ (k ≤ 2) × ((32 ≤ payload) × ((payload ≤ 2147483648) × ((payload % 32 ≡ 0) × (length (now message) ≤ 2147483647)))) ⌝ }
+    ensures { λ r. ⌜ r ≡ appendReply rec (now (log .entry)) k payload (now (message .entry)) (biased (word «term_id»)) ⌝ }
+    ensures { λ _. ⌜ now (log .exit) ≡ appendBytes rec (now (log .entry)) k payload (now (message .entry)) (long reserved) (biased (word «term_id»)) ⌝ }
+{
+    let v = log_buffer_descriptor::read(rec, k);
+    let needed = need_of(payload, message.len());
+    let way = append(
+        v,
+        log,
+        k,
+        payload,
+        message,
+        cast::long(reserved),
+        needed,
+        biased_id(term_id),
+    );
+    let next = moved(rec, v, k, needed, way);
+    AppendReply {
+        next: next,
+        answer: appended(v, needed, way),
+    }
+}
+
+// A message as one frame: one whose payload limit is above every message.
+pub fn append_unfragmented_message(
+    rec: LogRecord,
+    log: &mut [u8],
+    partition: i32,
+    message: &[u8],
+    reserved: i64,
+    term_id: i32,
+) -> AppendReply
+    ensures { λ r. ⌜ r ≡ unfragmentedReply rec (now (log .entry)) partition (now (message .entry)) «term_id» ⌝ }
+    ensures { λ _. ⌜ now (log .exit) ≡ unfragmentedBytes rec (now (log .entry)) partition (now (message .entry)) reserved «term_id» ⌝ }
+{
+    let k = cast::word(partition);
+    if !good_message(k, message.len()) {
+        return AppendReply {
+            next: rec,
+            answer: Appended::Refused(Error::IllegalArgument),
+        };
+    }
+    append_message(rec, log, k, 2147483648, message, reserved, term_id)
+}
+
+// A message as frames of at most the payload limit each.
+pub fn append_fragmented_message(
+    rec: LogRecord,
+    log: &mut [u8],
+    partition: i32,
+    message: &[u8],
+    reserved: i64,
+    payload: i32,
+    term_id: i32,
+) -> AppendReply
+    ensures { λ r. ⌜ r ≡ fragmentedReply rec (now (log .entry)) partition (now (message .entry)) payload «term_id» ⌝ }
+    ensures { λ _. ⌜ now (log .exit) ≡ fragmentedBytes rec (now (log .entry)) partition (now (message .entry)) reserved payload «term_id» ⌝ }
+{
+    let k = cast::word(partition);
+    let limit = cast::word(payload);
+    if !good_fragments(k, message.len(), limit) {
+        return AppendReply {
+            next: rec,
+            answer: Appended::Refused(Error::IllegalArgument),
+        };
+    }
+    append_message(rec, log, k, limit, message, reserved, term_id)
+}
+
+// ---- claims
+
+// The record of a claim of n bytes at the tail.
+fn claim_record(v: Reading, k: usize, n: usize) -> Claim
+    requires { ⌜ (k ≤ 2) × ((v .id < 4294967296) × ((v .offset ≤ 2147483647) × (n ≤ 2147483615))) ⌝ }
+    ensures { λ r. ⌜ r ≡ claimRecord v k n ⌝ }
+{
+    Claim {
+        partition: k as i32,
+        offset: v.offset as i32,
+        length: (n + 32) as i32,
+        term_id: cast::to_i32((v.id + 2147483648) % 4294967296),
+    }
+}
+
+// The way that a claim goes, and what it leaves in the log.
+fn claim_frame(v: Reading, log: &mut [u8], k: usize, n: usize, given: usize) -> Course
+    requires { ⌜ (k ≤ 2) × ((v .id < 4294967296) × (n ≤ 2147483647)) ⌝ }
+    ensures { λ r. ⌜ r ≡ course v (length (now (log .entry))) (space n) given ⌝ }
+    ensures { λ _. ⌜ now (log .exit) ≡ bytesBy v k (now (log .entry)) (claimed v (now (log .entry)) (k * v .term) n) (course v (length (now (log .entry))) (space n) given) ⌝ }
+{
+    let way = begin_append(v, log, k, (n + 32 + 31) / 32 * 32, given);
+    let term = v.term;
+    if let Course::Fit = way {
+        header::write_claim(log, k * term, v, n);
+    }
+    way
+}
+
+// The reply of a claim of n bytes that went its way.
+fn claim_reply(rec: LogRecord, v: Reading, k: usize, n: usize, way: Course) -> AppendClaimReply
+    requires { ⌜ (k ≤ 2) × ((v .id < 4294967296) × ((n ≤ 2147483647) × Room v (space n) way)) ⌝ }
+    ensures { λ r. ⌜ r ≡ claimAppendedBy rec v k n way ⌝ }
+{
+    let needed = (n + 32 + 31) / 32 * 32;
+    let next = moved(rec, v, k, needed, way);
+    match way {
+        Course::Refuse(e) => AppendClaimReply {
+            next: rec,
+            answer: AppendedClaim::Refused(e),
+        },
+        Course::Stray => AppendClaimReply {
+            next: next,
+            answer: AppendedClaim::Refused(Error::ActionPossiblyDelayed),
+        },
+        Course::Trip => AppendClaimReply {
+            next: next,
+            answer: AppendedClaim::Tripped,
+        },
+        Course::Fit => {
+            let claim = claim_record(v, k, n);
+            AppendClaimReply {
+                next: next,
+                answer: AppendedClaim::Claimed(v.offset + needed, claim),
+            }
+        }
+    }
+}
+
+// A frame of n bytes claimed, to be written and committed later.
+pub fn claim(
+    rec: LogRecord,
+    log: &mut [u8],
+    partition: i32,
+    length: i32,
+    term_id: i32,
+) -> AppendClaimReply
+    ensures { λ r. ⌜ r ≡ claimAppendReply rec (now (log .entry)) partition length «term_id» ⌝ }
+    ensures { λ _. ⌜ now (log .exit) ≡ claimAppendBytes rec (now (log .entry)) partition length «term_id» ⌝ }
+{
+    let k = cast::word(partition);
+    let n = cast::word(length);
+    if !good_message(k, n) {
+        return AppendClaimReply {
+            next: rec,
+            answer: AppendedClaim::Refused(Error::IllegalArgument),
+        };
+    }
+    let v = log_buffer_descriptor::read(rec, k);
+    let way = claim_frame(v, log, k, n, biased_id(term_id));
+    claim_reply(rec, v, k, n, way)
+}

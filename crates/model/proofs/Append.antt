@@ -1,0 +1,195 @@
+-- The ways of an append: where each is taken and what it says; and the appenders' entry points by the numbers that a caller has.
+use mathlib.Core.Path.{_≡_, refl, sym, ap, ap₂, _∙_, subst}
+use mathlib.Core.Bool.{Bool, true, false, cond, _&&_}
+use Prim.Native.Nat.{ℕ, _+_, _*_, _%_, _≤_, _<_}
+use native.Mathlib.Omega.{arith}
+use native.Mathlib.Nat.{mul-le-mul-right}
+use borrow.Author.Tests.{le-leb, lt-leb, leb-true, leb-false, eqb-true, eq-eqb, ne-eqb}
+use mathlib.Core.List.{List, [], _∷_}
+use lib.Dec.{eqb, leb}
+use lib.ListN.{length}
+use lib.IntN.{ℤ}
+use Rattle.model.specs.declared.LogRecord.{LogRecord}
+use Rattle.model.specs.declared.Reading.{Reading}
+use Rattle.model.specs.declared.Error.the-variants.{IllegalArgument, IllegalRecord, TailOverflow}
+use Rattle.model.specs.declared.Course.{Course}
+use Rattle.model.specs.declared.Course.the-variants.{Refuse, Stray, Trip, Fit}
+use Rattle.model.specs.declared.Appended.the-variants.{Refused}
+use Rattle.model.specs.declared.AppendReply.{AppendReply}
+use Rattle.model.specs.declared.AppendedClaim.the-variants.{Refused as ClaimRefused}
+use Rattle.model.specs.declared.AppendClaimReply.{AppendClaimReply}
+use Rattle.model.specs.Bytes.{word, long}
+use Rattle.model.specs.FrameDescriptor.{space}
+use Rattle.model.specs.LogBufferDescriptor.{biased, readingOf, sound, Sound}
+use Rattle.model.specs.TermAppender.{fragment, written, cut, need, claimed, course, movedBy, bytesBy, replyBy, goodMessage, goodFragments, unfragmentedCourse, fragmentedCourse, unfragmentedReply, unfragmentedBytes, fragmentedReply, fragmentedBytes, claimAppendedBy, claimAppendReply, claimAppendBytes}
+use Rattle.model.proofs.Cut.{need-one, cut-one}
+use Rattle.model.proofs.Sound.{sound-true}
+
+-- ---- the ladder
+
+module _ (v : Reading) (n m g : ℕ) where
+  pub course-unsound : sound v n ≡ false → Refuse IllegalRecord ≡ course v n m g
+  unfolding course
+  course-unsound h = simp h
+
+  pub course-over : sound v n ≡ true → 2147483647 < v .offset + m → Refuse TailOverflow ≡ course v n m g
+  unfolding course
+  course-over h k = simp (h, lt-leb _ _ k)
+
+  pub course-stray : sound v n ≡ true → v .offset + m ≤ 2147483647 → (v .id ≡ g → ⊥) → Stray ≡ course v n m g
+  unfolding course
+  course-stray h k i = simp (h, le-leb _ _ k, ne-eqb _ _ i)
+
+  pub course-trip : sound v n ≡ true → v .offset + m ≤ 2147483647 → v .id ≡ g → v .term < v .offset + m → Trip ≡ course v n m g
+  unfolding course
+  course-trip h k i l = simp (h, le-leb _ _ k, eq-eqb _ _ i, lt-leb _ _ l)
+
+  pub course-fit : sound v n ≡ true → v .offset + m ≤ 2147483647 → v .id ≡ g → v .offset + m ≤ v .term → Fit ≡ course v n m g
+  unfolding course
+  course-fit h k i l = simp (h, le-leb _ _ k, eq-eqb _ _ i, le-leb _ _ l)
+
+-- ---- what the way taken says
+
+pub record Went (v : Reading) (n m : ℕ) : Type 0 where
+  pub sound-so : Sound v n
+  pub room : v .offset + m ≤ 2147483647
+
+abbrev pub Goes : Reading → ℕ → ℕ → ℕ → Course → Type 0
+Goes v n m g (Refuse e) = Unit {0}
+Goes v n m g Stray = Went v n m
+Goes v n m g Trip = Went v n m × (v .term < v .offset + m)
+Goes v n m g Fit = Went v n m × (v .offset + m ≤ v .term)
+
+module _ (v : Reading) (n m g : ℕ) where
+  inv : (b1 b2 b3 b4 : Bool) → sound v n ≡ b1 → leb (v .offset + m) 2147483647 ≡ b2 → leb (v .offset + m) (v .term) ≡ b4 → (x : Course)
+      → cond b1 (cond b2 (cond b3 (cond b4 Fit Trip) Stray) (Refuse TailOverflow)) (Refuse IllegalRecord) ≡ x → Goes v n m g x
+  inv false b2 b3 b4 h1 h2 h4 x e = subst (Goes v n m g) e tt
+  inv true false b3 b4 h1 h2 h4 x e = subst (Goes v n m g) e tt
+  inv true true false b4 h1 h2 h4 x e = subst (Goes v n m g) e (record { sound-so = sound-true v n h1; room = leb-true _ _ h2 })
+  inv true true true false h1 h2 h4 x e = subst (Goes v n m g) e (record { sound-so = sound-true v n h1; room = leb-true _ _ h2 }, leb-false _ _ h4)
+  inv true true true true h1 h2 h4 x e = subst (Goes v n m g) e (record { sound-so = sound-true v n h1; room = leb-true _ _ h2 }, leb-true _ _ h4)
+
+  pub course-says : (x : Course) → course v n m g ≡ x → Goes v n m g x
+  unfolding course
+  course-says x e = inv (sound v n) (leb (v .offset + m) 2147483647) (eqb (v .id) g) (leb (v .offset + m) (v .term)) refl refl refl x e
+
+-- the tail that moves has room for itself, on every way that moves it
+abbrev pub Room : Reading → ℕ → Course → Type 0
+Room v m (Refuse e) = Unit {0}
+Room v m Stray = v .offset + m ≤ 2147483647
+Room v m Trip = v .offset + m ≤ 2147483647
+Room v m Fit = v .offset + m ≤ 2147483647
+
+pub course-room : (v : Reading) (n m g : ℕ) → Room v m (course v n m g)
+course-room v n m g = go (course v n m g) (course-says v n m g _ refl)
+  where
+    go : (x : Course) → Goes v n m g x → Room v m x
+    go (Refuse e) w = tt
+    go Stray w = w .room
+    go Trip w = w .0 .room
+    go Fit w = w .0 .room
+
+-- partition k lies in the log
+pub base-in : (k t : ℕ) → k ≤ 2 → k * t + t ≤ 3 * t
+base-in k t h = let l : k * t ≤ 2 * t = mul-le-mul-right t h in omega arith
+
+-- ---- the arguments
+
+and-both : (a b : Bool) → (a && b) ≡ true → (a ≡ true) × (b ≡ true)
+and-both true b h = (refl, h)
+and-both false b h = absurd (let x : _≡_ {A = ℕ} 0 1 = cc in omega arith)
+
+pub message-true : (k m : ℕ) → goodMessage k m ≡ true → (k ≤ 2) × (m ≤ 2147483647)
+message-true k m h = let b = and-both (leb k 2) _ h in (leb-true _ _ (b .0), leb-true _ _ (b .1))
+
+pub record Fragments (k m p : ℕ) : Type 0 where
+  pub part : k ≤ 2
+  pub whole : m ≤ 2147483647
+  pub some : 1 ≤ m
+  pub low : 32 ≤ p
+  pub high : p ≤ 2147483647
+  pub multiple : p % 32 ≡ 0
+
+pub fragments-true : (k m p : ℕ) → goodFragments k m p ≡ true → Fragments k m p
+fragments-true k m p h =
+    let a = and-both (goodMessage k m) _ h in
+    let b = message-true k m (a .0) in
+    let d = and-both (leb 1 m) _ (a .1) in
+    let e = and-both (leb 32 p) _ (d .1) in
+    let f = and-both (leb p 2147483647) _ (e .1) in
+    record { part = b .0; whole = b .1; some = leb-true _ _ (d .0); low = leb-true _ _ (e .0); high = leb-true _ _ (f .0); multiple = eqb-true _ _ (f .1) }
+
+fragments-good : (k m p : ℕ) → k ≤ 2 → m ≤ 2147483647 → 1 ≤ m → 32 ≤ p → p ≤ 2147483647 → p % 32 ≡ 0 → goodFragments k m p ≡ true
+fragments-good k m p h1 h2 h3 h4 h5 h6 = simp (le-leb _ _ h1, le-leb _ _ h2, le-leb _ _ h3, le-leb _ _ h4, le-leb _ _ h5, eq-eqb _ _ h6)
+
+module _ (r : LogRecord) (n k m g : ℕ) where
+  unfragmented-by : (b : Bool) → goodMessage k m ≡ b → unfragmentedCourse r n k m g ≡ cond b (course (readingOf r k) n (space m) g) (Refuse IllegalArgument)
+  unfolding unfragmentedCourse
+  unfragmented-by b h = ap (λ (t : Bool). cond t (course (readingOf r k) n (space m) g) (Refuse IllegalArgument)) h
+
+  fragmented-by : (p : ℕ) (b : Bool) → goodFragments k m p ≡ b → fragmentedCourse r n k m p g ≡ cond b (course (readingOf r k) n (need p m) g) (Refuse IllegalArgument)
+  unfolding fragmentedCourse
+  fragmented-by p b h = ap (λ (t : Bool). cond t (course (readingOf r k) n (need p m) g) (Refuse IllegalArgument)) h
+
+-- ---- both appenders of messages: the message cut by a payload limit p into partition k, its reserved value z, for term id g
+
+abbrev pub appendReply : LogRecord → List ℕ → ℕ → ℕ → List ℕ → ℕ → AppendReply
+appendReply r log k p m g = replyBy r (readingOf r k) k (need p (length m)) (course (readingOf r k) (length log) (need p (length m)) g)
+
+abbrev pub appendBytes : LogRecord → List ℕ → ℕ → ℕ → List ℕ → ℕ → ℕ → List ℕ
+appendBytes r log k p m z g =
+    bytesBy (readingOf r k) k log (written (readingOf r k) log (k * readingOf r k .term) (readingOf r k .offset) (cut p z m))
+    (course (readingOf r k) (length log) (need p (length m)) g)
+
+-- the unfragmented one does that with any payload limit that the message is within
+pub unfragmented-does : (r : LogRecord) (log m : List ℕ) (partition reserved given : ℤ) (k p z g : ℕ) → word partition ≡ k → long reserved ≡ z → biased (word given) ≡ g → k ≤ 2 → length m ≤ 2147483647 → length m ≤ p
+    → (unfragmentedReply r log partition m given ≡ appendReply r log k p m g) × (unfragmentedBytes r log partition m reserved given ≡ appendBytes r log k p m z g)
+unfragmented-does r log m partition reserved given k p z g ek ez eg hk hm hp =
+    let u = unfragmented-by r (length log) k (length m) g true (simp (le-leb _ _ hk, le-leb _ _ hm)) in
+    let o = need-one p (length m) hp in
+    let f = cut-one p z m hp in
+    (cc (u, o), cc (u, o, f))
+
+pub fragmented-does : (r : LogRecord) (log m : List ℕ) (partition reserved payload given : ℤ) (k p z g : ℕ) → word partition ≡ k → long reserved ≡ z → word payload ≡ p → biased (word given) ≡ g
+    → k ≤ 2 → length m ≤ 2147483647 → 1 ≤ length m → 32 ≤ p → p ≤ 2147483647 → p % 32 ≡ 0
+    → (fragmentedReply r log partition m payload given ≡ appendReply r log k p m g) × (fragmentedBytes r log partition m reserved payload given ≡ appendBytes r log k p m z g)
+fragmented-does r log m partition reserved payload given k p z g ek ez ep eg h1 h2 h3 h4 h5 h6 =
+    let u = fragmented-by r (length log) k (length m) g p true (fragments-good k (length m) p h1 h2 h3 h4 h5 h6) in
+    (cc u, cc u)
+
+-- refused for their arguments
+pub unfragmented-no : (r : LogRecord) (log m : List ℕ) (partition reserved given : ℤ) → goodMessage (word partition) (length m) ≡ false
+    → (record { next = r; answer = Refused IllegalArgument } ≡ unfragmentedReply r log partition m given) × (log ≡ unfragmentedBytes r log partition m reserved given)
+unfragmented-no r log m partition reserved given h =
+    let v = readingOf r (word partition) in
+    let e = unfragmented-by r (length log) (word partition) (length m) (biased (word given)) false h in
+    (sym (ap (replyBy r v (word partition) (space (length m))) e), sym (ap (bytesBy v (word partition) log (written v log (word partition * v .term) (v .offset) (fragment 192 (long reserved) m ∷ []))) e))
+
+pub fragmented-no : (r : LogRecord) (log m : List ℕ) (partition reserved payload given : ℤ) → goodFragments (word partition) (length m) (word payload) ≡ false
+    → (record { next = r; answer = Refused IllegalArgument } ≡ fragmentedReply r log partition m payload given) × (log ≡ fragmentedBytes r log partition m reserved payload given)
+fragmented-no r log m partition reserved payload given h =
+    let v = readingOf r (word partition) in
+    let e = fragmented-by r (length log) (word partition) (length m) (biased (word given)) (word payload) false h in
+    (sym (ap (replyBy r v (word partition) (need (word payload) (length m))) e), sym (ap (bytesBy v (word partition) log (written v log (word partition * v .term) (v .offset) (cut (word payload) (long reserved) m))) e))
+
+-- ---- claims: n bytes into partition k, for term id g
+
+abbrev pub claimingReply : LogRecord → List ℕ → ℕ → ℕ → ℕ → AppendClaimReply
+claimingReply r log k n g = claimAppendedBy r (readingOf r k) k n (course (readingOf r k) (length log) (space n) g)
+
+abbrev pub claimingBytes : LogRecord → List ℕ → ℕ → ℕ → ℕ → List ℕ
+claimingBytes r log k n g =
+    bytesBy (readingOf r k) k log (claimed (readingOf r k) log (k * readingOf r k .term) n) (course (readingOf r k) (length log) (space n) g)
+
+pub claim-does : (r : LogRecord) (log : List ℕ) (partition len given : ℤ) (k n g : ℕ) → word partition ≡ k → word len ≡ n → biased (word given) ≡ g → k ≤ 2 → n ≤ 2147483647
+    → (claimAppendReply r log partition len given ≡ claimingReply r log k n g) × (claimAppendBytes r log partition len given ≡ claimingBytes r log k n g)
+claim-does r log partition len given k n g ek en eg hk hn =
+    let u = unfragmented-by r (length log) k n g true (simp (le-leb _ _ hk, le-leb _ _ hn)) in
+    (cc u, cc u)
+
+pub claim-no : (r : LogRecord) (log : List ℕ) (partition len given : ℤ) → goodMessage (word partition) (word len) ≡ false
+    → (record { next = r; answer = ClaimRefused IllegalArgument } ≡ claimAppendReply r log partition len given) × (log ≡ claimAppendBytes r log partition len given)
+claim-no r log partition len given h =
+    let v = readingOf r (word partition) in
+    let e = unfragmented-by r (length log) (word partition) (word len) (biased (word given)) false h in
+    (sym (ap (claimAppendedBy r v (word partition) (word len)) e), sym (ap (bytesBy v (word partition) log (claimed v log (word partition * v .term) (word len))) e))
