@@ -12,3 +12,4 @@ pub mod Appending
 pub mod Past
 pub mod HeaderLaws
 pub mod Claims
+pub mod Sessions

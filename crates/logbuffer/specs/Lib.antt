@@ -1,2 +1,3 @@
 -- What the contracts here say beyond the definitions of `model`.
 pub mod Lent
+pub mod Assembler

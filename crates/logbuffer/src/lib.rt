@@ -1,11 +1,13 @@
 // The leaf library: the log's frames, read and written over a log that is lent. A file for each file of the Rust.
 mod argument;
 pub mod bit_utils;
+mod buffer_builder;
 pub mod buffer_claim;
 mod cast;
 mod copying;
 pub mod errors;
 mod field;
+pub mod fragment_assembler;
 pub mod frame_descriptor;
 pub mod header;
 pub mod log_buffer_descriptor;

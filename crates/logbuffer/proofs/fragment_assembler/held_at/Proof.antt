@@ -1,0 +1,31 @@
+use lib.ListN.{length-map, length, List·getD-eq-default}
+use Prim.Native.Nat.{ℕ}
+use native.Mathlib.Omega.{arith}
+use mathlib.Core.Path.{sym, _∙_, _≡_}
+use borrow.Author.Needs.{needs}
+use Rattle.logbuffer.proofs.fragment_assembler.held_at.Statement.{statement}
+use Rattle.logbuffer.proofs.fragment_assembler.held_at.Tie as tie
+use Rattle.logbuffer.proofs.fragment_assembler.held_at.Reads as reads
+use Rattle.logbuffer.proofs.fragment_assembler.held_at.Lts as lts
+
+-- src/fragment_assembler.rt:139:9
+mul-result : tie.Need-mul-result
+mul-result c = search needs
+
+-- src/fragment_assembler.rt:139:9
+element-copy-out-result : tie.Need-element-copy-out-result
+element-copy-out-result c = search needs
+
+-- src/fragment_assembler.rt:135:1
+returns : tie.Need-returns
+returns c = search needs
+
+-- src/fragment_assembler.rt:135:1
+returns-2 : tie.Need-returns-2
+returns-2 c =
+    let a = c .before .args .t1 in
+    let l : length (a .held) ≡ 16 = sym (length-map (a .held) (λ (v : ℕ). v)) ∙ c .before .good .0 .1 .1 .1 .1 .0 .1 .0 .1 in
+    sym (List·getD-eq-default (a .held) 0 (omega arith))
+
+pub held-at-spec : {M : Type 1} → statement M
+held-at-spec = tie.close (tie.spec mul-result element-copy-out-result returns returns-2)
