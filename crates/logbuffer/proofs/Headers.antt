@@ -1,12 +1,12 @@
 -- The words of a header, laid one behind the other; and header, reserved value and body as one frame.
-use mathlib.Core.Path.{_≡_, refl, sym, ap, ap₂, _∙_}
+use mathlib.Core.Path.{_≡_, refl, ap, ap₂, _∙_}
 use mathlib.Core.List.{List, [], _∷_, _++_, append-assoc}
 use Prim.Native.Nat.{ℕ, _+_, _*_, _/_, _%_, _≤_, _<_}
 use native.Mathlib.Omega.{arith}
 use lib.Arith.{digits-mod}
-use lib.ListN.{length, take, drop, length-append, length-drop}
+use lib.ListN.{length, take, drop, length-append}
 use lib.Pow.{shr-shr}
-use lib.Seq.{length-take-le}
+use lib.Seq.{take-length}
 use Rattle.model.specs.declared.Reading.{Reading}
 use Rattle.model.specs.Bytes.{splice, le2, le4, le8}
 use Rattle.model.specs.DataFrameHeader.{header24}
@@ -63,20 +63,20 @@ length-le8 : (n : ℕ) → length (le8 n) ≡ 8
 unfolding le8 le4
 length-le8 n = refl
 
-fragment-law : (l : List ℕ) (at : ℕ) (v : Reading) (o fl re : ℕ) (src : List ℕ) (a n : ℕ) → at + (n + 32) ≤ length l → a + n ≤ length src
-    → splice (splice (splice l at (header v o (n + 32) fl 1)) (at + 24) (le8 re)) (at + 32) (take n (drop a src)) ≡ splice l at (fragmentBytes v o (fragment fl re (take n (drop a src))))
+fragment-law : (l : List ℕ) (at : ℕ) (v : Reading) (o fl re : ℕ) (body : List ℕ) → at + (length body + 32) ≤ length l
+    → splice (splice (splice l at (header v o (length body + 32) fl 1)) (at + 24) (le8 re)) (at + 32) body ≡ splice l at (fragmentBytes v o (fragment fl re body))
 unfolding fragmentBytes
-fragment-law l at v o fl re src a n h k =
+fragment-law l at v o fl re body h =
     let low : at ≤ length l = omega arith in
-    let b = take n (drop a src) in
-    let lb : length b ≡ n = length-take-le n (drop a src) (omega (arith, length-drop a src)) in
-    let hd = header v o (n + 32) fl 1 in
-    let lh : length hd ≡ 24 = length-24 v o (n + 32) fl 1 in
-    ap (λ (x : List ℕ). splice x (at + 32) b) (splice-more l at hd (le8 re) (at + 24) (omega arith) low)
-    ∙ splice-more l at (hd ++ le8 re) b (at + 32) (omega (arith, length-append hd (le8 re), length-le8 re)) low
-    ∙ ap (splice l at) (append-assoc hd (le8 re) b ∙ ap (λ (x : ℕ). header v o (x + 32) fl 1 ++ (le8 re ++ b)) (sym lb))
+    let hd = header v o (length body + 32) fl 1 in
+    let lh : length hd ≡ 24 = length-24 v o (length body + 32) fl 1 in
+    ap (λ (x : List ℕ). splice x (at + 32) body) (splice-more l at hd (le8 re) (at + 24) (omega arith) low)
+    ∙ splice-more l at (hd ++ le8 re) body (at + 32) (omega (arith, length-append hd (le8 re), length-le8 re)) low
+    ∙ ap (splice l at) (append-assoc hd (le8 re) body)
 
-pub fragment-by : (l l1 l2 l3 : List ℕ) (at : ℕ) (v : Reading) (o fl re : ℕ) (src : List ℕ) (a n : ℕ) → at + (n + 32) ≤ length l → a + n ≤ length src
-    → l1 ≡ splice l at (header v o (n + 32) fl 1) → l2 ≡ splice l1 (at + 24) (le8 re) → l3 ≡ splice l2 (at + 32) (take n (drop a src))
-    → l3 ≡ splice l at (fragmentBytes v o (fragment fl re (take n (drop a src))))
-fragment-by l l1 l2 l3 at v o fl re src a n h k e1 e2 e3 = cc (fragment-law l at v o fl re src a n h k)
+-- the body is copied from the beginning of its slice, all of it
+pub fragment-by : (l l1 l2 l3 : List ℕ) (at : ℕ) (v : Reading) (o fl re : ℕ) (body : List ℕ) → at + (length body + 32) ≤ length l
+    → l1 ≡ splice l at (header v o (length body + 32) fl 1) → l2 ≡ splice l1 (at + 24) (le8 re) → l3 ≡ splice l2 (at + 32) (take (length body) (drop 0 body))
+    → l3 ≡ splice l at (fragmentBytes v o (fragment fl re body))
+fragment-by l l1 l2 l3 at v o fl re body h e1 e2 e3 =
+    e3 ∙ ap (splice l2 (at + 32)) (take-length body) ∙ ap (λ (x : List ℕ). splice x (at + 32) body) (e2 ∙ ap (λ (x : List ℕ). splice x (at + 24) (le8 re)) e1) ∙ fragment-law l at v o fl re body h

@@ -2,7 +2,7 @@
 // a message's frame.
 ghost use mathlib.Core.Path.{_≡_};
 ghost use Prim.Native.Nat.{_+_, _≤_, _<_};
-ghost use lib.ListN.{length, take, drop};
+ghost use lib.ListN.{length, drop};
 ghost use lib.IntN.{_+ℤ_};
 ghost use Rattle.model.specs.Bytes.{splice};
 ghost use Rattle.model.specs.DataFrameHeader.{headerAt};
@@ -41,7 +41,7 @@ fn write_header(
     field::put4(log, at + 20, (v.id + 2147483648) % 4294967296);
 }
 
-// A data frame whose body is the n bytes of src from `from` on.
+// A data frame.
 pub(crate) fn write_fragment(
     log: &mut [u8],
     at: usize,
@@ -49,16 +49,15 @@ pub(crate) fn write_fragment(
     offset: usize,
     flags: usize,
     reserved: usize,
-    src: &[u8],
-    from: usize,
-    n: usize,
+    body: &[u8],
 )
-    requires { ⌜ (at + (n + 32) ≤ length (now log)) × ((from + n ≤ length (now src)) × ((v .id < 4294967296) × (flags < 256))) ⌝ }
-    ensures { λ _. ⌜ now (log .exit) ≡ splice (now (log .entry)) at (fragmentBytes v offset (fragment flags reserved (take n (drop from (now (src .entry)))))) ⌝ }
+    requires { ⌜ (at + (length (now body) + 32) ≤ length (now log)) × ((v .id < 4294967296) × (flags < 256)) ⌝ }
+    ensures { λ _. ⌜ now (log .exit) ≡ splice (now (log .entry)) at (fragmentBytes v offset (fragment flags reserved (now (body .entry)))) ⌝ }
 {
+    let n = body.len();
     write_header(log, at, v, offset, n + 32, flags, 1);
     field::put8(log, at + 24, reserved);
-    copying::copy(log, at + 32, src, from, n);
+    copying::copy(log, at + 32, body, 0, n);
 }
 
 // One padding frame over the rest of the term.

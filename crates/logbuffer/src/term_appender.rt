@@ -145,37 +145,18 @@ fn write_fragments(
     requires { ⌜ (base + v .term ≤ length (now log)) × ((v .id < 4294967296) × ((0 < payload) × ((payload % 32 ≡ 0) × (v .offset + need payload (length (now message)) ≤ v .term)))) ⌝ }
     ensures { λ _. ⌜ now (log .exit) ≡ written v (now (log .entry)) base (v .offset) (cut payload reserved (now (message .entry))) ⌝ }
 {
-    let n = message.len();
     let mut offset = v.offset;
     let mut at: usize = 0;
     let mut flags: usize = 128;
-    while n - at > payload {
-        header::write_fragment(
-            log,
-            base + offset,
-            v,
-            offset,
-            flags,
-            reserved,
-            message,
-            at,
-            payload,
-        );
+    while message.len() - at > payload {
+        let part = &message[at..at + payload];
+        header::write_fragment(log, base + offset, v, offset, flags, reserved, part);
         at = at + payload;
         offset = offset + (payload + 32);
         flags = 0;
     }
-    header::write_fragment(
-        log,
-        base + offset,
-        v,
-        offset,
-        flags + 64,
-        reserved,
-        message,
-        at,
-        n - at,
-    );
+    let rest = &message[at..];
+    header::write_fragment(log, base + offset, v, offset, flags + 64, reserved, rest);
 }
 
 // The way that a message goes, and what it leaves in the log.

@@ -114,6 +114,12 @@ module _ (r : LogRecord) (log : List ℕ) (c : Claim) where
   unfolding locateOf claimCheck check-by
   lent from to h = lent-by from to (goodClaim (reading r) c) (sound (reading r) (length log)) (matches log (claimStart (reading r) c) c) refl refl refl h
 
+  -- header, body and end lie in the log in that order
+  pub span-in : (from to : ℕ) → locateOf r log c ≡ Span from to → (32 ≤ from) × ((from ≤ to) × (to ≤ length log))
+  span-in from to h =
+      let l = lent from to h in
+      (omega (arith, l .starts), (omega (arith, l .starts, l .stops, l .low), omega (arith, l .stops, l .inside)))
+
   refused-by : (x : Verdict) (e : Error) → locatedBy (bodyStart r c) (bodyEnd r c) x ≡ Refused e → x ≡ Refuse e
   refused-by Pass e h = let z : _≡_ {A = ℕ} 0 1 = cc in absurd (omega arith)
   refused-by (Refuse d) e h = ap Refuse (let x : d ≡ e = cc in x)

@@ -1,9 +1,9 @@
 -- A number below 0 is cut to 0; any other is its bits.
+use mathlib.Core.Path.{_∙_}
+use native.Mathlib.Omega.{arith}
+use borrow.Author.Needs.{needs}
 use Rattle.logbuffer.proofs.Signs.{natural-none, natural-bits, not-negative}
 use Rattle.logbuffer.proofs.Signed.{word-by}
-use native.Mathlib.Omega.{arith}
-use mathlib.Core.Path.{_≡_, sym, ap, _∙_}
-use borrow.Author.Needs.{needs}
 use Rattle.logbuffer.proofs.argument.natural.Statement.{statement}
 use Rattle.logbuffer.proofs.argument.natural.Tie as tie
 

@@ -1,14 +1,13 @@
 -- A located body lies within the log.
 use mathlib.Core.Path.{_≡_, sym, ap, _∙_}
 use Prim.Native.Nat.{_+_, _-_, _≤_}
-use native.Mathlib.Omega.{arith}
 use borrow.Author.Needs.{needs}
 use lib.ListN.{length}
 use Rattle.model.specs.Parts.{partOf}
 use Rattle.model.specs.BufferClaim.{locateOf}
 use Rattle.model.specs.declared.Located.{Located}
 use Rattle.model.specs.declared.Located.the-variants.{Span}
-use Rattle.model.proofs.BufferClaim.{lent}
+use Rattle.model.proofs.BufferClaim.{span-in}
 use Rattle.logbuffer.specs.Lent.{startOf}
 use Rattle.logbuffer.proofs.buffer_claim.body.Statement.{statement}
 use Rattle.logbuffer.proofs.buffer_claim.body.Tie as tie
@@ -18,9 +17,7 @@ is-span : (c : tie.After-known-told) → locateOf (c .before .before .before .be
 is-span c = sym (c .before .before .before .locate .ensures) ∙ c .before .from .given .1
 
 inside : (c : tie.After-known-told) → (c .before .from .given .0 .0 ≤ c .before .from .given .0 .1 .0) × (c .before .from .given .0 .1 .0 ≤ length (c .before .before .before .before .before .before .args .log .now))
-inside c =
-    let l = lent (c .before .before .before .before .before .before .args .rec) (c .before .before .before .before .before .before .args .log .now) (c .before .before .before .before .before .before .args .claim) _ _ (is-span c) in
-    (omega (arith, l .starts, l .stops, l .low), omega (arith, l .stops, l .inside))
+inside c = span-in (c .before .before .before .before .before .before .args .rec) (c .before .before .before .before .before .before .args .log .now) (c .before .before .before .before .before .before .args .claim) _ _ (is-span c) .1
 
 locate-requires : tie.Need-locate-requires
 locate-requires c κs = search needs

@@ -9,7 +9,7 @@ use mir.Val.{SFits}
 use Rattle.model.specs.Bytes.{word, splice, le4}
 use Rattle.model.specs.BufferClaim.{locateOf}
 use Rattle.model.specs.declared.Located.the-variants.{Span}
-use Rattle.model.proofs.BufferClaim.{lent, refuses, commits}
+use Rattle.model.proofs.BufferClaim.{span-in, refuses, commits}
 use Rattle.logbuffer.proofs.Signed.{word-by}
 use Rattle.logbuffer.proofs.buffer_claim.commit.Statement.{statement}
 use Rattle.logbuffer.proofs.buffer_claim.commit.Tie as tie
@@ -20,10 +20,8 @@ length-fits c = search needs
 is-span : (c : tie.After-known-told2) → locateOf (c .before .before .before .before .before .before .args .rec) (c .before .before .before .before .before .before .args .log .now) (c .before .before .before .before .before .before .args .claim) ≡ Span (c .before .from .given .0 .0) (c .before .from .given .0 .1 .0)
 is-span c = sym (c .before .before .before .locate .ensures) ∙ c .before .from .given .1
 
-inside : (c : tie.After-known-told2) → (32 ≤ c .before .from .given .0 .0) × (c .before .from .given .0 .0 ≤ length (c .before .before .before .before .before .before .args .log .now))
-inside c =
-    let l = lent (c .before .before .before .before .before .before .args .rec) (c .before .before .before .before .before .before .args .log .now) (c .before .before .before .before .before .before .args .claim) _ _ (is-span c) in
-    (omega (arith, l .starts), omega (arith, l .starts, l .low, l .inside))
+inside : (c : tie.After-known-told2) → (32 ≤ c .before .from .given .0 .0) × ((c .before .from .given .0 .0 ≤ c .before .from .given .0 .1 .0) × (c .before .from .given .0 .1 .0 ≤ length (c .before .before .before .before .before .before .args .log .now)))
+inside c = span-in (c .before .before .before .before .before .before .args .rec) (c .before .before .before .before .before .before .args .log .now) (c .before .before .before .before .before .before .args .claim) _ _ (is-span c)
 
 locate-requires : tie.Need-locate-requires
 locate-requires c κs = search needs

@@ -1,9 +1,9 @@
 -- A byte past the end counts as 0.
-use Rattle.logbuffer.proofs.Behind.{behind-none}
+use mathlib.Core.Path.{sym, _∙_}
 use native.Mathlib.Omega.{arith}
-use lib.Seq.{getD-drop}
-use mathlib.Core.Path.{_≡_, sym, _∙_}
 use borrow.Author.Needs.{needs}
+use lib.Seq.{getD-drop}
+use Rattle.logbuffer.proofs.Behind.{behind-none}
 use Rattle.logbuffer.proofs.frame_descriptor.byte_behind.Statement.{statement}
 use Rattle.logbuffer.proofs.frame_descriptor.byte_behind.Tie as tie
 

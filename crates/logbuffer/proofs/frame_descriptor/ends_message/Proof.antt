@@ -1,8 +1,8 @@
 -- The flags byte by its own index.
-use Rattle.model.specs.FrameDescriptor.{ends}
-use lib.Seq.{getD-drop}
-use mathlib.Core.Path.{_≡_, sym, ap, _∙_}
+use mathlib.Core.Path.{sym, ap, _∙_}
 use borrow.Author.Needs.{needs}
+use lib.Seq.{getD-drop}
+use Rattle.model.specs.FrameDescriptor.{ends}
 use Rattle.logbuffer.proofs.frame_descriptor.ends_message.Statement.{statement}
 use Rattle.logbuffer.proofs.frame_descriptor.ends_message.Tie as tie
 

@@ -1,15 +1,15 @@
 -- The length word's sign is read first; a finished length is judged, and then the type.
 use mathlib.Core.Path.{_≡_, refl, sym, ap, _∙_}
-use Prim.Native.Nat.{ℕ}
 use mathlib.Core.List.{List}
+use Prim.Native.Nat.{ℕ}
 use native.Mathlib.Omega.{arith}
+use borrow.Author.Needs.{needs}
 use lib.ListN.{drop}
 use Rattle.model.specs.declared.FrameLength.the-variants.{Free, Writing, Finished}
-use Rattle.model.specs.Bytes.{u16, u32}
+use Rattle.model.specs.Bytes.{u32}
 use Rattle.model.specs.FrameDescriptor.{frameLength}
 use Rattle.model.proofs.FrameLaws.{finished-word, frame-absent, frame-short, frame-long, frame-padding, frame-data}
 use Rattle.logbuffer.proofs.Signs.{back32}
-use borrow.Author.Needs.{needs}
 use Rattle.logbuffer.proofs.frame_descriptor.frame_at.Statement.{statement}
 use Rattle.logbuffer.proofs.frame_descriptor.frame_at.Tie as tie
 

@@ -1,11 +1,10 @@
 -- The sign of the length, told by its bits.
+use mathlib.Core.Path.{ap, _∙_}
+use borrow.Author.Needs.{needs}
 use Rattle.model.specs.declared.FrameLength.the-variants.{Finished}
-use mathlib.Core.Path.{_≡_, sym, ap, _∙_}
-use native.Mathlib.Omega.{arith}
+use Rattle.model.proofs.FrameLaws.{length-free, length-writing, length-finished}
 use Rattle.logbuffer.proofs.Signs.{negative, not-negative}
 use Rattle.logbuffer.proofs.Signed.{word-by}
-use Rattle.model.proofs.FrameLaws.{length-free, length-writing, length-finished}
-use borrow.Author.Needs.{needs}
 use Rattle.logbuffer.proofs.frame_descriptor.frame_length.Statement.{statement}
 use Rattle.logbuffer.proofs.frame_descriptor.frame_length.Tie as tie
 

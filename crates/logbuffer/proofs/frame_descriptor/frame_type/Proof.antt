@@ -1,10 +1,10 @@
 -- The field at once where it lies in the log, else byte by byte.
-use Rattle.model.specs.Bytes.{u16}
-use lib.Seq.{getD-drop, drop-drop}
-use lib.ListN.{drop}
-use mathlib.Core.Path.{_≡_, sym, ap, _∙_}
+use mathlib.Core.Path.{sym, ap, _∙_}
 use native.Mathlib.Omega.{arith}
 use borrow.Author.Needs.{needs}
+use lib.Seq.{getD-drop, drop-drop}
+use lib.ListN.{drop}
+use Rattle.model.specs.Bytes.{u16}
 use Rattle.logbuffer.proofs.frame_descriptor.frame_type.Statement.{statement}
 use Rattle.logbuffer.proofs.frame_descriptor.frame_type.Tie as tie
 

@@ -1,7 +1,7 @@
 -- The field at once where it lies in the log, else byte by byte.
-use Rattle.model.specs.Bytes.{u32}
 use native.Mathlib.Omega.{arith}
 use borrow.Author.Needs.{needs}
+use Rattle.model.specs.Bytes.{u32}
 use Rattle.logbuffer.proofs.frame_descriptor.length_word.Statement.{statement}
 use Rattle.logbuffer.proofs.frame_descriptor.length_word.Tie as tie
 

@@ -1,14 +1,14 @@
 -- By the sign of the length.
+use mathlib.Core.Path.{_≡_, ap, _∙_}
+use Prim.Native.Nat.{ℕ, _+_, _-_, _*_, _/_}
+use native.Mathlib.Omega.{arith}
+use borrow.Author.Needs.{needs}
+use lib.IntN.{ℤ, pos, _-ℤ_}
+use mir.Val.{toZ}
+use mir.Syntax.{w64}
 use Rattle.model.specs.TermReader.{alignℤ}
 use Rattle.logbuffer.proofs.Past.{plain, aligned-below, aligned-above, aligned-fits}
 use Rattle.logbuffer.proofs.Signed.{word-by, lands, asks}
-use mir.Val.{SFits, toZ, ofZ}
-use mir.Syntax.{w32, w64}
-use lib.IntN.{ℤ, pos, _-ℤ_}
-use Prim.Native.Nat.{ℕ, _+_, _-_, _*_, _/_}
-use native.Mathlib.Omega.{arith}
-use mathlib.Core.Path.{_≡_, refl, sym, ap, ap₂, _∙_, subst}
-use borrow.Author.Needs.{needs}
 use Rattle.logbuffer.proofs.header.aligned_length.Statement.{statement}
 use Rattle.logbuffer.proofs.header.aligned_length.Tie as tie
 

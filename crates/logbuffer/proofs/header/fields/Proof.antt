@@ -1,21 +1,19 @@
 -- Rows 1 and 2 are judged on the numbers without signs; then the fields are read.
-use mathlib.Core.Path.{_≡_, refl, sym, ap, _∙_, subst}
+use mathlib.Core.Path.{_≡_, sym, ap, _∙_, subst}
 use mathlib.Core.Bool.{true, _&&_}
-use Prim.Native.Nat.{ℕ, _+_, _*_, _≤_}
+use Prim.Native.Nat.{ℕ, _<_}
 use native.Mathlib.Omega.{arith}
-use borrow.Author.Tests.{not-true, not-false, leb-true}
+use borrow.Author.Tests.{not-true, not-false}
+use borrow.Author.Needs.{needs}
 use lib.ListN.{length}
 use Rattle.model.specs.declared.Reading.{Reading}
 use Rattle.model.specs.Bytes.{word}
-use Rattle.model.specs.LogBufferDescriptor.{reading, sound, goodPartition, goodOffset, withinTerm}
+use Rattle.model.specs.LogBufferDescriptor.{sound, goodPartition, goodOffset, active}
 use Rattle.model.proofs.PlaceLaws.{Placed, placed}
-use Rattle.logbuffer.proofs.Signed.{word-by}
-use Prim.Native.Nat.{_<_}
 use Rattle.model.specs.declared.HeaderRead.the-variants.{Fields}
-use Rattle.model.specs.LogBufferDescriptor.{active}
 use Rattle.model.proofs.Sound.{initial-small}
 use Rattle.model.proofs.HeaderRows.{header-argument, header-record, header-fields}
-use borrow.Author.Needs.{needs}
+use Rattle.logbuffer.proofs.Signed.{word-by}
 use Rattle.logbuffer.proofs.header.fields.Statement.{statement}
 use Rattle.logbuffer.proofs.header.fields.Tie as tie
 

@@ -1,14 +1,13 @@
 -- Each field by the index where it lies.
-use mir.Syntax.{w32}
-use mir.Val.{toZ, ofZ}
-use Rattle.logbuffer.proofs.HeaderLaws.{field32, field64, past-field, same-fields}
-use Rattle.model.specs.DataFrameHeader.{headerAt}
-use Rattle.model.specs.Bytes.{u16, u32, u64}
+use mathlib.Core.Path.{sym, ap, _∙_}
+use borrow.Author.Needs.{needs}
 use lib.Seq.{drop-drop, getD-drop}
 use lib.ListN.{drop}
-use native.Mathlib.Omega.{arith}
-use mathlib.Core.Path.{_≡_, refl, sym, ap, ap₂, _∙_}
-use borrow.Author.Needs.{needs}
+use mir.Syntax.{w32}
+use mir.Val.{toZ, ofZ}
+use Rattle.model.specs.DataFrameHeader.{headerAt}
+use Rattle.model.specs.Bytes.{u16, u32, u64}
+use Rattle.logbuffer.proofs.HeaderLaws.{field32, field64, past-field, same-fields}
 use Rattle.logbuffer.proofs.header.fields_at.Statement.{statement}
 use Rattle.logbuffer.proofs.header.fields_at.Tie as tie
 

@@ -1,11 +1,10 @@
 -- Each step of the sum is exact and fits.
-use Rattle.logbuffer.proofs.Past.{gap-asks, start-asks, here-asks, past-asks, past-lands}
-use Rattle.model.specs.TermReader.{alignℤ}
-use mir.Facts.{toZ-ofZ}
-use lib.IntN.{ℤ}
+use mathlib.Core.Path.{ap, _∙_}
 use native.Mathlib.Omega.{arith}
-use mathlib.Core.Path.{_≡_, refl, sym, ap, ap₂, _∙_, subst}
 use borrow.Author.Needs.{needs}
+use mir.Facts.{toZ-ofZ}
+use Rattle.model.specs.TermReader.{alignℤ}
+use Rattle.logbuffer.proofs.Past.{gap-asks, start-asks, here-asks, past-asks, past-lands}
 use Rattle.logbuffer.proofs.header.position_past.Statement.{statement}
 use Rattle.logbuffer.proofs.header.position_past.Tie as tie
 

@@ -1,5 +1,4 @@
 -- Header, reserved value and body, laid one behind the other.
-use native.Mathlib.Omega.{arith}
 use borrow.Author.Needs.{needs}
 use Rattle.logbuffer.proofs.Headers.{fragment-by}
 use Rattle.logbuffer.proofs.header.write_fragment.Statement.{statement}
@@ -28,8 +27,7 @@ same-length c = search needs
 
 returns : tie.Need-returns
 returns c = let s = c .before .before .before .before .before .before .before .before .before .before .before .before .before .before in
-    fragment-by (s .args .log .now) _ _ _ (s .args .at) (s .args .v) (s .args .offset) (s .args .flags) (s .args .reserved) (s .args .src .now) (s .args .from) (s .args .n) (omega arith) (omega arith)
-    (c .before .before .before .before .before .before .before .before .before .before .write-header .ensures) (c .before .before .before .before .before .before .put8 .ensures) (c .before .before .copy .ensures)
+    fragment-by (s .args .log .now) _ _ _ (s .args .at) (s .args .v) (s .args .offset) (s .args .flags) (s .args .reserved) (s .args .body .now) (s .pre .0) (c .before .before .before .before .before .before .before .before .before .before .write-header .ensures) (c .before .before .before .before .before .before .put8 .ensures) (c .before .before .copy .ensures)
 
 pub write-fragment-spec : {M : Type 1} → statement M
 write-fragment-spec =

@@ -1,7 +1,7 @@
 -- The answer at an index, or 4 past the last.
-use Rattle.logbuffer.proofs.Actions.{action-given, action-none}
 use native.Mathlib.Omega.{arith}
 use borrow.Author.Needs.{needs}
+use Rattle.logbuffer.proofs.Actions.{action-given, action-none}
 use Rattle.logbuffer.proofs.term_reader.action_of.Statement.{statement}
 use Rattle.logbuffer.proofs.term_reader.action_of.Tie as tie
 

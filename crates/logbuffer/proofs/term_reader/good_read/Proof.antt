@@ -1,13 +1,13 @@
 -- The first test that fails decides.
+use mathlib.Core.Bool.{false}
+use mathlib.Core.Path.{_≡_, sym, _∙_}
 use Prim.Native.Nat.{_/_}
+use borrow.Author.Tests.{not-true, not-false, le-leb, lt-leb}
+use borrow.Author.Needs.{needs}
 use lib.Dec.{leb}
 use Rattle.model.proofs.ReaderLaws.{and-not, and-then}
-use mathlib.Core.Bool.{Bool, true, false, _&&_}
 use Rattle.model.specs.TermReader.{goodEntries}
 use Rattle.model.specs.LogBufferDescriptor.{goodPartition, goodOffset}
-use borrow.Author.Tests.{not-true, not-false, le-leb, lt-leb}
-use mathlib.Core.Path.{_≡_, refl, sym, ap, _∙_}
-use borrow.Author.Needs.{needs}
 use Rattle.logbuffer.proofs.term_reader.good_read.Statement.{statement}
 use Rattle.logbuffer.proofs.term_reader.good_read.Tie as tie
 

@@ -1,8 +1,7 @@
 -- The first test that fails decides.
-use Rattle.model.specs.TermReader.{goodView}
 use borrow.Author.Tests.{le-leb, lt-leb}
-use mathlib.Core.Path.{_≡_, refl, sym, ap, ap₂, _∙_}
 use borrow.Author.Needs.{needs}
+use Rattle.model.specs.TermReader.{goodView}
 use Rattle.logbuffer.proofs.term_reader.good_view.Statement.{statement}
 use Rattle.logbuffer.proofs.term_reader.good_view.Tie as tie
 

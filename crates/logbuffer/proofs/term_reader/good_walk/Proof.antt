@@ -1,6 +1,6 @@
 -- A test that fails contradicts what a good walk says; where none fails, the last test is the answer.
-use Rattle.model.proofs.ReaderLaws.{not-good-walk, good-walk-by}
 use native.Mathlib.Omega.{arith}
+use Rattle.model.proofs.ReaderLaws.{not-good-walk, good-walk-by}
 use Rattle.logbuffer.proofs.term_reader.good_walk.Statement.{statement}
 use Rattle.logbuffer.proofs.term_reader.good_walk.Tie as tie
 

@@ -1,25 +1,21 @@
 -- Rows 1 and 2 are judged on the numbers without signs; then `read_frames` walks, and its answer is opened.
-use mathlib.Core.Path.{_≡_, refl, sym, ap, ap₂, _∙_}
+use mathlib.Core.Path.{_≡_, sym, ap, _∙_}
 use mathlib.Core.Bool.{true}
-use mathlib.Core.List.{List, []}
-use Prim.Native.Nat.{ℕ, _+_, _*_, _≤_}
+use mathlib.Core.List.{[]}
+use Prim.Native.Nat.{ℕ, _*_}
 use native.Mathlib.Omega.{arith}
 use borrow.Author.Tests.{not-true, not-false}
-use lib.ListN.{length, take}
-use lib.IntN.{ℤ}
+use borrow.Author.Needs.{needs}
+use lib.ListN.{length}
 use mir.Facts.{toZ-ofZ}
 use Rattle.model.specs.declared.Reading.{Reading}
-use Rattle.model.specs.declared.FramesRead.{FramesRead}
-use Rattle.model.specs.declared.FramesRead.the-variants.{Walked, Refused}
 use Rattle.model.specs.declared.TermRead.the-variants.{Refused as TermRefused}
-use Rattle.model.specs.declared.Error.{Error}
 use Rattle.model.specs.Bytes.{word}
-use Rattle.model.specs.LogBufferDescriptor.{reading, sound}
+use Rattle.model.specs.LogBufferDescriptor.{sound}
 use Rattle.model.specs.TermReader.{natural, framesOf, framesEntries, goodWalk, readOf, readEntries}
 use Rattle.model.proofs.PlaceLaws.{Placed}
 use Rattle.model.proofs.ReadLaws.{goodRead, readFrom, read-argument, read-record, read-goes, read-placed, read-walk, frames-refuse, frames-moved}
 use Rattle.logbuffer.proofs.Signed.{word-by}
-use borrow.Author.Needs.{needs}
 use Rattle.logbuffer.proofs.term_reader.read.Statement.{statement}
 use Rattle.logbuffer.proofs.term_reader.read.Tie as tie
 

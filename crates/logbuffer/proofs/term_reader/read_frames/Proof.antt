@@ -1,10 +1,10 @@
 -- Row 1 is judged, and the walk answers the rest.
-use Rattle.model.proofs.ReaderLaws.{good-walk-true, frames-refused, frames-by}
-use borrow.Author.Tests.{not-true, not-false}
-use lib.ListN.{length}
+use mathlib.Core.Path.{sym, _∙_}
 use native.Mathlib.Omega.{arith}
-use mathlib.Core.Path.{_≡_, sym, ap, _∙_}
+use borrow.Author.Tests.{not-true, not-false}
 use borrow.Author.Needs.{needs}
+use lib.ListN.{length}
+use Rattle.model.proofs.ReaderLaws.{good-walk-true, frames-refused, frames-by}
 use Rattle.logbuffer.proofs.term_reader.read_frames.Statement.{statement}
 use Rattle.logbuffer.proofs.term_reader.read_frames.Tie as tie
 

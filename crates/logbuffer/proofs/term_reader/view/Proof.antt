@@ -1,16 +1,15 @@
 -- The span is located and taken from the log; what is located lies in it.
-use mathlib.Core.Path.{_≡_, refl, sym, ap, _∙_}
-use Prim.Native.Nat.{ℕ, _+_, _≤_}
+use mathlib.Core.Path.{_≡_, sym, ap, _∙_}
+use Prim.Native.Nat.{_+_, _≤_}
+use borrow.Author.Needs.{needs}
 use lib.ListN.{length}
-use mir.Facts.{toZ-ofZ}
 use Rattle.model.specs.declared.Located.{Located}
-use Rattle.model.specs.declared.Located.the-variants.{Span, Refused}
+use Rattle.model.specs.declared.Located.the-variants.{Span}
 use Rattle.model.specs.TermReader.{viewOf}
-use Rattle.logbuffer.proofs.Signs.{passed-on}
 use Rattle.model.specs.Parts.{partOf}
 use Rattle.model.proofs.ViewLaws.{span-in}
+use Rattle.logbuffer.proofs.Signs.{passed-on}
 use Rattle.logbuffer.specs.Lent.{startOf}
-use borrow.Author.Needs.{needs}
 use Rattle.logbuffer.proofs.term_reader.view.Statement.{statement}
 use Rattle.logbuffer.proofs.term_reader.view.Tie as tie
 

@@ -1,14 +1,11 @@
 -- The span is located, and told by its number.
-use mathlib.Core.Path.{_≡_, refl, sym, ap, _∙_}
-use Prim.Native.Nat.{ℕ, _+_, _≤_}
+use mathlib.Core.Path.{_≡_, sym, ap, _∙_}
+use borrow.Author.Needs.{needs}
 use lib.ListN.{length}
 use mir.Facts.{toZ-ofZ}
-use Rattle.model.specs.declared.Located.{Located}
-use Rattle.model.specs.declared.Located.the-variants.{Span, Refused}
 use Rattle.model.specs.TermReader.{viewOf}
-use Rattle.logbuffer.proofs.Signs.{passed-on}
 use Rattle.model.specs.Parts.{locatedNumber}
-use borrow.Author.Needs.{needs}
+use Rattle.logbuffer.proofs.Signs.{passed-on}
 use Rattle.logbuffer.proofs.term_reader.view_number.Statement.{statement}
 use Rattle.logbuffer.proofs.term_reader.view_number.Tie as tie
 

@@ -1,17 +1,17 @@
 -- Rows 1 and 2 are judged on the numbers without signs; then the span is told.
-use mathlib.Core.Path.{_≡_, refl, sym, ap, _∙_}
-use mathlib.Core.Bool.{true, _&&_}
+use mathlib.Core.Path.{_≡_, sym, _∙_}
+use mathlib.Core.Bool.{true}
 use Prim.Native.Nat.{ℕ, _+_, _*_, _≤_}
 use native.Mathlib.Omega.{arith}
-use borrow.Author.Tests.{not-true, not-false, leb-true}
+use borrow.Author.Tests.{not-true, not-false}
+use borrow.Author.Needs.{needs}
 use lib.ListN.{length}
 use Rattle.model.specs.declared.Reading.{Reading}
 use Rattle.model.specs.Bytes.{word}
-use Rattle.model.specs.LogBufferDescriptor.{reading, sound, goodPartition, goodOffset, withinTerm}
+use Rattle.model.specs.LogBufferDescriptor.{sound}
 use Rattle.model.specs.TermReader.{goodView}
 use Rattle.logbuffer.proofs.Signed.{word-by}
 use Rattle.model.proofs.ViewLaws as laws
-use borrow.Author.Needs.{needs}
 use Rattle.logbuffer.proofs.term_reader.view_span.Statement.{statement}
 use Rattle.logbuffer.proofs.term_reader.view_span.Tie as tie
 

@@ -1,21 +1,20 @@
 -- The loop keeps `Going` of model's WalkLoop: what is done joined with the walk from here is the whole walk. Each turn and each way out
 -- cites its law there.
-use mathlib.Core.Path.{_≡_, refl, sym, ap, _∙_}
-use Prim.Native.Nat.{ℕ, _+_, _-_, _*_, _/_, _≤_, _<_}
-use mathlib.Core.List.{List}
+use mathlib.Core.Path.{_≡_, refl, sym, _∙_}
+use Prim.Native.Nat.{_+_, _-_, _*_, _/_}
 use native.Mathlib.Omega.{arith}
 use borrow.Author.Needs.{needs}
 use lib.ListN.{length, drop, length-set}
-use lib.IntN.{ℤ, pos}
+use lib.IntN.{pos}
 use mir.Syntax.{w32}
 use mir.Val.{toZ}
 use mir.Facts.{toZ-pos}
-use Rattle.model.specs.declared.Frame.the-variants.{Absent, Unsound, Padding, Data}
+use Rattle.model.specs.declared.Frame.the-variants.{Padding, Data}
 use Rattle.model.specs.FrameDescriptor.{frameAt}
 use Rattle.model.proofs.FrameLaws.{Lies, lies}
-use Rattle.model.proofs.WalkLoop as walks
 use Rattle.model.proofs.WalkLoop.{Going}
 use Rattle.model.proofs.ReaderLaws.{frames-came, frames-first}
+use Rattle.model.proofs.WalkLoop as walks
 use Rattle.logbuffer.proofs.term_reader.walk_frames.Statement.{statement}
 use Rattle.logbuffer.proofs.term_reader.walk_frames.Tie as tie
 

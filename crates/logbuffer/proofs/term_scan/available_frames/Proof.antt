@@ -1,15 +1,15 @@
 -- The loop keeps `Availing` of model's AvailableLaws; each way out cites its law there.
-use mathlib.Core.Path.{_≡_, refl, sym, ap, _∙_}
-use Prim.Native.Nat.{ℕ, _+_, _-_, _*_, _/_, _≤_, _<_}
+use mathlib.Core.Path.{_≡_, refl, sym, _∙_}
+use Prim.Native.Nat.{_+_, _-_, _*_, _/_}
 use native.Mathlib.Omega.{arith}
 use borrow.Author.Needs.{needs}
-use lib.ListN.{length, drop}
+use lib.ListN.{drop}
 use Rattle.model.specs.declared.Frame.{Frame}
-use Rattle.model.specs.declared.Frame.the-variants.{Absent, Unsound, Padding, Data}
+use Rattle.model.specs.declared.Frame.the-variants.{Padding, Data}
 use Rattle.model.specs.FrameDescriptor.{frameAt}
 use Rattle.model.proofs.FrameLaws.{Lies, lies}
-use Rattle.model.proofs.AvailableLaws as laws
 use Rattle.model.proofs.AvailableLaws.{Availing}
+use Rattle.model.proofs.AvailableLaws as laws
 use Rattle.logbuffer.proofs.term_scan.available_frames.Statement.{statement}
 use Rattle.logbuffer.proofs.term_scan.available_frames.Tie as tie
 

@@ -1,19 +1,18 @@
 -- The loop keeps `Rebuilding` of model's GapLaws; each way out cites its law there.
-use mathlib.Core.Path.{ap₂}
-use mathlib.Core.Path.{_≡_, refl, sym, ap, _∙_}
-use Prim.Native.Nat.{ℕ, _+_, _-_, _*_, _/_, _≤_, _<_}
+use mathlib.Core.Path.{ap₂, _≡_, refl, sym, _∙_}
+use Prim.Native.Nat.{ℕ, _+_, _-_}
 use native.Mathlib.Omega.{arith}
 use borrow.Author.Needs.{needs}
-use lib.ListN.{length, drop}
+use lib.ListN.{drop}
 use lib.IntN.{ℤ}
 use mir.Facts.{toZ-ofZ}
 use Rattle.model.specs.declared.Frame.{Frame}
-use Rattle.model.specs.declared.Frame.the-variants.{Absent, Unsound, Padding, Data}
+use Rattle.model.specs.declared.Frame.the-variants.{Padding, Data}
 use Rattle.model.specs.declared.GapScanned.the-variants.{Gap}
 use Rattle.model.specs.FrameDescriptor.{frameAt}
 use Rattle.model.proofs.FrameLaws.{Lies, lies}
-use Rattle.model.proofs.GapLaws as laws
 use Rattle.model.proofs.GapLaws.{Rebuilding}
+use Rattle.model.proofs.GapLaws as laws
 use Rattle.logbuffer.proofs.term_scan.gap_frames.Statement.{statement}
 use Rattle.logbuffer.proofs.term_scan.gap_frames.Tie as tie
 

@@ -1,10 +1,9 @@
 -- The loop keeps `Measuring` of model's GapLaws: the gap so far, and what is left of it from here.
-use mathlib.Core.Path.{_≡_, refl, sym, ap, _∙_}
-use Prim.Native.Nat.{ℕ, _+_, _-_, _≤_, _<_}
+use mathlib.Core.Path.{sym, _∙_}
+use Prim.Native.Nat.{_+_, _-_, _≤_}
 use native.Mathlib.Omega.{arith}
-use borrow.Author.Needs.{needs}
-use Rattle.model.proofs.GapLaws as laws
 use Rattle.model.proofs.GapLaws.{Measuring}
+use Rattle.model.proofs.GapLaws as laws
 use Rattle.logbuffer.proofs.term_scan.gap_length.Statement.{statement}
 use Rattle.logbuffer.proofs.term_scan.gap_length.Tie as tie
 

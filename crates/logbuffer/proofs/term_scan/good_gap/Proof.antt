@@ -1,12 +1,12 @@
 -- The first test that fails decides.
+use mathlib.Core.Bool.{false, _&&_}
+use mathlib.Core.Path.{_≡_, sym, _∙_}
+use Prim.Native.Nat.{_%_}
+use borrow.Author.Tests.{not-true, not-false, eq-eqb, ne-eqb}
+use borrow.Author.Needs.{needs}
+use lib.Dec.{eqb}
 use Rattle.model.proofs.ReaderLaws.{and-not, and-then}
 use Rattle.model.specs.LogBufferDescriptor.{goodPartition, goodOffset, withinTerm}
-use borrow.Author.Tests.{not-true, not-false, eq-eqb, ne-eqb}
-use lib.Dec.{eqb}
-use Prim.Native.Nat.{_%_}
-use mathlib.Core.Bool.{Bool, true, false, _&&_}
-use mathlib.Core.Path.{_≡_, refl, sym, ap, _∙_}
-use borrow.Author.Needs.{needs}
 use Rattle.logbuffer.proofs.term_scan.good_gap.Statement.{statement}
 use Rattle.logbuffer.proofs.term_scan.good_gap.Tie as tie
 

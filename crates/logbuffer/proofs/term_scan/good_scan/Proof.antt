@@ -1,9 +1,9 @@
 -- The first test that fails decides.
+use mathlib.Core.Path.{sym, _∙_}
+use borrow.Author.Tests.{not-true, not-false}
+use borrow.Author.Needs.{needs}
 use Rattle.model.proofs.ReaderLaws.{and-not, and-then}
 use Rattle.model.specs.LogBufferDescriptor.{goodPartition, goodOffset}
-use borrow.Author.Tests.{not-true, not-false}
-use mathlib.Core.Path.{_≡_, refl, sym, ap, _∙_}
-use borrow.Author.Needs.{needs}
 use Rattle.logbuffer.proofs.term_scan.good_scan.Statement.{statement}
 use Rattle.logbuffer.proofs.term_scan.good_scan.Tie as tie
 

@@ -1,10 +1,10 @@
 -- Both numbers are small, so the sum is exact.
-use Rattle.model.specs.declared.AvailabilityScanned.the-variants.{Outcome}
+use mathlib.Core.Path.{ap}
+use native.Mathlib.Omega.{arith}
+use borrow.Author.Needs.{needs}
 use mir.Facts.{toZ-pos}
 use mir.Syntax.{w64}
-use native.Mathlib.Omega.{arith}
-use mathlib.Core.Path.{_≡_, refl, sym, ap, _∙_}
-use borrow.Author.Needs.{needs}
+use Rattle.model.specs.declared.AvailabilityScanned.the-variants.{Outcome}
 use Rattle.logbuffer.proofs.term_scan.outcome.Statement.{statement}
 use Rattle.logbuffer.proofs.term_scan.outcome.Tie as tie
 

@@ -1,21 +1,19 @@
 -- Rows 1 and 2 are judged on the numbers without signs; then the loop scans.
 use mathlib.Core.Path.{_≡_, refl, sym, ap, _∙_}
 use mathlib.Core.Bool.{true, _&&_}
-use Prim.Native.Nat.{ℕ, _+_, _-_, _*_, _≤_, min}
+use Prim.Native.Nat.{ℕ, _-_, min}
 use native.Mathlib.Omega.{arith}
-use borrow.Author.Tests.{not-true, not-false, leb-true}
+use borrow.Author.Tests.{not-true, not-false}
+use borrow.Author.Needs.{needs}
 use lib.ListN.{length}
 use mir.Facts.{toZ-ofZ}
 use Rattle.model.specs.declared.Reading.{Reading}
 use Rattle.model.specs.Bytes.{word}
-use Rattle.model.specs.LogBufferDescriptor.{reading, sound, goodPartition, goodOffset, withinTerm}
+use Rattle.model.specs.LogBufferDescriptor.{sound, goodPartition, goodOffset}
 use Rattle.model.specs.TermReader.{natural}
 use Rattle.model.proofs.PlaceLaws.{Placed, placed}
-use Rattle.model.proofs.ReaderLaws.{and-true}
-use Rattle.model.proofs.ReadLaws.{and-and}
-use Rattle.logbuffer.proofs.Signed.{word-by}
 use Rattle.model.proofs.ScanRows.{available-argument, available-record, available-goes}
-use borrow.Author.Needs.{needs}
+use Rattle.logbuffer.proofs.Signed.{word-by}
 use Rattle.logbuffer.proofs.term_scan.scan_for_availability.Statement.{statement}
 use Rattle.logbuffer.proofs.term_scan.scan_for_availability.Tie as tie
 

@@ -1,26 +1,25 @@
 -- Rows 1 and 2 are judged on the numbers without signs; then the loop scans.
-use mathlib.Core.Path.{_≡_, refl, sym, ap, _∙_}
+use mathlib.Core.Path.{_≡_, sym, ap, _∙_}
 use mathlib.Core.Bool.{true, _&&_}
-use Prim.Native.Nat.{ℕ, _+_, _*_, _%_, _≤_}
+use Prim.Native.Nat.{ℕ, _%_, _≤_}
 use native.Mathlib.Omega.{arith}
 use borrow.Author.Tests.{not-true, not-false, leb-true, eqb-true}
+use borrow.Author.Needs.{needs}
 use lib.ListN.{length}
+use lib.Dec.{eqb}
+use lib.IntN.{ℤ}
 use mir.Facts.{toZ-ofZ}
+use mir.Syntax.{w32}
+use mir.Val.{toZ, ofZ}
 use Rattle.model.specs.declared.Reading.{Reading}
 use Rattle.model.specs.Bytes.{word}
-use Rattle.model.specs.LogBufferDescriptor.{reading, sound, goodPartition, goodOffset, withinTerm}
-use Rattle.model.specs.TermReader.{natural}
+use Rattle.model.specs.LogBufferDescriptor.{sound, goodPartition, goodOffset, withinTerm}
 use Rattle.model.proofs.PlaceLaws.{Placed, placed}
 use Rattle.model.proofs.ReaderLaws.{and-true}
 use Rattle.model.proofs.ReadLaws.{and-and}
-use Rattle.logbuffer.proofs.Signed.{word-by}
-use lib.Dec.{eqb}
-use lib.IntN.{ℤ}
-use mir.Syntax.{w32}
-use mir.Val.{toZ, ofZ}
 use Rattle.model.specs.TermScan.{gapOf}
 use Rattle.model.proofs.ScanRows.{gap-argument, gap-record, gap-goes}
-use borrow.Author.Needs.{needs}
+use Rattle.logbuffer.proofs.Signed.{word-by}
 use Rattle.logbuffer.proofs.term_scan.scan_for_gap.Statement.{statement}
 use Rattle.logbuffer.proofs.term_scan.scan_for_gap.Tie as tie
 

@@ -1,14 +1,14 @@
 -- The loop keeps `Scanning` of model's ScanLaws; each way out cites its law there.
-use mathlib.Core.Path.{_≡_, refl, sym, ap, _∙_}
-use Prim.Native.Nat.{ℕ, _+_, _-_, _≤_, _<_}
+use mathlib.Core.Path.{_≡_, refl, sym, _∙_}
+use Prim.Native.Nat.{_+_, _-_}
 use native.Mathlib.Omega.{arith}
 use borrow.Author.Needs.{needs}
-use lib.ListN.{length, drop}
-use Rattle.model.specs.declared.Frame.the-variants.{Absent, Unsound, Padding, Data}
+use lib.ListN.{drop}
+use Rattle.model.specs.declared.Frame.the-variants.{Padding, Data}
 use Rattle.model.specs.FrameDescriptor.{frameAt}
 use Rattle.model.proofs.FrameLaws.{Lies, lies}
-use Rattle.model.proofs.ScanLaws as laws
 use Rattle.model.proofs.ScanLaws.{Scanning}
+use Rattle.model.proofs.ScanLaws as laws
 use Rattle.logbuffer.proofs.term_scan.scan_frames.Statement.{statement}
 use Rattle.logbuffer.proofs.term_scan.scan_frames.Tie as tie
 
