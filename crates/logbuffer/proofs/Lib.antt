@@ -9,6 +9,7 @@ pub mod Actions
 pub mod Copies
 pub mod Headers
 pub mod Appending
+pub mod Assembly
 pub mod Past
 pub mod HeaderLaws
 pub mod Claims

@@ -7,9 +7,9 @@ ghost use Prim.Native.Nat.{_+_, _-_, _*_, _/_, _≤_, _<_, min};
 ghost use lib.ListN.{length, take, drop, getD};
 ghost use Rattle.model.specs.declared.Joining.the-variants.{Through, Ignore, Full, TooLong, Join, Complete};
 ghost use Rattle.model.specs.Bytes.{word, u32 as wordAt, i32 as signedAt};
-ghost use Rattle.model.specs.FrameDescriptor.{flagsAt};
+ghost use Rattle.model.specs.FrameDescriptor.{flagsAt, unsoundLength};
 ghost use Rattle.model.specs.LogBufferDescriptor.{reading};
-ghost use Rattle.model.specs.FragmentAssembler.{fresh, entered as enteredOf, placeOf, holding as holdingOf, joining as joiningOf, assembleVerdict, assembleOf, sessionsBy, bufferBy, assembledBy};
+ghost use Rattle.model.specs.FragmentAssembler.{fresh, entered as enteredOf, placeOf, holding as holdingOf, joining as joiningOf, goodFrame, goodAssembly, assembleVerdict, assembleOf, joinedAt, sessionsBy, bufferBy, assembledBy};
 ghost use Rattle.logbuffer.specs.Assembler.{sessionsOf};
 use crate::argument;
 use crate::buffer_builder;
@@ -152,4 +152,143 @@ fn joining(a: FragmentAssembler, session: i32, flags: usize, n: usize, part: usi
     }
     let k = a.place(session);
     continued(k, a.entered(), held_at(a, k), n, part, ends)
+}
+
+// ---- the entry point
+
+// Row 1 of a frame: its length word lies in the log and is above 0.
+fn good_frame(log: &[u8], at: usize) -> bool
+    ensures { λ r. ⌜ r ≡ goodFrame (now (log .entry)) at ⌝ }
+{
+    let n = log.len();
+    if n < 4 {
+        return false;
+    }
+    if at > n - 4 {
+        return false;
+    }
+    let word = field::word4(log, at);
+    if word == 0 {
+        return false;
+    }
+    word < 2147483648
+}
+
+// A length that no frame has, or that reaches past its term.
+fn unsound_length(n: usize, room: usize) -> bool
+    requires { ⌜ n < 4294967296 ⌝ }
+    ensures { λ r. ⌜ r ≡ unsoundLength n room ⌝ }
+{
+    if n < 32 {
+        return true;
+    }
+    room < (n + 31) / 32 * 32
+}
+
+// Row 1: the lent buffer, the place, the frame there.
+fn good_assembly(v: Reading, log: &[u8], lent: usize, k: usize, at: usize) -> bool
+    requires { ⌜ at < 4294967296 ⌝ }
+    ensures { λ r. ⌜ r ≡ goodAssembly v (now (log .entry)) lent k at ⌝ }
+{
+    if lent > 2147483647 {
+        return false;
+    }
+    if !argument::good_place(k, at, v) {
+        return false;
+    }
+    good_frame(log, k * v.term + at)
+}
+
+// Rows 1, 2, 17.
+fn assemble_verdict(v: Reading, log: &[u8], lent: usize, k: usize, at: usize) -> Verdict
+    requires { ⌜ at < 4294967296 ⌝ }
+    ensures { λ r. ⌜ r ≡ assembleVerdict v (now (log .entry)) lent k at ⌝ }
+{
+    if !good_assembly(v, log, lent, k, at) {
+        return Verdict::Refuse(Error::IllegalArgument);
+    }
+    if !log_buffer_descriptor::is_sound(v, log.len()) {
+        return Verdict::Refuse(Error::IllegalRecord);
+    }
+    if unsound_length(field::word4(log, k * v.term + at), v.term - at) {
+        return Verdict::Refuse(Error::UnsoundFrame);
+    }
+    Verdict::Pass
+}
+
+// The whole frame at an index, joined: `at` is its offset in the term.
+fn join_frame(
+    a: FragmentAssembler,
+    log: &[u8],
+    buffer: &mut [u8],
+    place: usize,
+    at: usize,
+) -> AssemblyReply
+    requires { ⌜ (at < 4294967296) × ((32 ≤ wordAt (drop place (now log))) × (place + wordAt (drop place (now log)) ≤ length (now log))) ⌝ }
+    ensures { λ r. ⌜ (r .answer ≡ joinedAt (sessionsOf a) (now (buffer .entry)) (drop place (now (log .entry))) at .answer) × (sessionsOf (r .next) ≡ joinedAt (sessionsOf a) (now (buffer .entry)) (drop place (now (log .entry))) at .next) ⌝ }
+    ensures { λ _. ⌜ now (buffer .exit) ≡ joinedAt (sessionsOf a) (now (buffer .entry)) (drop place (now (log .entry))) at .buffer ⌝ }
+{
+    let n = field::word4(log, place) - 32;
+    let session = cast::to_i32(field::word4(log, place + 12));
+    let flags = field::byte(log, place + 5);
+    let part = buffer.len() / 16;
+    match joining(a, session, flags, n, part) {
+        Joining::Through => AssemblyReply {
+            next: a,
+            answer: Assembled::Fragment(at + 32, n),
+        },
+        Joining::Ignore => AssemblyReply {
+            next: a,
+            answer: Assembled::Nothing,
+        },
+        Joining::Full => AssemblyReply {
+            next: a,
+            answer: Assembled::Refused(Error::AssemblyFull),
+        },
+        Joining::TooLong(k) => AssemblyReply {
+            next: a.holding(k, session, 0),
+            answer: Assembled::Refused(Error::AssemblyFull),
+        },
+        Joining::Join(k, from) => {
+            buffer_builder::append(buffer, k, part, from, log, place + 32, n);
+            AssemblyReply {
+                next: a.holding(k, session, from + n),
+                answer: Assembled::Nothing,
+            }
+        }
+        Joining::Complete(k, from) => {
+            buffer_builder::append(buffer, k, part, from, log, place + 32, n);
+            AssemblyReply {
+                next: a.holding(k, session, 0),
+                answer: Assembled::Message(k * part, from + n),
+            }
+        }
+    }
+}
+
+impl FragmentAssembler {
+    // One frame of a term, by its partition and offset: nothing yet, its body as it lies in the log, or the message that it ends, as it
+    // lies in the lent buffer. A refusal leaves the bookkeeping and the buffer as they were.
+    pub fn on_fragment(
+        self,
+        rec: LogRecord,
+        log: &[u8],
+        buffer: &mut [u8],
+        partition: i32,
+        offset: i32,
+    ) -> AssemblyReply
+        ensures { λ r. ⌜ (r .answer ≡ assembleOf rec (now (log .entry)) (sessionsOf self) (now (buffer .entry)) partition offset .answer) × (sessionsOf (r .next) ≡ assembleOf rec (now (log .entry)) (sessionsOf self) (now (buffer .entry)) partition offset .next) ⌝ }
+        ensures { λ _. ⌜ now (buffer .exit) ≡ assembleOf rec (now (log .entry)) (sessionsOf self) (now (buffer .entry)) partition offset .buffer ⌝ }
+    {
+        let v = log_buffer_descriptor::read_active(rec);
+        let k = cast::word(partition);
+        let at = cast::word(offset);
+        match assemble_verdict(v, log, buffer.len(), k, at) {
+            Verdict::Refuse(e) => AssemblyReply {
+                next: self,
+                answer: Assembled::Refused(e),
+            },
+            Verdict::Pass => join_frame(self, log, buffer, k * v.term + at, at),
+        }
+    }
 }

@@ -91,10 +91,14 @@ assembledBy at n part (Complete k from) = Message (k * part) (from + n)
 abbrev pub goodFrame : List ℕ → ℕ → Bool
 goodFrame log at = leb (at + 4) (length log) && (ltb 0 (u32 (drop at log)) && ltb (u32 (drop at log)) 2147483648)
 
+-- 1
+abbrev pub goodAssembly : Reading → List ℕ → ℕ → ℕ → ℕ → Bool
+goodAssembly v log buffer k at = leb buffer 2147483647 && (goodPartition k && (goodOffset at v && goodFrame log (k * v .term + at)))
+
 -- 1, 2, 17
 unfoldable pub assembleVerdict : Reading → List ℕ → ℕ → ℕ → ℕ → Verdict
 assembleVerdict v log buffer k at =
-    cond (leb buffer 2147483647 && (goodPartition k && (goodOffset at v && goodFrame log (k * v .term + at))))
+    cond (goodAssembly v log buffer k at)
     (cond (sound v (length log))
     (cond (unsoundLength (u32 (drop (k * v .term + at) log)) (v .term - at)) (Refuse UnsoundFrame) Pass)
     (Refuse IllegalRecord))
@@ -114,10 +118,13 @@ joined s buffer frame at x =
       buffer = bufferBy buffer (take (u32 frame - 32) (drop 32 frame)) x;
     }
 
+abbrev pub joinedAt : Sessions → List ℕ → List ℕ → ℕ → Assembly
+joinedAt s buffer frame at =
+    joined s buffer frame at (joining s (i32 (drop 12 frame)) (flagsAt frame) (u32 frame - 32) (partLength (length buffer)))
+
 abbrev pub assembleBy : Sessions → List ℕ → List ℕ → ℕ → Verdict → Assembly
 assembleBy s buffer frame at (Refuse e) = record { answer = Refused e; next = s; buffer = buffer }
-assembleBy s buffer frame at Pass =
-    joined s buffer frame at (joining s (i32 (drop 12 frame)) (flagsAt frame) (u32 frame - 32) (partLength (length buffer)))
+assembleBy s buffer frame at Pass = joinedAt s buffer frame at
 
 unfoldable pub assembleOf : LogRecord → List ℕ → Sessions → List ℕ → ℤ → ℤ → Assembly
 assembleOf r log s buffer partition offset =

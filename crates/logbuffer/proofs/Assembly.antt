@@ -1,0 +1,185 @@
+-- The rows of the assembler's entry point, and what a frame that passes them is.
+use mathlib.Core.Path.{_≡_, refl, sym, ap, ap₂, _∙_, subst}
+use mathlib.Core.Bool.{Bool, true, false, cond, _&&_, _||_}
+use mathlib.Core.List.{List}
+use Prim.Native.Nat.{ℕ, _+_, _-_, _*_, _/_, _%_, _≤_, _<_}
+use native.Mathlib.Nat.{mul-le-mul-right}
+use native.Mathlib.Omega.{arith}
+use borrow.Author.Tests.{le-leb, lt-leb, lt-ltb, le-ltb, leb-true, leb-false, ltb-false}
+use lib.Dec.{eqb, leb, ltb}
+use lib.ListN.{length, take, drop, getD}
+use lib.Seq.{drop-drop, getD-drop}
+use lib.IntN.{ℤ}
+use Rattle.model.specs.declared.LogRecord.{LogRecord}
+use Rattle.model.specs.declared.Reading.{Reading}
+use Rattle.model.specs.declared.Error.{Error}
+use Rattle.model.specs.declared.Error.the-variants.{IllegalArgument, IllegalRecord, UnsoundFrame}
+use Rattle.model.specs.declared.Verdict.{Verdict}
+use Rattle.model.specs.declared.Verdict.the-variants.{Pass, Refuse}
+use Rattle.model.specs.declared.Joining.{Joining}
+use Rattle.model.specs.declared.Joining.the-variants.{Through, Ignore, Full, TooLong, Join, Complete}
+use Rattle.model.specs.Bytes.{word, u32, i32}
+use Rattle.model.specs.FrameDescriptor.{align, unsoundLength, flagsAt, begins, ends}
+use Rattle.model.specs.LogBufferDescriptor.{reading, sound, goodPartition, goodOffset}
+use Rattle.model.specs.FragmentAssembler.{Sessions, Assembly, entered, placeOf, joining, sessionsBy, bufferBy, assembledBy, joinedAt, goodFrame, goodAssembly, assembleVerdict, assembleBy, assembleOf}
+use Rattle.model.proofs.Choice.{cond-true, cond-false, cond-case}
+use Rattle.model.proofs.ReaderLaws.{and-true, and-not, and-then}
+use Rattle.model.proofs.ReadLaws.{and-and}
+use Rattle.model.proofs.PlaceLaws.{placed}
+use Rattle.logbuffer.proofs.Sessions.{Begun, More}
+
+-- a whole frame at an index of a log: its length word, and the bytes that it tells
+pub record Framed (log : List ℕ) (at : ℕ) : Type 0 where
+  pub header : 32 ≤ u32 (drop at log)
+  pub whole : at + u32 (drop at log) ≤ length log
+
+or-false : (a b : Bool) → (a || b) ≡ false → (a ≡ false) × (b ≡ false)
+or-false true b h = absurd (let x : _≡_ {A = ℕ} 0 1 = cc in omega arith)
+or-false false b h = (refl, h)
+
+test : {X : Type 0} (b : Bool) → (b ≡ true → X) → (b ≡ false → X) → X
+test true f g = f refl
+test false f g = g refl
+
+no-pass : {e : Error} → Pass ≡ Refuse e → ⊥
+no-pass h = let x : _≡_ {A = ℕ} 0 1 = cc in omega arith
+
+-- ---- row 1
+
+pub frame-short : (log : List ℕ) (at : ℕ) → length log < at + 4 → false ≡ goodFrame log at
+frame-short log at h = ap (λ (b : Bool). b && (ltb 0 (u32 (drop at log)) && ltb (u32 (drop at log)) 2147483648)) (sym (lt-leb (at + 4) (length log) h))
+
+pub frame-long : (log : List ℕ) (at : ℕ) → at + 4 ≤ length log → (ltb 0 (u32 (drop at log)) && ltb (u32 (drop at log)) 2147483648) ≡ goodFrame log at
+frame-long log at h = ap (λ (b : Bool). b && (ltb 0 (u32 (drop at log)) && ltb (u32 (drop at log)) 2147483648)) (sym (le-leb (at + 4) (length log) h))
+
+module _ (v : Reading) (log : List ℕ) (lent k at : ℕ) where
+  pub assembly-lent : 2147483647 < lent → false ≡ goodAssembly v log lent k at
+  assembly-lent h = ap (λ (b : Bool). b && (goodPartition k && (goodOffset at v && goodFrame log (k * v .term + at)))) (sym (lt-leb lent 2147483647 h))
+
+  pub assembly-place : lent ≤ 2147483647 → (goodPartition k && goodOffset at v) ≡ false → false ≡ goodAssembly v log lent k at
+  assembly-place h g = and-not (goodPartition k) (goodOffset at v) (goodFrame log (k * v .term + at)) g ∙ ap (λ (b : Bool). b && (goodPartition k && (goodOffset at v && goodFrame log (k * v .term + at)))) (sym (le-leb lent 2147483647 h))
+
+  pub assembly-frame : lent ≤ 2147483647 → (goodPartition k && goodOffset at v) ≡ true → goodFrame log (k * v .term + at) ≡ goodAssembly v log lent k at
+  assembly-frame h g = and-then (goodPartition k) (goodOffset at v) (goodFrame log (k * v .term + at)) g ∙ ap (λ (b : Bool). b && (goodPartition k && (goodOffset at v && goodFrame log (k * v .term + at)))) (sym (le-leb lent 2147483647 h))
+
+  -- what row 1 says of the place
+  pub assembly-at : goodAssembly v log lent k at ≡ true → ((goodPartition k && goodOffset at v) ≡ true) × (k * v .term + at + 4 ≤ length log)
+  assembly-at g =
+      let p = and-and (goodPartition k) (goodOffset at v) (goodFrame log (k * v .term + at)) (and-true (leb lent 2147483647) _ g .1) in
+      (p .0, leb-true _ _ (and-true (leb (k * v .term + at + 4) (length log)) _ (p .1) .0))
+
+  -- a good place has an index of 64 bits, whatever the log
+  pub place-near : (goodPartition k && goodOffset at v) ≡ true → k * v .term + at < 6442450944
+  place-near g =
+      let p = and-true (leb k 2) _ g in
+      let t = and-true (leb (at + 1) (v .term)) (leb (v .term) 2147483647) (and-true (eqb (at % 32) 0) _ (p .1) .1) in
+      let m : k * v .term ≤ 2 * v .term = mul-le-mul-right (v .term) (leb-true _ _ (p .0)) in
+      omega (arith, leb-true (at + 1) (v .term) (t .0), leb-true (v .term) 2147483647 (t .1))
+
+  -- ---- rows 1, 2, 17
+
+  pub verdict-argument : goodAssembly v log lent k at ≡ false → Refuse IllegalArgument ≡ assembleVerdict v log lent k at
+  unfolding assembleVerdict
+  verdict-argument g = sym (cond-false (goodAssembly v log lent k at) _ _ g)
+
+  pub verdict-record : goodAssembly v log lent k at ≡ true → sound v (length log) ≡ false → Refuse IllegalRecord ≡ assembleVerdict v log lent k at
+  unfolding assembleVerdict
+  verdict-record g s = sym (cond-true (goodAssembly v log lent k at) _ _ g ∙ cond-false (sound v (length log)) _ _ s)
+
+  pub verdict-frame : goodAssembly v log lent k at ≡ true → sound v (length log) ≡ true
+      → cond (unsoundLength (u32 (drop (k * v .term + at) log)) (v .term - at)) (Refuse UnsoundFrame) Pass ≡ assembleVerdict v log lent k at
+  unfolding assembleVerdict
+  verdict-frame g s = sym (cond-true (goodAssembly v log lent k at) _ _ g ∙ cond-true (sound v (length log)) _ _ s)
+
+  -- a frame that passes them lies in its term, and its length word is that of a whole frame
+  pub passed-frame : goodAssembly v log lent k at ≡ true → sound v (length log) ≡ true → unsoundLength (u32 (drop (k * v .term + at) log)) (v .term - at) ≡ false
+      → Framed log (k * v .term + at)
+  passed-frame g s u =
+      let p = placed v (length log) k at (assembly-at g .0) s in
+      let w = u32 (drop (k * v .term + at) log) in
+      let q = or-false (ltb w 32) (ltb (v .term - at) (align w)) u in
+      let l : 32 ≤ w = ltb-false w 32 (q .0) in
+      let m : align w ≤ v .term - at = ltb-false (v .term - at) (align w) (q .1) in
+      record { header = l; whole = omega (arith, p .inside, p .below) }
+
+  pub verdict-passed : Pass ≡ assembleVerdict v log lent k at → Framed log (k * v .term + at)
+  unfolding assembleVerdict
+  verdict-passed e =
+      test (goodAssembly v log lent k at)
+      (λ g. test (sound v (length log))
+      (λ s. test (unsoundLength (u32 (drop (k * v .term + at) log)) (v .term - at))
+      (λ u. absurd (no-pass (e ∙ sym (verdict-frame g s) ∙ cond-true _ _ _ u)))
+      (λ u. passed-frame g s u))
+      (λ s. absurd (no-pass (e ∙ sym (verdict-record g s)))))
+      (λ g. absurd (no-pass (e ∙ sym (verdict-argument g))))
+
+-- ---- a frame joined
+
+-- equal assemblies, part by part
+abbrev pub three : (d e : Assembly) → d ≡ e → ((d .answer ≡ e .answer) × (d .next ≡ e .next)) × (d .buffer ≡ e .buffer)
+three d e h = ((ap (λ (y : Assembly). y .answer) h, ap (λ (y : Assembly). y .next) h), ap (λ (y : Assembly). y .buffer) h)
+
+-- where it is put: a place of the 16, and the body lies in its part
+abbrev pub Fit : ℕ → ℕ → Joining → Type 0
+Fit n part Through = Unit {0}
+Fit n part Ignore = Unit {0}
+Fit n part Full = Unit {0}
+Fit n part (TooLong k) = k < 16
+Fit n part (Join k from) = (k < 16) × (from + n ≤ part)
+Fit n part (Complete k from) = (k < 16) × (from + n ≤ part)
+
+begun-fits : (k n part : ℕ) → Fit n part (Begun k n part)
+begun-fits k n part =
+    cond-case (Fit n part) (leb 16 k) Full _ (λ _. tt)
+    (λ h. cond-case (Fit n part) (ltb part n) (TooLong k) (Join k 0) (λ _. leb-false 16 k h) (λ l. (leb-false 16 k h, omega (arith, ltb-false part n l))))
+
+more-fits : (k m from n part : ℕ) (e : Bool) → m ≤ 16 → Fit n part (More k m from n part e)
+more-fits k m from n part e h =
+    cond-case (Fit n part) (leb m k || eqb from 0) Ignore _ (λ _. tt)
+    (λ o. let l : k < 16 = omega (arith, leb-false m k (or-false (leb m k) (eqb from 0) o .0)) in
+    cond-case (Fit n part) (ltb part (from + n)) (TooLong k) _ (λ _. l)
+    (λ r. cond-case (Fit n part) e (Complete k from) (Join k from) (λ _. (l, ltb-false part (from + n) r)) (λ _. (l, ltb-false part (from + n) r))))
+
+pub join-fits : (s : Sessions) (z : ℤ) (flags n part : ℕ) → Fit n part (joining s z flags n part)
+unfolding joining
+join-fits s z flags n part =
+    cond-case (Fit n part) (begins flags && ends flags) Through _ (λ _. tt)
+    (λ _. cond-case (Fit n part) (begins flags) (Begun (placeOf s z) n part) (More (placeOf s z) (entered s) (getD (s .held) (placeOf s z) 0) n part (ends flags))
+    (λ _. begun-fits (placeOf s z) n part) (λ _. more-fits (placeOf s z) (entered s) (getD (s .held) (placeOf s z) 0) n part (ends flags) (omega arith)))
+
+-- by the numbers that are read from its header
+module _ (s : Sessions) (buffer log : List ℕ) (place at w flags : ℕ) (z : ℤ) (x : Joining) where
+  abbrev pub Done : Assembly
+  Done =
+      record {
+        answer = assembledBy (at + 32) (w - 32) (length buffer / 16) x;
+        next = sessionsBy s z (w - 32) x;
+        buffer = bufferBy buffer (take (w - 32) (drop (place + 32) log)) x;
+      }
+
+  pub done : w ≡ u32 (drop place log) → flags ≡ getD log (place + 5) 0 → z ≡ i32 (drop (place + 12) log) → x ≡ joining s z flags (w - 32) (length buffer / 16)
+      → Done ≡ joinedAt s buffer (drop place log) at
+  done ew ef ez ex =
+      ap (λ (y : Joining). As w z (drop (place + 32) log) y) (ex ∙ ap₂ (λ (f : ℕ) (y : ℤ). joining s y f (w - 32) (length buffer / 16)) ff zz)
+      ∙ ap₂ (λ (n : ℕ) (y : ℤ). As n y (drop (place + 32) log) (joining s (i32 (drop 12 (drop place log))) (flagsAt (drop place log)) (n - 32) (length buffer / 16))) ew zz
+      ∙ ap (λ (l : List ℕ). As (u32 (drop place log)) (i32 (drop 12 (drop place log))) l (joining s (i32 (drop 12 (drop place log))) (flagsAt (drop place log)) (u32 (drop place log) - 32) (length buffer / 16))) (sym (drop-drop 32 place log))
+    where
+      As : ℕ → ℤ → List ℕ → Joining → Assembly
+      As n y l j = record { answer = assembledBy (at + 32) (n - 32) (length buffer / 16) j; next = sessionsBy s y (n - 32) j; buffer = bufferBy buffer (take (n - 32) l) j }
+
+      zz : z ≡ i32 (drop 12 (drop place log))
+      zz = ez ∙ ap i32 (sym (drop-drop 12 place log))
+
+      ff : flags ≡ flagsAt (drop place log)
+      ff = ef ∙ sym (getD-drop place log 5 0)
+
+-- ---- the whole call, by the numbers without signs
+
+pub assembles : (r : LogRecord) (log : List ℕ) (s : Sessions) (buffer : List ℕ) (p o : ℤ) (v : Reading) (k at : ℕ) (x : Verdict)
+    → v ≡ reading r → k ≡ word p → at ≡ word o → x ≡ assembleVerdict v log (length buffer) k at
+    → assembleBy s buffer (drop (k * v .term + at) log) at x ≡ assembleOf r log s buffer p o
+unfolding assembleOf
+assembles r log s buffer p o v k at x ev ek ea ex =
+    ap (assembleBy s buffer (drop (k * v .term + at) log) at) ex
+    ∙ ap (λ (y : Reading). assembleBy s buffer (drop (k * y .term + at) log) at (assembleVerdict y log (length buffer) k at)) ev
+    ∙ ap₂ (λ (i j : ℕ). assembleBy s buffer (drop (i * reading r .term + j) log) j (assembleVerdict (reading r) log (length buffer) i j)) ek ea
