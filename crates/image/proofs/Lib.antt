@@ -1,0 +1,4 @@
+-- Laws that the functions' proofs share.
+pub mod Rungs
+pub mod Places
+pub mod Polls
