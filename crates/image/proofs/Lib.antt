@@ -2,3 +2,5 @@
 pub mod Rungs
 pub mod Places
 pub mod Polls
+pub mod Bounds
+pub mod Settings

@@ -1,9 +1,10 @@
 -- What the leaf library's walk answers, told as a poll of an image: p is the image's position as the code has it.
 use mathlib.Core.Path.{_≡_, refl, sym, ap, ap₂, _∙_}
-use mathlib.Core.Bool.{Bool, true, false, cond}
+use mathlib.Core.Bool.{Bool, true, false, cond, _&&_}
 use mathlib.Core.List.{List, []}
-use Prim.Native.Nat.{ℕ, _+_, _-_, _*_, _/_, _%_, _≤_, _<_}
+use Prim.Native.Nat.{ℕ, _+_, _-_, _*_, _/_, _%_, _≤_, _<_, min}
 use native.Mathlib.Omega.{arith}
+use lib.Dec.{leb}
 use lib.ListN.{length}
 use lib.IntN.{ℤ}
 use Rattle.model.specs.declared.LogRecord.{LogRecord}
@@ -19,7 +20,7 @@ use Rattle.model.specs.declared.FramesRead.the-variants.{Walked as AllWalked, R
 use Rattle.model.specs.Bytes.{long}
 use Rattle.model.specs.LogBufferDescriptor.{reading}
 use Rattle.model.specs.TermReader.{Walked, walkOf, framesBy, entriesBy, laid, natural, goodEntries}
-use Rattle.model.specs.Image.{Image as State, PollReply, walkAt, unsoundAt, pollReply, pollVerdict, pollOf}
+use Rattle.model.specs.Image.{Image as State, PollReply, walkAt, unsoundAt, endOffset, goodActions, pollReply, pollVerdict, pollOf, boundedPollOf, controlledPollOf}
 use Rattle.model.proofs.ReadLaws.{walk-moved}
 use Rattle.image.proofs.Places.{walked-first, refused-first}
 
@@ -61,3 +62,22 @@ module _ (r : LogRecord) (log : List ℕ) (i : State) (slots : List ℤ) (fragme
   as-poll eg =
       let f : Reading → ℕ → PollReply = λ (x : Reading) (l : ℕ). pollReply i slots (walkAt x log (long (i .position)) (x .term) l []) (pollVerdict x log i (goodEntries (length slots) l) (x .term) l) in
       ap (λ (b : Bool). pollReply i slots (walkAt v log (long (i .position)) (v .term) limit []) (pollVerdict v log i b (v .term) limit)) eg ∙ ap₂ f ev el
+
+  pub as-controlled : (acts : List ℕ) → good ≡ (goodEntries (length slots) limit && (goodActions acts && (leb (length acts) 2147483647 && leb limit (length acts))))
+      → pollReply i slots (walkAt v log (long (i .position)) (v .term) limit acts) (pollVerdict v log i good (v .term) limit) ≡ controlledPollOf r log i slots acts fragments
+  unfolding controlledPollOf
+  as-controlled acts eg =
+      let f : Reading → ℕ → PollReply = λ (x : Reading) (l : ℕ). pollReply i slots (walkAt x log (long (i .position)) (x .term) l acts)
+      (pollVerdict x log i (goodEntries (length slots) l && (goodActions acts && (leb (length acts) 2147483647 && leb l (length acts)))) (x .term) l) in
+      ap (λ (b : Bool). pollReply i slots (walkAt v log (long (i .position)) (v .term) limit acts) (pollVerdict v log i b (v .term) limit)) eg ∙ ap₂ f ev el
+
+  pub as-bounded : (position : ℤ) (end p bound : ℕ) → good ≡ goodEntries (length slots) limit → p ≡ long (i .position) → bound ≡ natural position
+      → end ≡ min (v .term) (p % v .term + (bound - p))
+      → pollReply i slots (walkAt v log (long (i .position)) end limit []) (pollVerdict v log i good end limit) ≡ boundedPollOf r log i slots position fragments
+  unfolding boundedPollOf
+  as-bounded position end p bound eg ep eb ee =
+      let f : Reading → ℕ → ℕ → Bool → PollReply = λ (x : Reading) (l e : ℕ) (b : Bool). pollReply i slots (walkAt x log (long (i .position)) e l []) (pollVerdict x log i b e l) in
+      let e : end ≡ endOffset (reading r) (long (i .position)) (natural position) =
+      ee ∙ ap (λ (x : Reading). min (x .term) (p % x .term + (bound - p))) ev ∙ ap₂ (λ (q b : ℕ). min (reading r .term) (q % reading r .term + (b - q))) ep eb in
+      let g : good ≡ goodEntries (length slots) (natural fragments) = eg ∙ ap (goodEntries (length slots)) el in
+      ap₂ (λ (x : Reading) (l : ℕ). f x l end good) ev el ∙ ap₂ (f (reading r) (natural fragments)) e g

@@ -2,19 +2,19 @@
 use mathlib.Core.Path.{_≡_, refl, sym, ap, _∙_}
 use mathlib.Core.Bool.{Bool, true, false, cond, _&&_, not}
 use mathlib.Core.List.{List}
-use Prim.Native.Nat.{ℕ, _+_, _*_, _%_, _≤_, _<_}
+use Prim.Native.Nat.{ℕ, _+_, _-_, _*_, _%_, _≤_, _<_}
 use native.Mathlib.Omega.{arith}
-use borrow.Author.Tests.{leb-true, eqb-true, le-leb, lt-leb, eq-eqb, ne-eqb}
+use borrow.Author.Tests.{leb-true, eqb-true, le-leb, lt-leb, le-ltb, lt-ltb, eq-eqb, ne-eqb}
 use lib.Dec.{eqb, leb}
 use lib.ListN.{length}
 use Rattle.model.specs.declared.Reading.{Reading}
 use Rattle.model.specs.declared.Error.{Error}
-use Rattle.model.specs.declared.Error.the-variants.{IllegalArgument, IllegalRecord, PositionOutOfRange, UnsoundFrame}
+use Rattle.model.specs.declared.Error.the-variants.{IllegalArgument, IllegalRecord, PositionOutOfRange, NewPositionOutOfRange, NewPositionNotAligned, UnsoundFrame}
 use Rattle.model.specs.declared.ReadVerdict.{ReadVerdict}
 use Rattle.model.specs.declared.ReadVerdict.the-variants.{Read, Closed, Refuse}
 use Rattle.model.specs.Bytes.{long}
 use Rattle.model.specs.LogBufferDescriptor.{sound, greatest}
-use Rattle.model.specs.Image.{Image as State, refuseIf, goodPosition, readable, unsoundAt, pollVerdict}
+use Rattle.model.specs.Image.{Image as State, refuseIf, goodPosition, readable, reachable, unsoundAt, pollVerdict}
 use Rattle.model.proofs.ReaderLaws.{and-true}
 
 -- a verdict, and where it lets the call go on, what follows it
@@ -108,3 +108,22 @@ module _ (v : Reading) (log : List ℕ) (i : State) (good : Bool) (end limit : �
   pub poll-by : (b : Bool) → unsoundAt v log (long (i .position)) end limit ≡ b → Read ≡ readable good v (length log) i Read
       → refuseIf b UnsoundFrame Read ≡ pollVerdict v log i good end limit
   poll-by b e h = ap (λ (t : Bool). refuseIf t UnsoundFrame Read) (sym e) ∙ poll-after Read h
+
+-- ---- rows 15 and 16
+
+module _ (v : Reading) (current new : ℕ) (rest : ReadVerdict) where
+  pub before-current : new < current → Refuse NewPositionOutOfRange ≡ reachable v current new rest
+  unfolding reachable
+  before-current h = rw (lt-ltb new current h)
+
+  pub past-term : current ≤ new → current - current % v .term + v .term < new → Refuse NewPositionOutOfRange ≡ reachable v current new rest
+  unfolding reachable
+  past-term h k = rw (le-ltb new current h, lt-ltb (current - current % v .term + v .term) new k)
+
+  pub no-boundary : current ≤ new → new ≤ current - current % v .term + v .term → (new % 32 ≡ 0 → ⊥) → Refuse NewPositionNotAligned ≡ reachable v current new rest
+  unfolding reachable
+  no-boundary h k a = rw (le-ltb new current h, le-ltb (current - current % v .term + v .term) new k, ne-eqb (new % 32) 0 a)
+
+  pub reaches : current ≤ new → new ≤ current - current % v .term + v .term → new % 32 ≡ 0 → rest ≡ reachable v current new rest
+  unfolding reachable
+  reaches h k a = rw (le-ltb new current h, le-ltb (current - current % v .term + v .term) new k, eq-eqb (new % 32) 0 a)

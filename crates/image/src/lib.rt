@@ -1,14 +1,20 @@
 // An image: a reader's place in a log that is lent. A call takes the image by value, and hands the next one back beside its answer.
 ghost use mathlib.Core.Path.{_≡_};
-ghost use Rattle.model.specs.Image.{newImage, movedTo, pollOf};
-ghost use Rattle.image.specs.Images.{stateOf, imageOf, pollReplyOf};
+ghost use Rattle.model.specs.Image.{newImage, movedTo, pollOf, boundedPollOf, controlledPollOf, setPositionOf, endOfStreamOf, closeImageOf};
+ghost use Rattle.image.specs.Images.{stateOf, imageOf, pollReplyOf, imageReplyOf};
 use logbuffer::argument;
+use logbuffer::cast;
 use logbuffer::log_buffer_descriptor;
+use model::EndOfStream;
+use model::Error;
 use model::LogRecord;
+use model::Outcome;
 use model::Polled;
+use model::ReadVerdict;
 
 mod frames;
 mod ladder;
+mod limits;
 
 // A position in the stream, the session, whether it is closed, and the end-of-stream flag kept at closing.
 #[repr(C)]
@@ -22,6 +28,11 @@ pub struct Image {
 pub struct PollReply {
     pub next: Image,
     pub answer: Polled,
+}
+
+pub struct ImageReply {
+    pub next: Image,
+    pub answer: Outcome,
 }
 
 impl Image {
@@ -60,5 +71,101 @@ impl Image {
         let term = v.term;
         let good = ladder::good_entries(entries.len(), limit);
         frames::poll_frames(self, v, log, entries, good, term, limit, &log[0..0])
+    }
+    // The same, and nothing at or past a limit position.
+    pub fn bounded_poll(
+        self,
+        rec: LogRecord,
+        log: &[u8],
+        entries: &mut [i32],
+        limit_position: i64,
+        fragment_limit: i32,
+    ) -> PollReply
+        ensures { λ r. ⌜ r ≡ pollReplyOf (boundedPollOf rec (now (log .entry)) (stateOf self) (now (entries .entry)) «limit_position» «fragment_limit») ⌝ }
+        ensures { λ _. ⌜ now (entries .exit) ≡ boundedPollOf rec (now (log .entry)) (stateOf self) (now (entries .entry)) «limit_position» «fragment_limit» .slots ⌝ }
+    {
+        let v = log_buffer_descriptor::read_active(rec);
+        let limit = argument::natural(fragment_limit);
+        let bound = limits::natural_position(limit_position);
+        let end = limits::end_offset(v.term, cast::long(self.position), bound);
+        let good = ladder::good_entries(entries.len(), limit);
+        frames::poll_frames(self, v, log, entries, good, end, limit, &log[0..0])
+    }
+
+    // A poll whose handler's answers are given: 1 abort, 2 break, 3 commit, 4 continue.
+    pub fn controlled_poll(
+        self,
+        rec: LogRecord,
+        log: &[u8],
+        entries: &mut [i32],
+        actions: &[u8],
+        fragment_limit: i32,
+    ) -> PollReply
+        ensures { λ r. ⌜ r ≡ pollReplyOf (controlledPollOf rec (now (log .entry)) (stateOf self) (now (entries .entry)) (now (actions .entry)) «fragment_limit») ⌝ }
+        ensures { λ _. ⌜ now (entries .exit) ≡ controlledPollOf rec (now (log .entry)) (stateOf self) (now (entries .entry)) (now (actions .entry)) «fragment_limit» .slots ⌝ }
+    {
+        let v = log_buffer_descriptor::read_active(rec);
+        let limit = argument::natural(fragment_limit);
+        let term = v.term;
+        let good = ladder::good_control(entries.len(), limit, actions);
+        frames::poll_frames(self, v, log, entries, good, term, limit, actions)
+    }
+
+    // Moves to a frame's boundary between the position and the end of its term.
+    pub fn set_position(self, rec: LogRecord, log: &[u8], new_position: i64) -> ImageReply
+        ensures { λ r. ⌜ r ≡ imageReplyOf (setPositionOf rec (now (log .entry)) (stateOf self) «new_position») ⌝ }
+    {
+        let v = log_buffer_descriptor::read_active(rec);
+        match ladder::reach(true, v, log.len(), self, cast::long(new_position)) {
+            ReadVerdict::Refuse(e) => ImageReply {
+                next: self,
+                answer: Outcome::Refused(e),
+            },
+            ReadVerdict::Closed => ImageReply {
+                next: self,
+                answer: Outcome::Done,
+            },
+            ReadVerdict::Read => ImageReply {
+                next: self.moved_to(new_position),
+                answer: Outcome::Done,
+            },
+        }
+    }
+
+    // Whether the position is at or past the end of the stream; of a closed image, whether it was at closing.
+    pub fn is_end_of_stream(self, rec: LogRecord, log: &[u8]) -> EndOfStream
+        ensures { λ r. ⌜ r ≡ endOfStreamOf rec (now (log .entry)) (stateOf self) ⌝ }
+    {
+        let v = log_buffer_descriptor::read_active(rec);
+        match ladder::readable(true, v, log.len(), self) {
+            ReadVerdict::Refuse(e) => EndOfStream::Refused(e),
+            ReadVerdict::Closed => EndOfStream::Is(self.is_eos),
+            ReadVerdict::Read => EndOfStream::Is(rec.end_of_stream_position <= self.position),
+        }
+    }
+
+    // A closed image stays as it is.
+    pub fn close(mut self, rec: LogRecord, log: &[u8]) -> ImageReply
+        ensures { λ r. ⌜ r ≡ imageReplyOf (closeImageOf rec (now (log .entry)) (stateOf self)) ⌝ }
+    {
+        let v = log_buffer_descriptor::read_active(rec);
+        if !log_buffer_descriptor::is_sound(v, log.len()) {
+            return ImageReply {
+                next: self,
+                answer: Outcome::Refused(Error::IllegalRecord),
+            };
+        }
+        if self.is_closed {
+            return ImageReply {
+                next: self,
+                answer: Outcome::Done,
+            };
+        }
+        self.is_eos = rec.end_of_stream_position <= self.position;
+        self.is_closed = true;
+        ImageReply {
+            next: self,
+            answer: Outcome::Done,
+        }
     }
 }
