@@ -4,3 +4,5 @@ pub mod Places
 pub mod Polls
 pub mod Bounds
 pub mod Settings
+pub mod Blocks
+pub mod Peeks

@@ -1,17 +1,21 @@
 // An image: a reader's place in a log that is lent. A call takes the image by value, and hands the next one back beside its answer.
 ghost use mathlib.Core.Path.{_≡_};
-ghost use Rattle.model.specs.Image.{newImage, movedTo, pollOf, boundedPollOf, controlledPollOf, setPositionOf, endOfStreamOf, closeImageOf};
-ghost use Rattle.image.specs.Images.{stateOf, imageOf, pollReplyOf, imageReplyOf};
+ghost use Rattle.model.specs.Image.{newImage, movedTo, pollOf, boundedPollOf, controlledPollOf, setPositionOf, endOfStreamOf, closeImageOf, peekOf, peekSlots, blockPollOf};
+ghost use Rattle.image.specs.Images.{stateOf, imageOf, pollReplyOf, blockReplyOf, imageReplyOf};
 use logbuffer::argument;
 use logbuffer::cast;
 use logbuffer::log_buffer_descriptor;
+use model::BlockPolled;
 use model::EndOfStream;
 use model::Error;
+use model::FramesRead;
 use model::LogRecord;
 use model::Outcome;
+use model::Peeked;
 use model::Polled;
 use model::ReadVerdict;
 
+mod block;
 mod frames;
 mod ladder;
 mod limits;
@@ -28,6 +32,11 @@ pub struct Image {
 pub struct PollReply {
     pub next: Image,
     pub answer: Polled,
+}
+
+pub struct BlockReply {
+    pub next: Image,
+    pub answer: BlockPolled,
 }
 
 pub struct ImageReply {
@@ -109,6 +118,64 @@ impl Image {
         let term = v.term;
         let good = ladder::good_control(entries.len(), limit, actions);
         frames::poll_frames(self, v, log, entries, good, term, limit, actions)
+    }
+
+    // Reads from another position as a controlled poll does, one fragment for each action, and leaves the image where it is. It answers the
+    // position after the last whole message or padding.
+    pub fn controlled_peek(
+        self,
+        rec: LogRecord,
+        log: &[u8],
+        entries: &mut [i32],
+        actions: &[u8],
+        start: i64,
+        limit_position: i64,
+    ) -> Peeked
+        ensures { λ r. ⌜ r ≡ peekOf rec (now (log .entry)) (stateOf self) (now (entries .entry)) (now (actions .entry)) start «limit_position» ⌝ }
+        ensures { λ _. ⌜ now (entries .exit) ≡ peekSlots rec (now (log .entry)) (stateOf self) (now (entries .entry)) (now (actions .entry)) start «limit_position» ⌝ }
+    {
+        let v = log_buffer_descriptor::read_active(rec);
+        let p = cast::long(start);
+        let n = actions.len();
+        let good = ladder::good_control(entries.len(), n, actions);
+        match ladder::reach(good, v, log.len(), self, p) {
+            ReadVerdict::Refuse(e) => Peeked::Refused(e),
+            ReadVerdict::Closed => Peeked::Position(start, 0),
+            ReadVerdict::Read => {
+                let end = limits::end_offset(v.term, p, limits::natural_position(limit_position));
+                let FramesRead::Walked(walked) = frames::frames_at(
+                    v,
+                    log,
+                    entries,
+                    p,
+                    end,
+                    n,
+                    actions,
+                ) else {
+                    return Peeked::Refused(Error::UnsoundFrame);
+                };
+                Peeked::Position((p + walked.settled) as i64, walked.entries)
+            }
+        }
+    }
+
+    // Moves past whole frames of at most `limit` bytes, and answers where they lie; a padding frame only by itself.
+    pub fn block_poll(self, rec: LogRecord, log: &[u8], limit: i32) -> BlockReply
+        ensures { λ r. ⌜ r ≡ blockReplyOf (blockPollOf rec (now (log .entry)) (stateOf self) limit) ⌝ }
+    {
+        let v = log_buffer_descriptor::read_active(rec);
+        let most = argument::natural(limit);
+        match ladder::readable(true, v, log.len(), self) {
+            ReadVerdict::Refuse(e) => BlockReply {
+                next: self,
+                answer: BlockPolled::Refused(e),
+            },
+            ReadVerdict::Closed => BlockReply {
+                next: self,
+                answer: BlockPolled::Block(0, 0, 0, 0),
+            },
+            ReadVerdict::Read => block::block_at(self, rec, v, log, most),
+        }
     }
 
     // Moves to a frame's boundary between the position and the end of its term.
