@@ -5,7 +5,7 @@ use mathlib.Core.List.{List}
 use Prim.Native.Nat.{ℕ, zero, suc, _+_, _-_, _*_, _/_, _%_, _≤_, _<_, min}
 use native.Mathlib.Omega.{arith}
 use borrow.Author.Tests.{le-leb, eq-eqb, ne-eqb}
-use lib.Dec.{eqb, leb, ltb}
+use lib.Dec.{eqb, leb}
 use lib.ListN.{length, drop}
 use lib.Seq.{drop-drop}
 use lib.IntN.{ℤ, pos}
@@ -22,7 +22,6 @@ use Rattle.model.specs.declared.ReadVerdict.the-variants.{Read}
 use Rattle.model.specs.declared.Frame.{Frame}
 use Rattle.model.specs.declared.Frame.the-variants.{Absent, Unsound, Padding, Data}
 use Rattle.model.specs.declared.HeaderFields.{HeaderFields}
-use Rattle.model.specs.declared.HeaderRead.{HeaderRead}
 use Rattle.model.specs.declared.HeaderRead.the-variants.{Fields, Refused as HeaderRefused}
 use Rattle.model.specs.declared.Scanned.{Scanned}
 use Rattle.model.specs.declared.Scanned.the-variants.{Offset, Refused}

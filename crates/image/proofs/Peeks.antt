@@ -2,7 +2,7 @@
 use mathlib.Core.Path.{_≡_, refl, sym, ap, ap₂, _∙_}
 use mathlib.Core.Bool.{Bool, true, false, cond, _&&_, _||_, not}
 use mathlib.Core.List.{List, [], _∷_}
-use Prim.Native.Nat.{ℕ, zero, suc, _+_, _-_, _*_, _/_, _%_, _≤_, _<_, min}
+use Prim.Native.Nat.{ℕ, zero, suc, _+_, _-_, _%_, _≤_, min}
 use native.Mathlib.Omega.{arith}
 use borrow.Author.Tests.{le-leb, ltb-false, eqb-true}
 use lib.Dec.{eqb, leb, ltb}
@@ -10,7 +10,6 @@ use lib.ListN.{length, drop}
 use lib.IntN.{ℤ}
 use Rattle.model.specs.declared.LogRecord.{LogRecord}
 use Rattle.model.specs.declared.Reading.{Reading}
-use Rattle.model.specs.declared.Error.{Error}
 use Rattle.model.specs.declared.Error.the-variants.{NewPositionOutOfRange, NewPositionNotAligned, UnsoundFrame}
 use Rattle.model.specs.declared.ReadVerdict.{ReadVerdict}
 use Rattle.model.specs.declared.ReadVerdict.the-variants.{Read, Closed, Refuse}
@@ -19,7 +18,7 @@ use Rattle.model.specs.declared.Frame.the-variants.{Absent, Unsound, Padding, D
 use Rattle.model.specs.Bytes.{long}
 use Rattle.model.specs.FrameDescriptor.{align, frameAt}
 use Rattle.model.specs.LogBufferDescriptor.{reading, greatest}
-use Rattle.model.specs.TermReader.{Walked, still, over, handed, nextAction, restActions, settledBy, walk, natural, goodEntries}
+use Rattle.model.specs.TermReader.{Walked, still, over, handed, nextAction, restActions, walk, natural, goodEntries}
 use Rattle.model.specs.Image.{Image as State, refuseIf, readable, reachable, endOffset, walkAt, unsoundAt, goodActions, slotsBy, peekVerdict, peekedBy, peekOf, peekSlots}
 use Rattle.model.proofs.FrameLaws.{Lies, lies}
 use Rattle.image.proofs.Rungs.{after, Readable, readable-after, readable-read}

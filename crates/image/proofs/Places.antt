@@ -1,20 +1,18 @@
 -- Where a position lies in a sound log: its partition, and its offset in the term.
-use mathlib.Core.Path.{_≡_, refl, sym, ap, _∙_}
-use mathlib.Core.Bool.{Bool, true, false, cond, _&&_}
-use mathlib.Core.List.{List}
-use Prim.Native.Nat.{ℕ, _+_, _-_, _*_, _/_, _%_, _≤_, _<_}
+use mathlib.Core.Path.{_≡_, refl, sym, _∙_}
+use mathlib.Core.Bool.{Bool, true, false, cond}
+use Prim.Native.Nat.{ℕ, _+_, _*_, _/_, _%_, _≤_, _<_}
 use native.Mathlib.Omega.{arith}
 use native.Mathlib.Nat.{mod-lt, mod-mod-of-dvd, dvd-of-mod-eq-zero}
-use borrow.Author.Tests.{le-leb, leb-true, eq-eqb}
-use lib.Dec.{eqb, leb}
+use borrow.Author.Tests.{leb-true}
+use lib.Dec.{leb}
 use Rattle.model.specs.declared.Reading.{Reading}
 use Rattle.model.specs.declared.Error.{Error}
 use Rattle.model.specs.declared.Error.the-variants.{UnsoundFrame}
 use Rattle.model.specs.declared.Verdict.the-variants.{Pass, Refuse}
 use Rattle.model.specs.declared.Walk.{Walk}
-use Rattle.model.specs.declared.FramesRead.{FramesRead}
 use Rattle.model.specs.declared.FramesRead.the-variants.{Walked as AllWalked, Refused as WalkRefused}
-use Rattle.model.specs.LogBufferDescriptor.{sound, Sound, partitionOf}
+use Rattle.model.specs.LogBufferDescriptor.{sound, partitionOf}
 use Rattle.model.specs.TermReader.{Walked, walkOf, framesBy, goodWalk, goodEntries}
 use Rattle.model.proofs.Sound.{sound-true, term-32}
 use Rattle.model.proofs.PlaceLaws.{part-in}

@@ -1,8 +1,8 @@
 -- What the leaf library's walk answers, told as a poll of an image: p is the image's position as the code has it.
-use mathlib.Core.Path.{_≡_, refl, sym, ap, ap₂, _∙_}
+use mathlib.Core.Path.{_≡_, sym, ap, ap₂, _∙_}
 use mathlib.Core.Bool.{Bool, true, false, cond, _&&_}
 use mathlib.Core.List.{List, []}
-use Prim.Native.Nat.{ℕ, _+_, _-_, _*_, _/_, _%_, _≤_, _<_, min}
+use Prim.Native.Nat.{ℕ, _+_, _-_, _*_, _/_, _%_, _≤_, min}
 use native.Mathlib.Omega.{arith}
 use lib.Dec.{leb}
 use lib.ListN.{length}
@@ -12,14 +12,12 @@ use Rattle.model.specs.declared.Reading.{Reading}
 use Rattle.model.specs.declared.Error.{Error}
 use Rattle.model.specs.declared.Error.the-variants.{UnsoundFrame}
 use Rattle.model.specs.declared.Verdict.the-variants.{Pass, Refuse as VerdictRefuse}
-use Rattle.model.specs.declared.ReadVerdict.{ReadVerdict}
-use Rattle.model.specs.declared.ReadVerdict.the-variants.{Read, Closed, Refuse}
 use Rattle.model.specs.declared.Walk.{Walk}
 use Rattle.model.specs.declared.FramesRead.{FramesRead}
 use Rattle.model.specs.declared.FramesRead.the-variants.{Walked as AllWalked, Refused as WalkRefused}
 use Rattle.model.specs.Bytes.{long}
 use Rattle.model.specs.LogBufferDescriptor.{reading}
-use Rattle.model.specs.TermReader.{Walked, walkOf, framesBy, entriesBy, laid, natural, goodEntries}
+use Rattle.model.specs.TermReader.{walkOf, framesBy, entriesBy, laid, natural, goodEntries}
 use Rattle.model.specs.Image.{Image as State, PollReply, walkAt, unsoundAt, endOffset, goodActions, pollReply, pollVerdict, pollOf, boundedPollOf, controlledPollOf}
 use Rattle.model.proofs.ReadLaws.{walk-moved}
 use Rattle.image.proofs.Places.{walked-first, refused-first}

@@ -1,5 +1,5 @@
 -- The ladder answers, or lets the block be read.
-use mathlib.Core.Path.{_≡_, sym, ap, ap₂, _∙_}
+use mathlib.Core.Path.{sym, ap, _∙_}
 use mathlib.Core.Bool.{true}
 use mir.Facts.{toZ-ofZ}
 use lib.ListN.{length}

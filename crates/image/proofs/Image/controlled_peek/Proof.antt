@@ -1,19 +1,16 @@
 -- The ladder answers, or lets the walk go; the walk's answer is opened.
 use mathlib.Core.Path.{_≡_, refl, sym, ap, ap₂, _∙_}
-use mathlib.Core.Bool.{Bool, true, false, _&&_}
-use mathlib.Core.List.{List}
+use mathlib.Core.Bool.{Bool}
 use native.Mathlib.Omega.{arith}
-use Prim.Native.Nat.{ℕ, _+_, _-_, _/_, _*_, _%_, _≤_, min}
+use Prim.Native.Nat.{ℕ, _+_, _/_, _*_, _%_, _≤_}
 use lib.ListN.{length}
 use lib.IntN.{ℤ, pos}
 use mir.Syntax.{w64}
-use mir.Val.{SFits}
 use mir.Facts.{toZ-ofZ, toZ-pos}
 use Rattle.model.specs.declared.Walk.{Walk}
 use Rattle.model.specs.declared.FramesRead.the-variants.{Walked as AllWalked}
 use Rattle.model.specs.declared.Peeked.{Peeked}
 use Rattle.model.specs.declared.Peeked.the-variants.{Position}
-use Rattle.model.specs.declared.ReadVerdict.{ReadVerdict}
 use Rattle.model.specs.declared.ReadVerdict.the-variants.{Read}
 use Rattle.model.specs.declared.Error.the-variants.{UnsoundFrame}
 use Rattle.model.specs.Bytes.{long}

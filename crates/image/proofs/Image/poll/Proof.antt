@@ -1,8 +1,7 @@
 -- One call of `poll_frames`, to the end of the term and with no actions.
-use mathlib.Core.Path.{_≡_, sym, ap, _∙_}
+use mathlib.Core.Path.{sym, ap, _∙_}
 use native.Mathlib.Omega.{arith}
 use mir.Facts.{toZ-ofZ}
-use mathlib.Core.List.{[]}
 use Rattle.model.specs.TermReader.{natural}
 use Rattle.image.specs.Images.{stateOf, pollReplyOf}
 use Rattle.image.proofs.Polls.{as-poll}

@@ -1,5 +1,5 @@
 -- The scan is asked at the position's place.
-use mathlib.Core.Path.{_≡_, sym, _∙_}
+use mathlib.Core.Path.{sym, _∙_}
 use native.Mathlib.Omega.{arith}
 use lib.ListN.{length}
 use Rattle.image.proofs.Places.{At, at-place}

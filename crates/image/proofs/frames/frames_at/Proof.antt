@@ -1,5 +1,5 @@
 -- The place of the position, and the leaf library's walk from it.
-use mathlib.Core.Path.{_≡_, sym, ap, _∙_}
+use mathlib.Core.Path.{sym, _∙_}
 use native.Mathlib.Omega.{arith}
 use Prim.Native.Nat.{_*_, _/_, _%_}
 use lib.ListN.{length}

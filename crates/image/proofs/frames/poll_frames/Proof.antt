@@ -1,23 +1,21 @@
 -- The ladder answers, or lets the walk go; the walk's answer is opened.
 use mathlib.Core.Path.{_≡_, sym, ap, ap₂, _∙_}
-use mathlib.Core.Bool.{Bool, true, false}
+use mathlib.Core.Bool.{true, false}
 use native.Mathlib.Omega.{arith}
-use Prim.Native.Nat.{ℕ, _+_, _*_, _%_, _≤_}
+use Prim.Native.Nat.{ℕ, _+_, _%_, _≤_}
 use mathlib.Core.List.{List}
 use lib.ListN.{length}
 use lib.IntN.{ℤ, pos}
 use mir.Syntax.{w64}
-use mir.Val.{SFits, toZ, ofZ}
-use mir.Facts.{toZ-ofZ, toZ-pos}
+use mir.Val.{SFits}
+use mir.Facts.{toZ-ofZ}
 use Rattle.model.specs.declared.Walk.{Walk}
 use Rattle.model.specs.declared.FramesRead.the-variants.{Walked as AllWalked}
-use Rattle.model.specs.declared.Polled.{Polled}
 use Rattle.model.specs.declared.Polled.the-variants.{Fragments}
 use Rattle.model.specs.declared.ReadVerdict.{ReadVerdict}
-use Rattle.model.specs.declared.ReadVerdict.the-variants.{Read, Closed, Refuse}
+use Rattle.model.specs.declared.ReadVerdict.the-variants.{Read}
 use Rattle.model.specs.Bytes.{long}
-use Rattle.model.specs.TermReader.{Walked, walkOf}
-use Rattle.model.specs.Image.{Image as State, PollReply as PollSaid, movedTo, readable, walkAt, pollReply, pollVerdict, slotsBy}
+use Rattle.model.specs.Image.{movedTo, readable, walkAt, pollReply, slotsBy}
 use Rattle.model.proofs.Sound.{sound-true}
 use Rattle.logbuffer.proofs.Signed.{long-by}
 use Rattle.image.specs.declared.Image.{Image}

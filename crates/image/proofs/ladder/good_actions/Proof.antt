@@ -1,8 +1,8 @@
 -- Each byte passed is 1 to 4, so that the rest decides.
-use mathlib.Core.Path.{_≡_, refl, sym, _∙_}
-use Prim.Native.Nat.{ℕ, _≤_, _-_}
+use mathlib.Core.Path.{_≡_, refl, _∙_}
+use Prim.Native.Nat.{_≤_, _-_}
 use native.Mathlib.Omega.{arith}
-use lib.ListN.{length, drop, getD}
+use lib.ListN.{length, drop}
 use Rattle.model.specs.Image.{goodActions}
 use Rattle.image.proofs.Bounds.{actions-end, actions-low, actions-high, actions-again}
 use Rattle.image.proofs.ladder.good_actions.Statement.{statement}
