@@ -27,7 +27,7 @@ pub fn within_term(n: usize, v: Reading) -> bool
 }
 
 // A partition, and the place of a frame in it.
-pub fn good_place(k: usize, at: usize, v: Reading) -> bool
+pub(crate) fn good_place(k: usize, at: usize, v: Reading) -> bool
     requires { ⌜ at < 4294967296 ⌝ }
     ensures { λ r. ⌜ r ≡ (goodPartition k && goodOffset at v) ⌝ }
 {

@@ -1,9 +1,9 @@
 // The leaf library: the log's frames, read and written over a log that is lent. A file for each file of the Rust.
-mod argument;
+pub mod argument;
 pub mod bit_utils;
 mod buffer_builder;
 pub mod buffer_claim;
-mod cast;
+pub mod cast;
 mod copying;
 pub mod errors;
 mod field;

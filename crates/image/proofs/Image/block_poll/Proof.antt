@@ -1,0 +1,70 @@
+-- The ladder answers, or lets the block be read.
+use mathlib.Core.Path.{sym, ap, _∙_}
+use mathlib.Core.Bool.{true}
+use mir.Facts.{toZ-ofZ}
+use lib.ListN.{length}
+use Rattle.model.specs.TermReader.{natural}
+use Rattle.image.specs.Images.{stateOf, blockReplyOf}
+use Rattle.image.proofs.Rungs.{readable-read}
+use Rattle.image.proofs.Blocks.{as-block}
+use borrow.Author.Needs.{needs}
+use Rattle.image.proofs.Image.block_poll.Statement.{statement}
+use Rattle.image.proofs.Image.block_poll.Tie as tie
+
+read-active-requires : tie.Need-read-active-requires
+read-active-requires c κs = search needs
+
+natural-requires : tie.Need-natural-requires
+natural-requires c κs = search needs
+
+readable-requires : tie.Need-readable-requires
+readable-requires c κs = search needs
+
+enum-known-e : tie.Need-enum-known-e
+enum-known-e c = search needs
+
+enum-told : tie.Need-enum-told
+enum-told c = search needs
+
+enum-told-2 : tie.Need-enum-told-2
+enum-told-2 c = search needs
+
+block-at-requires : tie.Need-block-at-requires
+block-at-requires c κs =
+    let a = c .before .before .before .before .before .before .args in
+    let k = readable-read true _ (length (a .log .now)) (stateOf (a .self)) (sym (c .enum-told2 .given .1) ∙ c .before .before .readable .ensures) in
+    (c .before .before .before .before .read-active .ensures, (k .sound, (k .high, (k .p-32, c .before .before .before .natural .ensures .1))))
+
+returns : tie.Need-returns
+returns c =
+    let s = c .before .before .before .before .before .before .before in
+    let a = s .args in
+    ap blockReplyOf (as-block (a .rec) (a .log .now) (stateOf (a .self)) (a .limit) _ _ (c .before .before .before .before .before .read-active .ensures) (c .before .before .before .before .natural .ensures .0 ∙ ap natural (toZ-ofZ (s .fits .limit))) _ (sym (c .before .e .given .1) ∙ c .before .before .before .readable .ensures))
+
+returns-2 : tie.Need-returns-2
+returns-2 c =
+    let s = c .before .before .before .before .before .before in
+    let a = s .args in
+    ap blockReplyOf (as-block (a .rec) (a .log .now) (stateOf (a .self)) (a .limit) _ _ (c .before .before .before .before .read-active .ensures) (c .before .before .before .natural .ensures .0 ∙ ap natural (toZ-ofZ (s .fits .limit))) _ (sym (c .enum-told .given .1) ∙ c .before .before .readable .ensures))
+
+returns-3 : tie.Need-returns-3
+returns-3 c =
+    let s = c .before .before .before .before .before .before .before in
+    let a = s .args in
+    c .block-at .ensures
+    ∙ ap blockReplyOf (as-block (a .rec) (a .log .now) (stateOf (a .self)) (a .limit) _ _ (c .before .before .before .before .before .read-active .ensures) (c .before .before .before .before .natural .ensures .0 ∙ ap natural (toZ-ofZ (s .fits .limit))) _ (sym (c .before .enum-told2 .given .1) ∙ c .before .before .before .readable .ensures))
+
+pub block-poll-spec : {M : Type 1} → statement M
+block-poll-spec =
+    tie.close
+    (tie.spec
+    read-active-requires
+    natural-requires
+    readable-requires
+    enum-known-e
+    enum-told
+    enum-told-2
+    block-at-requires
+    returns
+    returns-2
+    returns-3)

@@ -1,0 +1,67 @@
+-- The ladder's answer decides.
+use mathlib.Core.Path.{_≡_, sym, ap, _∙_}
+use lib.IntN.{ℤ}
+use mir.Facts.{toZ-ofZ}
+use Rattle.model.specs.Image.{movedTo}
+use Rattle.model.specs.Bytes.{long}
+use Rattle.model.specs.declared.Outcome.the-variants.{Done}
+use Rattle.logbuffer.proofs.Signed.{long-by}
+use Rattle.image.specs.declared.Image.{Image}
+use Rattle.image.specs.declared.ImageReply.{ImageReply}
+use Rattle.image.specs.Images.{stateOf, imageOf, imageReplyOf}
+use Rattle.image.proofs.Settings.{as-set}
+use borrow.Author.Needs.{needs}
+use Rattle.image.proofs.Image.set_position.Statement.{statement}
+use Rattle.image.proofs.Image.set_position.Tie as tie
+
+p-is : (c : tie.After-long) → c .long .result ≡ long (c .before .before .before .args .new-position)
+p-is c = long-by (c .before .before .before .args .new-position) (c .long .ensures .0) (c .before .before .before .fits .new-position)
+
+read-active-requires : tie.Need-read-active-requires
+read-active-requires c κs = search needs
+
+long-requires : tie.Need-long-requires
+long-requires c κs = search needs
+
+reach-requires : tie.Need-reach-requires
+reach-requires c κs = search needs
+
+enum-known-e : tie.Need-enum-known-e
+enum-known-e c = search needs
+
+enum-told : tie.Need-enum-told
+enum-told c = search needs
+
+enum-told-2 : tie.Need-enum-told-2
+enum-told-2 c = search needs
+
+moved-to-requires : tie.Need-moved-to-requires
+moved-to-requires c κs = search needs
+
+returns : tie.Need-returns
+returns c = let a = c .before .before .before .before .before .before .before .args in ap imageReplyOf (as-set (a .rec) (a .log .now) (stateOf (a .self)) _ (c .before .before .before .before .before .read-active .ensures) (a .new-position) _ _ (p-is (c .before .before .before .before)) (sym (c .before .e .given .1) ∙ c .before .before .before .reach .ensures))
+
+returns-2 : tie.Need-returns-2
+returns-2 c = let a = c .before .before .before .before .before .before .args in ap imageReplyOf (as-set (a .rec) (a .log .now) (stateOf (a .self)) _ (c .before .before .before .before .read-active .ensures) (a .new-position) _ _ (p-is (c .before .before .before)) (sym (c .enum-told .given .1) ∙ c .before .before .reach .ensures))
+
+returns-3 : tie.Need-returns-3
+returns-3 c =
+    let a = c .before .before .before .before .before .before .before .args in
+    let made : Image → ImageReply = λ (z : Image). record { next = z; answer = Done } in
+    let next : c .moved-to .result ≡ imageOf (movedTo (stateOf (a .self)) (a .new-position)) = c .moved-to .ensures ∙ ap (λ (z : ℤ). imageOf (movedTo (stateOf (a .self)) z)) (toZ-ofZ (c .before .before .before .before .before .before .before .fits .new-position)) in
+    ap made next ∙ ap imageReplyOf (as-set (a .rec) (a .log .now) (stateOf (a .self)) _ (c .before .before .before .before .before .read-active .ensures) (a .new-position) _ _ (p-is (c .before .before .before .before)) (sym (c .before .enum-told2 .given .1) ∙ c .before .before .before .reach .ensures))
+
+pub set-position-spec : {M : Type 1} → statement M
+set-position-spec =
+    tie.close
+    (tie.spec
+    read-active-requires
+    long-requires
+    reach-requires
+    enum-known-e
+    enum-told
+    enum-told-2
+    moved-to-requires
+    returns
+    returns-2
+    returns-3)

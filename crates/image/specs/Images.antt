@@ -1,0 +1,36 @@
+-- An image of the code and the image of the definitions hold the same; and so do their replies.
+use Prim.Native.Nat.{ℕ}
+use mathlib.Core.List.{List}
+use Rattle.model.specs.declared.Reading.{Reading}
+use Rattle.model.specs.declared.ReadVerdict.{ReadVerdict}
+use Rattle.model.specs.declared.ReadVerdict.the-variants.{Read}
+use Rattle.model.specs.declared.Error.the-variants.{UnsoundFrame}
+use Rattle.model.specs.Bytes.{long}
+use Rattle.model.specs.Image.{Image as State, PollReply as PollSaid, BlockReply as BlockSaid, ImageReply as ImageSaid, refuseIf, unsoundAt, blockEnd, blockLength, blockBy, imageBy}
+use Rattle.image.specs.declared.Image.{Image}
+use Rattle.image.specs.declared.PollReply.{PollReply}
+use Rattle.image.specs.declared.BlockReply.{BlockReply}
+use Rattle.image.specs.declared.ImageReply.{ImageReply}
+
+abbrev pub stateOf : Image → State
+stateOf i = record { position = i .position; session = i .«session_id»; closed = i .«is_closed»; eos = i .«is_eos» }
+
+abbrev pub imageOf : State → Image
+imageOf s = record { position = s .position; «session_id» = s .session; «is_closed» = s .closed; «is_eos» = s .eos }
+
+abbrev pub pollReplyOf : PollSaid → PollReply
+pollReplyOf x = record { next = imageOf (x .next); answer = x .answer }
+
+abbrev pub imageReplyOf : ImageSaid → ImageReply
+imageReplyOf x = record { next = imageOf (x .next); answer = x .answer }
+
+abbrev pub blockReplyOf : BlockSaid → BlockReply
+blockReplyOf x = record { next = imageOf (x .next); answer = x .answer }
+
+-- a block poll by its verdict, and once only row 17 is left to judge
+abbrev pub blockSaid : Reading → List ℕ → State → ℕ → ReadVerdict → BlockSaid
+blockSaid v log i limit x =
+    record { answer = blockBy v log i (blockLength v log (long (i .position)) limit) x; next = imageBy i (blockLength v log (long (i .position)) limit) x }
+
+abbrev pub blockRead : Reading → List ℕ → State → ℕ → BlockSaid
+blockRead v log i limit = blockSaid v log i limit (refuseIf (unsoundAt v log (long (i .position)) (blockEnd v (long (i .position)) limit) 1) UnsoundFrame Read)

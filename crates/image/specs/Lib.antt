@@ -1,0 +1,2 @@
+-- What the contracts here say beyond the definitions of `model`.
+pub mod Images

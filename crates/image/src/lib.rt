@@ -1,0 +1,238 @@
+// An image: a reader's place in a log that is lent. A call takes the image by value, and hands the next one back beside its answer.
+ghost use mathlib.Core.Path.{_≡_};
+ghost use Rattle.model.specs.Image.{newImage, movedTo, pollOf, boundedPollOf, controlledPollOf, setPositionOf, endOfStreamOf, closeImageOf, peekOf, peekSlots, blockPollOf};
+ghost use Rattle.image.specs.Images.{stateOf, imageOf, pollReplyOf, blockReplyOf, imageReplyOf};
+use logbuffer::argument;
+use logbuffer::cast;
+use logbuffer::log_buffer_descriptor;
+use model::BlockPolled;
+use model::EndOfStream;
+use model::Error;
+use model::FramesRead;
+use model::LogRecord;
+use model::Outcome;
+use model::Peeked;
+use model::Polled;
+use model::ReadVerdict;
+
+mod block;
+mod frames;
+mod ladder;
+mod limits;
+
+// A position in the stream, the session, whether it is closed, and the end-of-stream flag kept at closing.
+#[repr(C)]
+pub struct Image {
+    pub position: i64,
+    pub session_id: i32,
+    pub is_closed: bool,
+    pub is_eos: bool,
+}
+
+pub struct PollReply {
+    pub next: Image,
+    pub answer: Polled,
+}
+
+pub struct BlockReply {
+    pub next: Image,
+    pub answer: BlockPolled,
+}
+
+pub struct ImageReply {
+    pub next: Image,
+    pub answer: Outcome,
+}
+
+impl Image {
+    pub fn new(position: i64, session_id: i32) -> Image
+        ensures { λ r. ⌜ r ≡ imageOf (newImage position «session_id») ⌝ }
+    {
+        Image {
+            position: position,
+            session_id: session_id,
+            is_closed: false,
+            is_eos: false,
+        }
+    }
+
+    // The same image at another position.
+    pub(crate) fn moved_to(mut self, position: i64) -> Image
+        ensures { λ r. ⌜ r ≡ imageOf (movedTo (stateOf self) position) ⌝ }
+    {
+        self.position = position;
+        self
+    }
+
+    // Reads frames to the end of the term, at most `fragment_limit` fragments, and moves past what it read.
+    pub fn poll(
+        self,
+        rec: LogRecord,
+        log: &[u8],
+        entries: &mut [i32],
+        fragment_limit: i32,
+    ) -> PollReply
+        ensures { λ r. ⌜ r ≡ pollReplyOf (pollOf rec (now (log .entry)) (stateOf self) (now (entries .entry)) «fragment_limit») ⌝ }
+        ensures { λ _. ⌜ now (entries .exit) ≡ pollOf rec (now (log .entry)) (stateOf self) (now (entries .entry)) «fragment_limit» .slots ⌝ }
+    {
+        let v = log_buffer_descriptor::read_active(rec);
+        let limit = argument::natural(fragment_limit);
+        let term = v.term;
+        let good = ladder::good_entries(entries.len(), limit);
+        frames::poll_frames(self, v, log, entries, good, term, limit, &log[0..0])
+    }
+    // The same, and nothing at or past a limit position.
+    pub fn bounded_poll(
+        self,
+        rec: LogRecord,
+        log: &[u8],
+        entries: &mut [i32],
+        limit_position: i64,
+        fragment_limit: i32,
+    ) -> PollReply
+        ensures { λ r. ⌜ r ≡ pollReplyOf (boundedPollOf rec (now (log .entry)) (stateOf self) (now (entries .entry)) «limit_position» «fragment_limit») ⌝ }
+        ensures { λ _. ⌜ now (entries .exit) ≡ boundedPollOf rec (now (log .entry)) (stateOf self) (now (entries .entry)) «limit_position» «fragment_limit» .slots ⌝ }
+    {
+        let v = log_buffer_descriptor::read_active(rec);
+        let limit = argument::natural(fragment_limit);
+        let bound = limits::natural_position(limit_position);
+        let end = limits::end_offset(v.term, cast::long(self.position), bound);
+        let good = ladder::good_entries(entries.len(), limit);
+        frames::poll_frames(self, v, log, entries, good, end, limit, &log[0..0])
+    }
+
+    // A poll whose handler's answers are given: 1 abort, 2 break, 3 commit, 4 continue.
+    pub fn controlled_poll(
+        self,
+        rec: LogRecord,
+        log: &[u8],
+        entries: &mut [i32],
+        actions: &[u8],
+        fragment_limit: i32,
+    ) -> PollReply
+        ensures { λ r. ⌜ r ≡ pollReplyOf (controlledPollOf rec (now (log .entry)) (stateOf self) (now (entries .entry)) (now (actions .entry)) «fragment_limit») ⌝ }
+        ensures { λ _. ⌜ now (entries .exit) ≡ controlledPollOf rec (now (log .entry)) (stateOf self) (now (entries .entry)) (now (actions .entry)) «fragment_limit» .slots ⌝ }
+    {
+        let v = log_buffer_descriptor::read_active(rec);
+        let limit = argument::natural(fragment_limit);
+        let term = v.term;
+        let good = ladder::good_control(entries.len(), limit, actions);
+        frames::poll_frames(self, v, log, entries, good, term, limit, actions)
+    }
+
+    // Reads from another position as a controlled poll does, one fragment for each action, and leaves the image where it is. It answers the
+    // position after the last whole message or padding.
+    pub fn controlled_peek(
+        self,
+        rec: LogRecord,
+        log: &[u8],
+        entries: &mut [i32],
+        actions: &[u8],
+        start: i64,
+        limit_position: i64,
+    ) -> Peeked
+        ensures { λ r. ⌜ r ≡ peekOf rec (now (log .entry)) (stateOf self) (now (entries .entry)) (now (actions .entry)) start «limit_position» ⌝ }
+        ensures { λ _. ⌜ now (entries .exit) ≡ peekSlots rec (now (log .entry)) (stateOf self) (now (entries .entry)) (now (actions .entry)) start «limit_position» ⌝ }
+    {
+        let v = log_buffer_descriptor::read_active(rec);
+        let p = cast::long(start);
+        let n = actions.len();
+        let good = ladder::good_control(entries.len(), n, actions);
+        match ladder::reach(good, v, log.len(), self, p) {
+            ReadVerdict::Refuse(e) => Peeked::Refused(e),
+            ReadVerdict::Closed => Peeked::Position(start, 0),
+            ReadVerdict::Read => {
+                let end = limits::end_offset(v.term, p, limits::natural_position(limit_position));
+                let FramesRead::Walked(walked) = frames::frames_at(
+                    v,
+                    log,
+                    entries,
+                    p,
+                    end,
+                    n,
+                    actions,
+                ) else {
+                    return Peeked::Refused(Error::UnsoundFrame);
+                };
+                Peeked::Position((p + walked.settled) as i64, walked.entries)
+            }
+        }
+    }
+
+    // Moves past whole frames of at most `limit` bytes, and answers where they lie; a padding frame only by itself.
+    pub fn block_poll(self, rec: LogRecord, log: &[u8], limit: i32) -> BlockReply
+        ensures { λ r. ⌜ r ≡ blockReplyOf (blockPollOf rec (now (log .entry)) (stateOf self) limit) ⌝ }
+    {
+        let v = log_buffer_descriptor::read_active(rec);
+        let most = argument::natural(limit);
+        match ladder::readable(true, v, log.len(), self) {
+            ReadVerdict::Refuse(e) => BlockReply {
+                next: self,
+                answer: BlockPolled::Refused(e),
+            },
+            ReadVerdict::Closed => BlockReply {
+                next: self,
+                answer: BlockPolled::Block(0, 0, 0, 0),
+            },
+            ReadVerdict::Read => block::block_at(self, rec, v, log, most),
+        }
+    }
+
+    // Moves to a frame's boundary between the position and the end of its term.
+    pub fn set_position(self, rec: LogRecord, log: &[u8], new_position: i64) -> ImageReply
+        ensures { λ r. ⌜ r ≡ imageReplyOf (setPositionOf rec (now (log .entry)) (stateOf self) «new_position») ⌝ }
+    {
+        let v = log_buffer_descriptor::read_active(rec);
+        match ladder::reach(true, v, log.len(), self, cast::long(new_position)) {
+            ReadVerdict::Refuse(e) => ImageReply {
+                next: self,
+                answer: Outcome::Refused(e),
+            },
+            ReadVerdict::Closed => ImageReply {
+                next: self,
+                answer: Outcome::Done,
+            },
+            ReadVerdict::Read => ImageReply {
+                next: self.moved_to(new_position),
+                answer: Outcome::Done,
+            },
+        }
+    }
+
+    // Whether the position is at or past the end of the stream; of a closed image, whether it was at closing.
+    pub fn is_end_of_stream(self, rec: LogRecord, log: &[u8]) -> EndOfStream
+        ensures { λ r. ⌜ r ≡ endOfStreamOf rec (now (log .entry)) (stateOf self) ⌝ }
+    {
+        let v = log_buffer_descriptor::read_active(rec);
+        match ladder::readable(true, v, log.len(), self) {
+            ReadVerdict::Refuse(e) => EndOfStream::Refused(e),
+            ReadVerdict::Closed => EndOfStream::Is(self.is_eos),
+            ReadVerdict::Read => EndOfStream::Is(rec.end_of_stream_position <= self.position),
+        }
+    }
+
+    // A closed image stays as it is.
+    pub fn close(mut self, rec: LogRecord, log: &[u8]) -> ImageReply
+        ensures { λ r. ⌜ r ≡ imageReplyOf (closeImageOf rec (now (log .entry)) (stateOf self)) ⌝ }
+    {
+        let v = log_buffer_descriptor::read_active(rec);
+        if !log_buffer_descriptor::is_sound(v, log.len()) {
+            return ImageReply {
+                next: self,
+                answer: Outcome::Refused(Error::IllegalRecord),
+            };
+        }
+        if self.is_closed {
+            return ImageReply {
+                next: self,
+                answer: Outcome::Done,
+            };
+        }
+        self.is_eos = rec.end_of_stream_position <= self.position;
+        self.is_closed = true;
+        ImageReply {
+            next: self,
+            answer: Outcome::Done,
+        }
+    }
+}
