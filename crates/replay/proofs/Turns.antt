@@ -1,0 +1,153 @@
+-- One turn of a replay: by the poll's answer, by the assembler's, and before what follows it.
+use mathlib.Core.Path.{_≡_, refl, sym, ap, ap₂, _∙_, subst}
+use mathlib.Core.Bool.{Bool, true, false, cond}
+use mathlib.Core.List.{List}
+use Prim.Native.Nat.{ℕ, suc, _+_, _-_, _*_, _/_, _%_, _≤_, _<_}
+use native.Mathlib.Omega.{arith}
+use lib.Dec.{eqb, leb}
+use lib.ListN.{length, drop, getD}
+use lib.IntN.{ℤ, pos}
+use Rattle.model.specs.declared.LogRecord.{LogRecord}
+use Rattle.model.specs.declared.Error.{Error}
+use Rattle.model.specs.declared.Polled.{Polled}
+use Rattle.model.specs.declared.Polled.the-variants.{Fragments, Refused}
+use Rattle.model.specs.declared.Joining.{Joining}
+use Rattle.model.specs.declared.Joining.the-variants.{Through, Ignore, Full, TooLong, Join, Complete}
+use Rattle.model.specs.declared.Verdict.{Verdict}
+use Rattle.model.specs.declared.Verdict.the-variants.{Pass, Refuse}
+use Rattle.model.specs.declared.Assembled.{Assembled}
+use Rattle.model.specs.declared.Assembled.the-variants.{Nothing, Fragment, Message, Refused as AssemblyRefused}
+use Rattle.model.specs.declared.Replayed.the-variants.{InLog, InBuffer, End, Refused as ReplayRefused}
+use Rattle.model.specs.Bytes.{word, long, u32, i32}
+use Rattle.model.specs.FrameDescriptor.{flagsAt}
+use Rattle.model.specs.LogBufferDescriptor.{readingOf, reading, partitionOf}
+use Rattle.model.specs.TermReader.{natural}
+use Rattle.model.specs.Image.{Image}
+use Rattle.model.specs.FragmentAssembler.{Sessions, Assembly, assembleVerdict, assembleBy, assembleOf, assembledBy, joining}
+use Rattle.model.specs.Replay.{ReplayState, NextReply, giving, givenBy, assembledTo, pollOne, assembleOne, turnBy, nextFrom, nextOf}
+use Rattle.model.proofs.Choice.{cond-true, cond-false, le-yes, le-no, eq-yes, eq-no}
+use Rattle.logbuffer.proofs.Assembly.{verdict-passed, assembly-at, place-near}
+use Rattle.replay.specs.Replays.{Turned, stops, goesOn, fragmentTurn, given, fragmentGiven, turnSaid, turnOf}
+
+-- ---- the assembler's answer
+
+pub fragment-is : (r : LogRecord) (log : List ℕ) (i : Image) (s : Sessions) (buffer : List ℕ) (k : ℕ) (entry p o : ℤ) (base : ℕ) (t : Sessions) (b : List ℕ) (a : Assembled)
+    → p ≡ pos k → o ≡ pos (natural entry - 32) → base ≡ k * reading r .term
+    → a ≡ assembleOf r log s buffer p o .answer → t ≡ assembleOf r log s buffer p o .next → b ≡ assembleOf r log s buffer p o .buffer
+    → fragmentTurn base (record { image = i; sessions = t; buffer = b }) a ≡ fragmentGiven r log i s buffer k entry
+fragment-is r log i s buffer k entry p o base t b a ep eo eb ea et ew =
+    ap₂ (λ (y : Sessions) (z : List ℕ). fragmentTurn base (record { image = i; sessions = y; buffer = z }) a) et ew
+    ∙ ap₂ (λ (x : ℕ) (y : Assembled). fragmentTurn x (assembledTo i (assembleOf r log s buffer p o)) y) eb ea
+    ∙ ap₂ (λ (x y : ℤ). fragmentTurn (k * reading r .term) (assembledTo i (assembleOf r log s buffer x y)) (assembleOf r log s buffer x y .answer)) ep eo
+
+-- ---- the poll's answer
+
+module _ (r : LogRecord) (log : List ℕ) (s : ReplayState) (n m : ℕ) where
+  abbrev P : ℕ
+  P = long (s .image .position)
+
+  abbrev Term : ℕ
+  Term = reading r .term
+
+  pub turn-end : Term ≤ P / 3 → stops s End ≡ turnSaid r log s (Fragments n m)
+  turn-end h = sym (le-yes (3 * Term) P (stops s End) _ (omega arith))
+
+  pub turn-fragment : P / 3 < Term → ¬ (m ≡ 0)
+      → fragmentTurn (partitionOf P Term * Term) (assembledTo (pollOne r log (s .image) .next) (assembleOne r log s)) (assembleOne r log s .answer) ≡ turnSaid r log s (Fragments n m)
+  turn-fragment h e = sym (le-no (3 * Term) P (stops s End) _ (omega arith) ∙ eq-no m 0 _ _ e)
+
+  pub turn-quiet : P / 3 < Term → m ≡ 0 → long (pollOne r log (s .image) .next .position) ≡ P → stops s End ≡ turnSaid r log s (Fragments n m)
+  turn-quiet h e q = sym (le-no (3 * Term) P (stops s End) _ (omega arith) ∙ eq-yes m 0 _ _ e ∙ eq-yes (long (pollOne r log (s .image) .next .position)) P _ _ q)
+
+  pub turn-padding : P / 3 < Term → m ≡ 0 → ¬ (long (pollOne r log (s .image) .next .position) ≡ P)
+      → goesOn (record { image = pollOne r log (s .image) .next; sessions = s .sessions; buffer = s .buffer }) ≡ turnSaid r log s (Fragments n m)
+  turn-padding h e q = sym (le-no (3 * Term) P (stops s End) _ (omega arith) ∙ eq-yes m 0 _ _ e ∙ eq-no (long (pollOne r log (s .image) .next .position)) P _ _ q)
+
+  -- the fragment that came, by the code's own numbers
+  pub fragment-one : (i : Image) (k : ℕ) (entry : ℤ) → i ≡ pollOne r log (s .image) .next → k ≡ partitionOf P Term → entry ≡ getD (pollOne r log (s .image) .slots) 0 (pos 0)
+      → fragmentGiven r log i (s .sessions) (s .buffer) k entry
+      ≡ fragmentTurn (partitionOf P Term * Term) (assembledTo (pollOne r log (s .image) .next) (assembleOne r log s)) (assembleOne r log s .answer)
+  fragment-one i k entry ei ek ee =
+      ap (λ (x : Image). fragmentGiven r log x (s .sessions) (s .buffer) k entry) ei
+      ∙ ap₂ (λ (x : ℕ) (y : ℤ). fragmentGiven r log (pollOne r log (s .image) .next) (s .sessions) (s .buffer) x y) ek ee
+
+-- ---- a body that passes through lies in the log
+
+pass-through : (a n part at m : ℕ) (x : Joining) → assembledBy a n part x ≡ Fragment at m → a ≡ at
+pass-through a n part at m Through h = ap offset h
+  where
+    offset : Assembled → ℕ
+    offset (Fragment i j) = i
+    offset Nothing = 0
+    offset (Message i j) = 0
+    offset (AssemblyRefused e) = 0
+pass-through a n part at m Ignore h = absurd (let x : _≡_ {A = ℕ} 0 1 = cc in omega arith)
+pass-through a n part at m Full h = absurd (let x : _≡_ {A = ℕ} 0 1 = cc in omega arith)
+pass-through a n part at m (TooLong k) h = absurd (let x : _≡_ {A = ℕ} 0 1 = cc in omega arith)
+pass-through a n part at m (Join k from) h = absurd (let x : _≡_ {A = ℕ} 0 1 = cc in omega arith)
+pass-through a n part at m (Complete k from) h = absurd (let x : _≡_ {A = ℕ} 0 1 = cc in omega arith)
+
+passes : (s : Sessions) (buffer frame : List ℕ) (o at n : ℕ) → assembleBy s buffer frame o Pass .answer ≡ Fragment at n → o + 32 ≡ at
+passes s buffer frame o at n h =
+    pass-through (o + 32) (u32 frame - 32) (length buffer / 16) at n (joining s (i32 (drop 12 frame)) (flagsAt frame) (u32 frame - 32) (length buffer / 16)) h
+
+pub fragment-in : (r : LogRecord) (log : List ℕ) (s : Sessions) (buffer : List ℕ) (k o at n : ℕ) → assembleOf r log s buffer (pos k) (pos o) .answer ≡ Fragment at n
+    → k * reading r .term + at ≤ length log
+unfolding assembleOf
+fragment-in r log s buffer k o at n h = go (assembleVerdict (reading r) log (length buffer) k o) refl h
+  where
+    go : (x : Verdict) → x ≡ assembleVerdict (reading r) log (length buffer) k o → assembleBy s buffer (drop (k * reading r .term + o) log) o x .answer ≡ Fragment at n
+        → k * reading r .term + at ≤ length log
+    go (Refuse e) q h = absurd (let x : _≡_ {A = ℕ} 0 1 = cc in omega arith)
+    go Pass q h =
+        let f = verdict-passed (reading r) log (length buffer) k o q in
+        omega (arith, passes s buffer (drop (k * reading r .term + o) log) o at n h, f .header, f .whole)
+
+-- ---- a turn, and what follows it
+
+abbrev follow : Turned → (ReplayState → NextReply) → NextReply
+follow t go = cond (t .on) (go (t .next)) (giving (t .next) (t .answer))
+
+-- a choice between turns is followed as the turn chosen is
+follow-cond : (b : Bool) (x y : Turned) (p q : NextReply) (go : ReplayState → NextReply) → p ≡ follow x go → q ≡ follow y go → cond b p q ≡ follow (cond b x y) go
+follow-cond true x y p q go e f = e
+follow-cond false x y p q go e f = f
+
+follow-fragment : (base : ℕ) (s : ReplayState) (a : Assembled) (go : ReplayState → NextReply) → givenBy base s a go ≡ follow (fragmentTurn base s a) go
+follow-fragment base s Nothing go = refl
+follow-fragment base s (Fragment at n) go = refl
+follow-fragment base s (Message at n) go = refl
+follow-fragment base s (AssemblyRefused e) go = refl
+
+turn-follow : (r : LogRecord) (log : List ℕ) (s : ReplayState) (x : Polled) (go : ReplayState → NextReply) → turnBy r log s x go ≡ follow (turnSaid r log s x) go
+turn-follow r log s (Refused e) go = refl
+turn-follow r log s (Fragments n m) go =
+    follow-cond (leb (3 * reading r .term) (long (s .image .position))) (stops s End) _ (giving s End) _ go refl
+    (follow-cond (eqb m 0) _ _ _ _ go
+    (follow-cond (eqb (long (pollOne r log (s .image) .next .position)) (long (s .image .position))) (stops s End) (goesOn (record { image = pollOne r log (s .image) .next; sessions = s .sessions; buffer = s .buffer })) (giving s End) _ go refl refl)
+    (follow-fragment (partitionOf (long (s .image .position)) (reading r .term) * reading r .term) (assembledTo (pollOne r log (s .image) .next) (assembleOne r log s)) (assembleOne r log s .answer) go))
+
+module _ (r : LogRecord) (log : List ℕ) (s : ReplayState) where
+  pub next-none : (left : ℕ) → left ≡ 0 → giving s End ≡ nextFrom left r log s
+  unfolding nextFrom
+  next-none left e = sym (ap (λ (n : ℕ). nextFrom n r log s) e)
+
+  next-turn : (n : ℕ) → nextFrom (suc n) r log s ≡ follow (turnOf r log s) (λ (t : ReplayState). nextFrom n r log t)
+  unfolding nextFrom
+  next-turn n = turn-follow r log s (pollOne r log (s .image) .answer) (λ (t : ReplayState). nextFrom n r log t)
+
+  module _ (t : Turned) (e : t ≡ turnOf r log s) (left : ℕ) (h : 0 < left) where
+    turns : follow t (λ (u : ReplayState). nextFrom (left - 1) r log u) ≡ nextFrom left r log s
+    turns =
+        let l : suc (left - 1) ≡ left = omega arith in
+        ap (λ (x : Turned). follow x (λ (u : ReplayState). nextFrom (left - 1) r log u)) e ∙ sym (next-turn (left - 1)) ∙ ap (λ (n : ℕ). nextFrom n r log s) l
+
+    pub next-stops : t .on ≡ false → giving (t .next) (t .answer) ≡ nextFrom left r log s
+    next-stops f = sym (cond-false (t .on) (nextFrom (left - 1) r log (t .next)) (giving (t .next) (t .answer)) f) ∙ turns
+
+    pub next-goes : t .on ≡ true → nextFrom (left - 1) r log (t .next) ≡ nextFrom left r log s
+    next-goes f = sym (cond-true (t .on) (nextFrom (left - 1) r log (t .next)) (giving (t .next) (t .answer)) f) ∙ turns
+
+  pub next-starts : (w : ℕ) → w ≡ word (r .«term_length») → nextFrom (3 * w + 1) r log s ≡ nextOf r log s
+  unfolding nextOf readingOf
+  next-starts w e = ap (λ (n : ℕ). nextFrom n r log s) (let x : 3 * w + 1 ≡ suc (3 * word (r .«term_length»)) = omega (arith, e) in x)

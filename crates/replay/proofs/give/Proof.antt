@@ -1,0 +1,162 @@
+-- The assembler's answer says what the turn gives.
+use mathlib.Core.Path.{_≡_, sym, ap, ap₂, _∙_}
+use Prim.Native.Nat.{ℕ, _+_, _-_, _*_, _≤_}
+use native.Mathlib.Omega.{arith}
+use lib.ListN.{length}
+use lib.IntN.{ℤ, pos}
+use mir.Syntax.{w32}
+use mir.Val.{toZ}
+use mir.Facts.{toZ-ofZ, toZ-pos}
+use Rattle.model.specs.declared.Reading.{Reading}
+use Rattle.model.specs.declared.Assembled.{Assembled}
+use Rattle.model.specs.declared.Assembled.the-variants.{Nothing, Fragment, Message, Refused}
+use Rattle.model.specs.TermReader.{natural}
+use Rattle.model.specs.FragmentAssembler.{assembleOf}
+use Rattle.image.specs.Images.{stateOf as imageState}
+use Rattle.logbuffer.specs.Assembler.{sessionsOf}
+use Rattle.replay.specs.Replays.{fragmentTurn, fragmentGiven}
+use Rattle.replay.proofs.Turns.{fragment-is, fragment-in}
+use borrow.Author.Needs.{needs}
+use Rattle.replay.proofs.give.Statement.{statement}
+use Rattle.replay.proofs.give.Tie as tie
+use Rattle.replay.proofs.give.Reads as reads
+use Rattle.replay.proofs.give.Lts as lts
+use Rattle.logbuffer.proofs.fragment_assembler.FragmentAssembler.on_fragment.Reads as on-fragment-reads
+use Rattle.logbuffer.proofs.log_buffer_descriptor.read_active.Reads as read-active-reads
+use Rattle.replay.proofs.frame_offset.Reads as frame-offset-reads
+
+abbrev st : tie.After-on-fragment → tie.Start
+st c = c .before .before .before .before .before .before
+
+abbrev base : tie.After-on-fragment → ℕ
+base c = st c .args .k * c .before .before .before .read-active .result .term
+
+part : (c : tie.After-on-fragment) → toZ w32 (st c .args .k) ≡ pos (st c .args .k)
+part c = toZ-pos w32 (omega (arith, st c .pre))
+
+offset : (c : tie.After-on-fragment) → toZ w32 (c .before .frame-offset .result) ≡ pos (natural (st c .args .entry) - 32)
+offset c =
+    toZ-pos w32 (omega (arith, c .before .frame-offset .ensures .1))
+    ∙ ap pos (c .before .frame-offset .ensures .0 ∙ ap (λ (z : ℤ). natural z - 32) (toZ-ofZ (st c .fits .entry)))
+
+-- what is made of the assembler's answer
+is : (c : tie.After-on-fragment) (a : Assembled) → c .on-fragment .result .answer ≡ a
+    → fragmentTurn (base c) (record { image = imageState (st c .args .next); sessions = sessionsOf (c .on-fragment .result .next); buffer = c .on-fragment .last .1 .1 .1 .0 }) a
+    ≡ fragmentGiven (st c .args .rec) (st c .args .log .now) (imageState (st c .args .next)) (sessionsOf (st c .args .assembler)) (st c .args .buffer .now) (st c .args .k) (st c .args .entry)
+is c a e =
+    fragment-is (st c .args .rec) (st c .args .log .now) (imageState (st c .args .next)) (sessionsOf (st c .args .assembler)) (st c .args .buffer .now) (st c .args .k) (st c .args .entry)
+    _ _ (base c) _ _ a (part c) (offset c) (ap (λ (v : Reading). st c .args .k * v .term) (c .before .before .before .read-active .ensures))
+    (sym e ∙ c .on-fragment .ensures .0 .0) (c .on-fragment .ensures .0 .1) (c .on-fragment .ensures .1)
+
+inside : (c : tie.After-on-fragment) (at n : ℕ) → c .on-fragment .result .answer ≡ Fragment at n → base c + at ≤ length (st c .args .log .now)
+inside c at n e =
+    let t = ap (λ (v : Reading). st c .args .k * v .term) (c .before .before .before .read-active .ensures) in
+    let s = fragment-in (st c .args .rec) (st c .args .log .now) (sessionsOf (st c .args .assembler)) (st c .args .buffer .now) (st c .args .k) (natural (st c .args .entry) - 32) at n in
+    let f = s (ap₂ (λ (p o : ℤ). assembleOf (st c .args .rec) (st c .args .log .now) (sessionsOf (st c .args .assembler)) (st c .args .buffer .now) p o .answer) (sym (part c)) (sym (offset c)) ∙ sym (c .on-fragment .ensures .0 .0) ∙ e) in
+    omega (arith, t, f)
+
+-- src/lib.rt:104:9
+read-active-requires : tie.Need-read-active-requires
+read-active-requires c κs = search needs
+
+-- src/lib.rt:105:57
+cast-on-fragment : tie.Need-cast-on-fragment
+cast-on-fragment c = search needs
+
+-- src/lib.rt:105:67
+frame-offset-requires : tie.Need-frame-offset-requires
+frame-offset-requires c κs = search needs
+
+-- src/lib.rt:105:67
+cast-on-fragment-2 : tie.Need-cast-on-fragment-2
+cast-on-fragment-2 c = search needs
+
+-- src/lib.rt:105:9
+on-fragment-requires : tie.Need-on-fragment-requires
+on-fragment-requires c κs = search needs
+
+-- src/lib.rt:115:21
+enum-told : tie.Need-enum-told
+enum-told c = search needs
+
+-- src/lib.rt:118:29
+enum-known-answer : tie.Need-enum-known-answer
+enum-known-answer c = search needs
+
+-- src/lib.rt:120:37
+mul-t25 : tie.Need-mul-t25
+mul-t25 c =
+    record { fits = omega (arith, inside (c .before .before .before .before .before .before .before) (c .before .before .answer .given .0 .0) (c .before .before .answer .given .0 .1 .0) (c .before .before .answer .given .1), st (c .before .before .before .before .before .before .before) .good) }
+
+-- src/lib.rt:120:37
+add-t26 : tie.Need-add-t26
+add-t26 c =
+    record { fits = omega (arith, inside (c .before .before .before .before .before .before .before) (c .before .before .answer .given .0 .0) (c .before .before .answer .given .0 .1 .0) (c .before .before .answer .given .1), st (c .before .before .before .before .before .before .before) .good) }
+
+-- src/lib.rt:123:28
+enum-known-answer-2 : tie.Need-enum-known-answer-2
+enum-known-answer-2 c = search needs
+
+-- src/lib.rt:128:28
+enum-known-answer-3 : tie.Need-enum-known-answer-3
+enum-known-answer-3 c = search needs
+
+-- src/lib.rt:92:1
+same-length : tie.Need-same-length
+same-length c = search needs
+
+-- src/lib.rt:92:1
+returns : tie.Need-returns
+returns c =
+    is (c .before .before .before .before .before) Nothing (c .enum-told .given .1)
+
+-- src/lib.rt:92:1
+same-length-2 : tie.Need-same-length-2
+same-length-2 c = search needs
+
+-- src/lib.rt:92:1
+returns-2 : tie.Need-returns-2
+returns-2 c =
+    is (c .before .before .before .before .before .before .before) (Fragment (c .before .before .answer .given .0 .0) (c .before .before .answer .given .0 .1 .0)) (c .before .before .answer .given .1)
+
+-- src/lib.rt:92:1
+same-length-3 : tie.Need-same-length-3
+same-length-3 c = search needs
+
+-- src/lib.rt:92:1
+returns-3 : tie.Need-returns-3
+returns-3 c =
+    is (c .before .before .before .before .before .before) (Message (c .before .answer2 .given .0 .0) (c .before .answer2 .given .0 .1 .0)) (c .before .answer2 .given .1)
+
+-- src/lib.rt:92:1
+same-length-4 : tie.Need-same-length-4
+same-length-4 c = search needs
+
+-- src/lib.rt:92:1
+returns-4 : tie.Need-returns-4
+returns-4 c =
+    is (c .before .before .before .before .before .before) (Refused (c .before .answer3 .given .0 .0)) (c .before .answer3 .given .1)
+
+pub give-spec : {M : Type 1} → statement M
+give-spec =
+    tie.close
+    (tie.spec
+    read-active-requires
+    cast-on-fragment
+    frame-offset-requires
+    cast-on-fragment-2
+    on-fragment-requires
+    enum-told
+    enum-known-answer
+    mul-t25
+    add-t26
+    enum-known-answer-2
+    enum-known-answer-3
+    same-length
+    returns
+    same-length-2
+    returns-2
+    same-length-3
+    returns-3
+    same-length-4
+    returns-4)

@@ -1,0 +1,33 @@
+use mathlib.Core.Path.{ap, _∙_}
+use mathlib.Core.List.{List}
+use lib.ListN.{getD}
+use lib.IntN.{ℤ, pos}
+use mir.Syntax.{w32}
+use mir.Facts.{toZ-ofZ}
+use borrow.Author.Needs.{needs}
+use Rattle.replay.proofs.poll_one.Statement.{statement}
+use Rattle.replay.proofs.poll_one.Tie as tie
+use Rattle.replay.proofs.poll_one.Reads as reads
+use Rattle.replay.proofs.poll_one.Lts as lts
+use Rattle.image.proofs.Image.poll.Reads as poll-reads
+
+-- src/lib.rt:54:39
+slice-aggregate-poll : tie.Need-slice-aggregate-poll
+slice-aggregate-poll c = search needs
+
+-- src/lib.rt:54:9
+poll-requires : tie.Need-poll-requires
+poll-requires c κs = search needs
+
+-- src/lib.rt:57:16
+array-copy-out-t10 : tie.Need-array-copy-out-t10
+array-copy-out-t10 c = search needs
+
+-- src/lib.rt:50:1
+returns : tie.Need-returns
+returns c =
+    let q = c .before .before .poll in
+    (q .ensures .0, toZ-ofZ {w = w32} {z = getD (q .last .1 .1 .1 .0) 0 (pos 0)} (search needs) ∙ ap (λ (s : List ℤ). getD s 0 (pos 0)) (q .ensures .1))
+
+pub poll-one-spec : {M : Type 1} → statement M
+poll-one-spec = tie.close (tie.spec slice-aggregate-poll poll-requires array-copy-out-t10 returns)

@@ -1,0 +1,170 @@
+-- The poll's answer says what kind of turn it is.
+use mathlib.Core.Path.{_≡_, sym, ap, ap₂, _∙_}
+use mathlib.Core.Bool.{Bool, true, false}
+use mathlib.Core.List.{List}
+use Prim.Native.Nat.{ℕ, _/_, _%_}
+use mir.Syntax.{w32}
+use mir.Facts.{toZ-ofZ}
+use native.Mathlib.Omega.{arith}
+use Rattle.model.specs.declared.Reading.{Reading}
+use Rattle.model.specs.declared.Polled.{Polled}
+use Rattle.model.specs.declared.Polled.the-variants.{Fragments, Refused}
+use Rattle.model.specs.declared.Replayed.{Replayed}
+use Rattle.model.specs.Bytes.{long}
+use Rattle.model.specs.LogBufferDescriptor.{reading}
+use Rattle.model.specs.Image.{Image}
+use Rattle.model.specs.Replay.{ReplayState, pollOne}
+use Rattle.image.specs.Images.{stateOf as imageState, pollReplyOf}
+use Rattle.image.specs.declared.PollReply.{PollReply}
+use Rattle.logbuffer.proofs.Signed.{long-by}
+use Rattle.replay.specs.declared.Replay.{Replay}
+use Rattle.replay.specs.declared.TurnReply.{TurnReply}
+use Rattle.replay.specs.Replays.{Turned, stateOf, turned, stops, goesOn, turnSaid, turnOf}
+use Rattle.replay.proofs.Turns.{fragment-one, turn-end, turn-fragment, turn-quiet, turn-padding}
+use borrow.Author.Needs.{needs}
+use Rattle.replay.proofs.turn.Statement.{statement}
+use Rattle.replay.proofs.turn.Tie as tie
+use Rattle.replay.proofs.turn.Reads as reads
+use Rattle.replay.proofs.turn.Lts as lts
+use Rattle.logbuffer.proofs.cast.long.Reads as long-reads
+use Rattle.logbuffer.proofs.log_buffer_descriptor.read_active.Reads as read-active-reads
+use Rattle.replay.proofs.give.Reads as give-reads
+use Rattle.replay.proofs.poll_one.Reads as poll-one-reads
+use Rattle.replay.proofs.stopped.Reads as stopped-reads
+
+abbrev st : tie.After-poll-one → tie.Start
+st c = c .before .before .before .before .before .before .before .before
+
+-- the numbers that the turn goes by
+abbrev S : tie.After-poll-one → ReplayState
+S c = stateOf (st c .args .replay) (st c .args .buffer .now)
+
+abbrev log : tie.After-poll-one → List ℕ
+log c = st c .args .log .now
+
+term-is : (c : tie.After-poll-one) → c .before .before .before .before .before .read-active .result .term ≡ reading (st c .args .rec) .term
+term-is c = ap (λ (v : Reading). v .term) (c .before .before .before .before .before .read-active .ensures)
+
+p-is : (c : tie.After-poll-one) → c .before .long .result ≡ long (S c .image .position)
+p-is c = long-by (st c .args .replay .image .position) (c .before .long .ensures .0) (search needs)
+
+polled : (c : tie.After-poll-one) → c .poll-one .result .polled ≡ pollReplyOf (pollOne (st c .args .rec) (log c) (S c .image))
+polled c = c .poll-one .ensures .0
+
+answered : (c : tie.After-poll-one) (x : Polled) → c .poll-one .result .polled .answer ≡ x → turnSaid (st c .args .rec) (log c) (S c) x ≡ turnOf (st c .args .rec) (log c) (S c)
+answered c x e = ap (turnSaid (st c .args .rec) (log c) (S c)) (sym e ∙ ap (λ (y : PollReply). y .answer) (polled c))
+
+next-is : (c : tie.After-poll-one) → imageState (c .poll-one .result .polled .next) ≡ pollOne (st c .args .rec) (log c) (S c .image) .next
+next-is c = ap (λ (y : PollReply). imageState (y .next)) (polled c)
+
+-- a turn that stops where it is
+halts : (t : TurnReply) (p : Replay) (a : Replayed) (buffer : List ℕ) → (t .on ≡ false) × ((t .answer ≡ a) × (t .next ≡ p)) → turned t buffer ≡ stops (stateOf p buffer) a
+halts t p a buffer e =
+    ap (λ (x : Bool). like x (t .answer) (t .next)) (e .0) ∙ ap₂ (like false) (e .1 .0) (e .1 .1)
+  where
+    like : Bool → Replayed → Replay → Turned
+    like x y z = record { on = x; answer = y; next = stateOf z buffer }
+
+-- src/lib.rt:130:9
+read-active-requires : tie.Need-read-active-requires
+read-active-requires c κs = search needs
+
+-- src/lib.rt:134:9
+long-requires : tie.Need-long-requires
+long-requires c κs = search needs
+
+-- src/lib.rt:135:9
+poll-one-requires : tie.Need-poll-one-requires
+poll-one-requires c κs = search needs
+
+-- src/lib.rt:140:25
+enum-known-answer : tie.Need-enum-known-answer
+enum-known-answer c = search needs
+
+-- src/lib.rt:140:31
+stopped-requires : tie.Need-stopped-requires
+stopped-requires c κs = search needs
+
+-- src/lib.rt:141:30
+enum-known-answer-2 : tie.Need-enum-known-answer-2
+enum-known-answer-2 c = search needs
+
+-- src/lib.rt:143:17
+stopped-requires-2 : tie.Need-stopped-requires-2
+stopped-requires-2 c κs = search needs
+
+-- src/lib.rt:143:17
+returns : tie.Need-returns
+returns c =
+    halts (c .stopped2 .result) _ _ (st (c .before .before .before .before .before .before .before) .args .buffer .now) (c .stopped2 .ensures)
+    ∙ turn-end (st (c .before .before .before .before .before .before .before) .args .rec) (log (c .before .before .before .before .before .before .before)) (S (c .before .before .before .before .before .before .before)) (c .before .before .before .answer2 .given .0 .0) (c .before .before .before .answer2 .given .0 .1 .0) (omega (arith, term-is (c .before .before .before .before .before .before .before), p-is (c .before .before .before .before .before .before .before), c .before .if1)) ∙ answered (c .before .before .before .before .before .before .before) (Fragments (c .before .before .before .answer2 .given .0 .0) (c .before .before .before .answer2 .given .0 .1 .0)) (c .before .before .before .answer2 .given .1)
+
+-- src/lib.rt:146:64
+div-give : tie.Need-div-give
+div-give c = search needs
+
+-- src/lib.rt:146:17
+give-requires : tie.Need-give-requires
+give-requires c κs = search needs
+
+-- src/lib.rt:146:17
+same-length : tie.Need-same-length
+same-length c = search needs
+
+-- src/lib.rt:146:17
+returns-2 : tie.Need-returns-2
+returns-2 c =
+    c .before .before .give .ensures
+    ∙ fragment-one (st (c .before .before .before .before .before .before .before .before .before .before .before .before) .args .rec) (log (c .before .before .before .before .before .before .before .before .before .before .before .before)) (S (c .before .before .before .before .before .before .before .before .before .before .before .before)) (c .before .before .before .before .before .before .before .before .answer2 .given .0 .0) (c .before .before .before .before .before .before .before .before .answer2 .given .0 .1 .0) _ _ _ (next-is (c .before .before .before .before .before .before .before .before .before .before .before .before))
+    (ap₂ (λ (x y : ℕ). x / y % 3) (p-is (c .before .before .before .before .before .before .before .before .before .before .before .before)) (term-is (c .before .before .before .before .before .before .before .before .before .before .before .before))) (toZ-ofZ {w = w32} {z = c .before .before .before .before .before .before .before .before .before .before .before .before .poll-one .result .entry} (search needs) ∙ c .before .before .before .before .before .before .before .before .before .before .before .before .poll-one .ensures .1)
+    ∙ turn-fragment (st (c .before .before .before .before .before .before .before .before .before .before .before .before) .args .rec) (log (c .before .before .before .before .before .before .before .before .before .before .before .before)) (S (c .before .before .before .before .before .before .before .before .before .before .before .before)) (c .before .before .before .before .before .before .before .before .answer2 .given .0 .0) (c .before .before .before .before .before .before .before .before .answer2 .given .0 .1 .0) (omega (arith, term-is (c .before .before .before .before .before .before .before .before .before .before .before .before), p-is (c .before .before .before .before .before .before .before .before .before .before .before .before), c .before .before .before .before .before .before .if1 .left)) (c .before .before .before .before .before .if2 .taken)
+    ∙ answered (c .before .before .before .before .before .before .before .before .before .before .before .before) (Fragments (c .before .before .before .before .before .before .before .before .answer2 .given .0 .0) (c .before .before .before .before .before .before .before .before .answer2 .given .0 .1 .0)) (c .before .before .before .before .before .before .before .before .answer2 .given .1)
+
+-- src/lib.rt:148:16
+long-requires-2 : tie.Need-long-requires-2
+long-requires-2 c κs = search needs
+
+-- src/lib.rt:149:17
+stopped-requires-3 : tie.Need-stopped-requires-3
+stopped-requires-3 c κs = search needs
+
+-- src/lib.rt:149:17
+returns-3 : tie.Need-returns-3
+returns-3 c =
+    halts (c .stopped3 .result) _ _ (st (c .before .before .before .before .before .before .before .before .before .before .before) .args .buffer .now) (c .stopped3 .ensures)
+    ∙ turn-quiet (st (c .before .before .before .before .before .before .before .before .before .before .before) .args .rec) (log (c .before .before .before .before .before .before .before .before .before .before .before)) (S (c .before .before .before .before .before .before .before .before .before .before .before)) (c .before .before .before .before .before .before .before .answer2 .given .0 .0) (c .before .before .before .before .before .before .before .answer2 .given .0 .1 .0) (omega (arith, term-is (c .before .before .before .before .before .before .before .before .before .before .before), p-is (c .before .before .before .before .before .before .before .before .before .before .before), c .before .before .before .before .before .if1 .left)) (c .before .before .before .before .if2 .left) (ap (λ (i : Image). long (i .position)) (sym (next-is (c .before .before .before .before .before .before .before .before .before .before .before))) ∙ sym (long-by (c .before .before .before .before .before .before .before .before .before .before .before .poll-one .result .polled .next .position) (c .before .before .long2 .ensures .0) (search needs)) ∙ c .before .if3 .taken ∙ p-is (c .before .before .before .before .before .before .before .before .before .before .before)) ∙ answered (c .before .before .before .before .before .before .before .before .before .before .before) (Fragments (c .before .before .before .before .before .before .before .answer2 .given .0 .0) (c .before .before .before .before .before .before .before .answer2 .given .0 .1 .0)) (c .before .before .before .before .before .before .before .answer2 .given .1)
+
+-- src/lib.rt:127:1
+returns-4 : tie.Need-returns-4
+returns-4 c =
+    halts (c .stopped .result) _ _ (st (c .before .before .before .before .before .before) .args .buffer .now) (c .stopped .ensures)
+    ∙ answered (c .before .before .before .before .before .before) (Refused (c .before .before .answer .given .0 .0)) (c .before .before .answer .given .1)
+
+-- src/lib.rt:127:1
+returns-5 : tie.Need-returns-5
+returns-5 c =
+    ap (λ (i : Image). goesOn (record { image = i; sessions = S (c .before .before .before .before .before .before .before .before .before .before) .sessions; buffer = S (c .before .before .before .before .before .before .before .before .before .before) .buffer })) (next-is (c .before .before .before .before .before .before .before .before .before .before))
+    ∙ turn-padding (st (c .before .before .before .before .before .before .before .before .before .before) .args .rec) (log (c .before .before .before .before .before .before .before .before .before .before)) (S (c .before .before .before .before .before .before .before .before .before .before)) (c .before .before .before .before .before .before .answer2 .given .0 .0) (c .before .before .before .before .before .before .answer2 .given .0 .1 .0) (omega (arith, term-is (c .before .before .before .before .before .before .before .before .before .before), p-is (c .before .before .before .before .before .before .before .before .before .before), c .before .before .before .before .if1 .left)) (c .before .before .before .if2 .left)
+    (λ e. c .if3 .left (long-by (c .before .before .before .before .before .before .before .before .before .before .poll-one .result .polled .next .position) (c .before .long2 .ensures .0) (search needs) ∙ ap (λ (i : Image). long (i .position)) (next-is (c .before .before .before .before .before .before .before .before .before .before)) ∙ e ∙ sym (p-is (c .before .before .before .before .before .before .before .before .before .before)))) ∙ answered (c .before .before .before .before .before .before .before .before .before .before) (Fragments (c .before .before .before .before .before .before .answer2 .given .0 .0) (c .before .before .before .before .before .before .answer2 .given .0 .1 .0)) (c .before .before .before .before .before .before .answer2 .given .1)
+
+pub turn-spec : {M : Type 1} → statement M
+turn-spec =
+    tie.close
+    (tie.spec
+    read-active-requires
+    long-requires
+    poll-one-requires
+    enum-known-answer
+    stopped-requires
+    enum-known-answer-2
+    stopped-requires-2
+    returns
+    div-give
+    give-requires
+    same-length
+    returns-2
+    long-requires-2
+    stopped-requires-3
+    returns-3
+    returns-4
+    returns-5)

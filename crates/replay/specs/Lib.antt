@@ -1,0 +1,2 @@
+-- What the code's values mean in the definitions.
+pub mod Replays

@@ -1,0 +1,197 @@
+// A replay: polls of one fragment each into an assembler, from wherever its image stands, until one gives a message. Demand 3 says what it
+// gives of a log that was made by any list of calls; read `nextOf` in the definitions.
+ghost use mathlib.Core.Path.{_≡_};
+ghost use mathlib.Core.Bool.{false};
+ghost use Prim.Native.Nat.{_-_, _<_};
+ghost use lib.ListN.{getD};
+ghost use lib.IntN.{pos};
+ghost use Rattle.model.specs.TermReader.{natural};
+ghost use Rattle.model.specs.Image.{newImage};
+ghost use Rattle.model.specs.FragmentAssembler.{fresh};
+ghost use Rattle.model.specs.Replay.{pollOne, nextOf};
+ghost use Rattle.image.specs.Images.{stateOf as imageState, pollReplyOf};
+ghost use Rattle.logbuffer.specs.Assembler.{sessionsOf};
+ghost use Rattle.replay.specs.Replays.{stateOf, nextReplyOf, turned, turnOf, fragmentGiven};
+use image::Image;
+use image::PollReply;
+use logbuffer::argument;
+use logbuffer::cast;
+use logbuffer::fragment_assembler::FragmentAssembler;
+use logbuffer::log_buffer_descriptor;
+use model::Assembled;
+use model::LogRecord;
+use model::Polled;
+use model::Replayed;
+
+#[repr(C)]
+pub struct Replay {
+    pub image: Image,
+    pub assembler: FragmentAssembler,
+}
+
+pub struct NextReply {
+    pub next: Replay,
+    pub answer: Replayed,
+}
+
+// A turn: whether the replay goes on; if it does not, its answer.
+pub struct TurnReply {
+    pub on: bool,
+    pub answer: Replayed,
+    pub next: Replay,
+}
+
+// A poll of one fragment, and the offset of its body.
+pub struct One {
+    pub polled: PollReply,
+    pub entry: i32,
+}
+
+fn poll_one(image: Image, rec: LogRecord, log: &[u8]) -> One
+    ensures { λ r. ⌜ (r .polled ≡ pollReplyOf (pollOne rec (now (log .entry)) (imageState image))) × (r .entry ≡ getD (pollOne rec (now (log .entry)) (imageState image) .slots) 0 (pos 0)) ⌝ }
+{
+    let mut entries: [i32; 2] = [0; 2];
+    let polled = image.poll(rec, log, &mut entries, 1);
+    One {
+        polled: polled,
+        entry: entries[0],
+    }
+}
+
+// The offset of a frame, from the offset of its body.
+fn frame_offset(entry: i32) -> usize
+    ensures { λ r. ⌜ (r ≡ natural entry - 32) × (r < 2147483648) ⌝ }
+{
+    let body = argument::natural(entry);
+    if body < 32 { 0 } else { body - 32 }
+}
+
+// The replay stays where it is, and this is its answer.
+fn stopped(replay: Replay, answer: Replayed) -> TurnReply
+    ensures { λ r. ⌜ (r .on ≡ false) × ((r .answer ≡ answer) × (r .next ≡ replay)) ⌝ }
+{
+    TurnReply {
+        on: false,
+        answer: answer,
+        next: replay,
+    }
+}
+
+// A fragment of a partition, given to the assembler: the image has passed it.
+fn give(
+    next: Image,
+    assembler: FragmentAssembler,
+    rec: LogRecord,
+    log: &[u8],
+    buffer: &mut [u8],
+    k: usize,
+    entry: i32,
+) -> TurnReply
+    requires { ⌜ k < 3 ⌝ }
+    ensures { λ r. ⌜ turned r (now (buffer .exit)) ≡ fragmentGiven rec (now (log .entry)) (imageState next) (sessionsOf assembler) (now (buffer .entry)) k entry ⌝ }
+{
+    let v = log_buffer_descriptor::read_active(rec);
+    let reply = assembler.on_fragment(rec, log, buffer, k as i32, frame_offset(entry) as i32);
+    let assembler = reply.next;
+    let answer = reply.answer;
+    let next = Replay {
+        image: next,
+        assembler: assembler,
+    };
+    match answer {
+        Assembled::Nothing => TurnReply {
+            on: true,
+            answer: Replayed::End,
+            next: next,
+        },
+        Assembled::Fragment(at, n) => TurnReply {
+            on: false,
+            answer: Replayed::InLog(k * v.term + at, n),
+            next: next,
+        },
+        Assembled::Message(at, n) => TurnReply {
+            on: false,
+            answer: Replayed::InBuffer(at, n),
+            next: next,
+        },
+        Assembled::Refused(e) => TurnReply {
+            on: false,
+            answer: Replayed::Refused(e),
+            next: next,
+        },
+    }
+}
+
+// One turn.
+fn turn(replay: Replay, rec: LogRecord, log: &[u8], buffer: &mut [u8]) -> TurnReply
+    ensures { λ r. ⌜ turned r (now (buffer .exit)) ≡ turnOf rec (now (log .entry)) (stateOf replay (now (buffer .entry))) ⌝ }
+{
+    let v = log_buffer_descriptor::read_active(rec);
+    let term = v.term;
+    let image = replay.image;
+    let assembler = replay.assembler;
+    let p = cast::long(image.position);
+    let one = poll_one(image, rec, log);
+    let polled = one.polled;
+    let next = polled.next;
+    let answer = polled.answer;
+    match answer {
+        Polled::Refused(e) => stopped(replay, Replayed::Refused(e)),
+        Polled::Fragments(_, m) => {
+            if p / 3 >= term {
+                return stopped(replay, Replayed::End);
+            }
+            if m != 0 {
+                return give(next, assembler, rec, log, buffer, p / term % 3, one.entry);
+            }
+            if cast::long(next.position) == p {
+                return stopped(replay, Replayed::End);
+            }
+            TurnReply {
+                on: true,
+                answer: Replayed::End,
+                next: Replay {
+                    image: next,
+                    assembler: assembler,
+                },
+            }
+        }
+    }
+}
+
+impl Replay {
+    // From position 0, with nothing entered.
+    pub fn new(session_id: i32) -> Replay
+        ensures { λ r. ⌜ (imageState (r .image) ≡ newImage (pos 0) «session_id») × (sessionsOf (r .assembler) ≡ fresh) ⌝ }
+    {
+        Replay {
+            image: Image::new(0, session_id),
+            assembler: FragmentAssembler::new(),
+        }
+    }
+
+    // The next message: where it lies in the log or in the lent buffer; or that there is none. Each turn that goes on moves the image, so
+    // three terms bound the turns.
+    pub fn next(self, rec: LogRecord, log: &[u8], buffer: &mut [u8]) -> NextReply
+        ensures { λ r. ⌜ nextReplyOf r (now (buffer .exit)) ≡ nextOf rec (now (log .entry)) (stateOf self (now (buffer .entry))) ⌝ }
+    {
+        let mut replay = self;
+        let mut left = 3 * cast::word(rec.term_length) + 1;
+        while left > 0 {
+            let t = turn(replay, rec, log, buffer);
+            let answer = t.answer;
+            replay = t.next;
+            if !t.on {
+                return NextReply {
+                    next: replay,
+                    answer: answer,
+                };
+            }
+            left = left - 1;
+        }
+        NextReply {
+            next: replay,
+            answer: Replayed::End,
+        }
+    }
+}
