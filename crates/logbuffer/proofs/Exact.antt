@@ -19,18 +19,18 @@ near-sub a b = go (ltb a b) refl
     go true e = omega (arith, ltb-true a b e)
     go false e = omega arith
 
-near-sum : (a b : ℤ) → natAbs (a +ℤ b) ≤ natAbs a + natAbs b
+pub near-sum : (a b : ℤ) → natAbs (a +ℤ b) ≤ natAbs a + natAbs b
 near-sum (pos a) (pos b) = omega arith
 near-sum (pos a) (negsuc b) = near-sub a (suc b)
 near-sum (negsuc a) (pos b) = omega (arith, near-sub b (suc a))
 near-sum (negsuc a) (negsuc b) = omega arith
 
-near-neg : (a : ℤ) → natAbs (negℤ a) ≡ natAbs a
+pub near-neg : (a : ℤ) → natAbs (negℤ a) ≡ natAbs a
 near-neg (pos zero) = refl
 near-neg (pos (suc n)) = refl
 near-neg (negsuc n) = refl
 
-near-times : (a : ℤ) (m : ℕ) → natAbs (a *ℤ pos m) ≡ natAbs a * m
+pub near-times : (a : ℤ) (m : ℕ) → natAbs (a *ℤ pos m) ≡ natAbs a * m
 near-times (pos n) m = refl
 near-times (negsuc n) m = near-neg (pos (suc n * m))
 
@@ -38,7 +38,7 @@ near-32 : (a : ℤ) → SFits w32 a → natAbs a ≤ 2147483648
 near-32 (pos n) f = omega arith
 near-32 (negsuc n) f = omega arith
 
-near-fits : (a : ℤ) → natAbs a < 9223372036854775808 → SFits w64 a
+pub near-fits : (a : ℤ) → natAbs a < 9223372036854775808 → SFits w64 a
 near-fits (pos n) h = record { sfits = omega arith }
 near-fits (negsuc n) h = record { sfits = omega arith }
 

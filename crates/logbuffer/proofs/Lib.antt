@@ -3,7 +3,12 @@ pub mod Signed
 pub mod Bytes
 pub mod RawTails
 pub mod Exact
+pub mod Signs
+pub mod Behind
+pub mod Actions
 pub mod Copies
 pub mod Headers
 pub mod Appending
+pub mod Past
+pub mod HeaderLaws
 pub mod Claims

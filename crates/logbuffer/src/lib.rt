@@ -1,10 +1,14 @@
 // The leaf library: the log's frames, read and written over a log that is lent. A file for each file of the Rust.
+mod argument;
 pub mod bit_utils;
 pub mod buffer_claim;
 mod cast;
 mod copying;
 pub mod errors;
 mod field;
-mod header;
+pub mod frame_descriptor;
+pub mod header;
 pub mod log_buffer_descriptor;
 pub mod term_appender;
+pub mod term_reader;
+pub mod term_scan;

@@ -84,6 +84,16 @@ module _ (log : List ℕ) (full : length log ≡ 196608) where
   unfolding offerBytes readingOf soundRecord sound rawOf pressed afterClosed beforeAppend need ones onesIn written cut cutFrom fragmentBytes header header24 splice le2 le4 le8
   offer-65-last = rw full
 
+  -- the second frame's body holds the last byte of the message
+  offer-65-body : getD (offerBytes (tailAt 0) log (bytes 65) (pos 0)) 128 0 ≡ 1
+  unfolding offerBytes readingOf soundRecord sound rawOf pressed afterClosed beforeAppend need ones onesIn written cut cutFrom fragmentBytes header header24 splice le2 le4 le8
+  offer-65-body = rw full
+
+  -- a second offer goes behind the first
+  offer-again : offeredTold (offerOf (offerOf (tailAt 0) log [] .next) log [] .answer) ≡ is (pos 0) (pos 64 ∷ [])
+  unfolding offerOf readingOf soundRecord sound rawOf pressed afterClosed beforeAppend need ones onesIn appendNext changed withTail
+  offer-again = rw full
+
   offer-160 : offeredTold (offerOf (tailAt 0) log (bytes 160) .answer) ≡ is (pos 0) (pos 256 ∷ [])
   unfolding offerOf readingOf soundRecord sound rawOf pressed afterClosed beforeAppend need ones onesIn
   offer-160 = rw full
@@ -212,6 +222,14 @@ module _ (rest : List ℕ) (full : length rest ≡ 196480) where
   polled-none : polledTold (poll (tailAt 64) abortedLog .answer) ≡ is (pos 0) (pos 0 ∷ pos 0 ∷ [])
   unfolding pollOf pollVerdict readable frameAt frameLength walk readingOf soundRecord sound rawOf ones onesIn le4 u16 u32
   polled-none = rw full
+
+  -- committed: a poll hands out one fragment, and one entry
+  abbrev committedLog : List ℕ
+  committedLog = le4 42 ++ (0 ∷ 192 ∷ 1 ∷ 0 ∷ (le4 0 ++ (le4 5 ++ (le4 6 ++ (le4 7 ++ (replicate 104 0 ++ rest))))))
+
+  polled-one : polledTold (poll (tailAt 64) committedLog .answer) ≡ is (pos 0) (pos 1 ∷ pos 1 ∷ [])
+  unfolding pollOf pollVerdict readable frameAt frameLength walk readingOf soundRecord sound rawOf ones onesIn le4 u16 u32
+  polled-one = rw full
 
   polled-moves : poll (tailAt 64) abortedLog .next .position ≡ pos 64
   unfolding pollOf pollVerdict readable frameAt frameLength walk readingOf soundRecord sound rawOf ones onesIn le4 u16 u32

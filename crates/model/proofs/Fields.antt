@@ -20,7 +20,7 @@ unfolding u16 le2
 u16-le2 n s h = omega arith
 
 -- four bytes hold a number's remainder
-u32-low : (n : ℕ) (s : List ℕ) → u32 (le4 n ++ s) ≡ n % 4294967296
+pub u32-low : (n : ℕ) (s : List ℕ) → u32 (le4 n ++ s) ≡ n % 4294967296
 unfolding u32 le4
 u32-low n s =
     let e1 : n / 256 ≡ 256 * (n / 65536) + n / 256 % 256 = omega (arith, shr-shr n 8 8) in

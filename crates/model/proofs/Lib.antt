@@ -1,4 +1,5 @@
--- Laws about the definitions, and proofs. Cases holds the marked positions of document 01.
+-- Laws about the definitions, and proofs. Cases holds the marked positions of document 01; Demand proves demand 3.
+pub mod Cases
 pub mod Splice
 pub mod Fields
 pub mod Power
@@ -7,7 +8,36 @@ pub mod SoundRecord
 pub mod RawTail
 pub mod Rotate
 pub mod Cut
+-- demand 3
+pub mod Choice
+pub mod Cells
+pub mod Walking
+pub mod OneSession
+pub mod Assembling
+pub mod Feeding
+pub mod Replaying
+pub mod Tails
+pub mod Writing
+pub mod Around
+pub mod Keeping
+pub mod Rising
+pub mod Calls
+pub mod Claims
+pub mod Demand
+pub mod Corollaries
+-- what the code's contracts lean on
 pub mod Append
 pub mod BufferClaim
 pub mod Moving
-pub mod Cases
+pub mod FrameLaws
+pub mod WalkLaws
+pub mod WalkLoop
+pub mod ReaderLaws
+pub mod PlaceLaws
+pub mod ReadLaws
+pub mod ScanLaws
+pub mod GapLaws
+pub mod AvailableLaws
+pub mod ScanRows
+pub mod ViewLaws
+pub mod HeaderRows

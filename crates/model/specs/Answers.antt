@@ -42,6 +42,8 @@ use Rattle.model.specs.declared.EndOfStream.{EndOfStream}
 use Rattle.model.specs.declared.EndOfStream.the-variants.{Is as EndOfStreamIs, Refused as EndOfStreamRefused}
 use Rattle.model.specs.declared.Assembled.{Assembled}
 use Rattle.model.specs.declared.Assembled.the-variants.{Nothing as AssembledNothing, Fragment as AssembledFragment, Message as AssembledMessage, Refused as AssembledRefused}
+use Rattle.model.specs.declared.Replayed.{Replayed}
+use Rattle.model.specs.declared.Replayed.the-variants.{InLog as ReplayedInLog, InBuffer as ReplayedInBuffer, End as ReplayedEnd, Refused as ReplayedRefused}
 use Rattle.model.specs.Errors.{numberOf}
 
 pub record Told : Type 0 where
@@ -158,3 +160,10 @@ assembledTold AssembledNothing = answered []
 assembledTold (AssembledFragment at n) = answered (pos 1 ∷ pos at ∷ pos n ∷ [])
 assembledTold (AssembledMessage at n) = answered (pos 2 ∷ pos at ∷ pos n ∷ [])
 assembledTold (AssembledRefused e) = refused e
+
+-- a replay: 1 and a part of the log; 2 and a part of the lent buffer; at the end no values
+abbrev pub replayedTold : Replayed → Told
+replayedTold (ReplayedInLog at n) = answered (pos 1 ∷ pos at ∷ pos n ∷ [])
+replayedTold (ReplayedInBuffer at n) = answered (pos 2 ∷ pos at ∷ pos n ∷ [])
+replayedTold ReplayedEnd = answered []
+replayedTold (ReplayedRefused e) = refused e

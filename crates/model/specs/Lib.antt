@@ -14,3 +14,7 @@ pub mod TermReader
 pub mod TermScan
 pub mod Image
 pub mod FragmentAssembler
+pub mod History
+pub mod Replay
+pub mod Demand
+pub mod Corollaries

@@ -266,3 +266,11 @@ pub enum Assembled {
     Message(usize, usize),
     Refused(Error),
 }
+
+// A message that a replay gives: its first index in the log or in the lent buffer, and its length; or the end.
+pub enum Replayed {
+    InLog(usize, usize),
+    InBuffer(usize, usize),
+    End,
+    Refused(Error),
+}

@@ -1,0 +1,19 @@
+-- The flags byte by its own index.
+use Rattle.model.specs.FrameDescriptor.{ends}
+use lib.Seq.{getD-drop}
+use mathlib.Core.Path.{_≡_, sym, ap, _∙_}
+use borrow.Author.Needs.{needs}
+use Rattle.logbuffer.proofs.frame_descriptor.ends_message.Statement.{statement}
+use Rattle.logbuffer.proofs.frame_descriptor.ends_message.Tie as tie
+
+add-byte : tie.Need-add-byte
+add-byte c = search needs
+
+byte-requires : tie.Need-byte-requires
+byte-requires c κs = search needs
+
+returns : tie.Need-returns
+returns c = let a = c .before .before .args in ap ends (c .byte .ensures .0 ∙ sym (getD-drop (a .at) (a .log .now) 5 0))
+
+pub ends-message-spec : {M : Type 1} → statement M
+ends-message-spec = tie.close (tie.spec add-byte byte-requires returns)

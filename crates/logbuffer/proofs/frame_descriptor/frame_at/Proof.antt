@@ -1,0 +1,93 @@
+-- The length word's sign is read first; a finished length is judged, and then the type.
+use mathlib.Core.Path.{_≡_, refl, sym, ap, _∙_}
+use Prim.Native.Nat.{ℕ}
+use mathlib.Core.List.{List}
+use native.Mathlib.Omega.{arith}
+use lib.ListN.{drop}
+use Rattle.model.specs.declared.FrameLength.the-variants.{Free, Writing, Finished}
+use Rattle.model.specs.Bytes.{u16, u32}
+use Rattle.model.specs.FrameDescriptor.{frameLength}
+use Rattle.model.proofs.FrameLaws.{finished-word, frame-absent, frame-short, frame-long, frame-padding, frame-data}
+use Rattle.logbuffer.proofs.Signs.{back32}
+use borrow.Author.Needs.{needs}
+use Rattle.logbuffer.proofs.frame_descriptor.frame_at.Statement.{statement}
+use Rattle.logbuffer.proofs.frame_descriptor.frame_at.Tie as tie
+
+length-word-requires : tie.Need-length-word-requires
+length-word-requires c κs = search needs
+
+to-i32-requires : tie.Need-to-i32-requires
+to-i32-requires c κs = search needs
+
+frame-length-requires : tie.Need-frame-length-requires
+frame-length-requires c κs = search needs
+
+enum-told : tie.Need-enum-told
+enum-told c = search needs
+
+enum-told-2 : tie.Need-enum-told-2
+enum-told-2 c = search needs
+
+enum-known-n : tie.Need-enum-known-n
+enum-known-n c = search needs
+
+-- the length was read by its sign
+abbrev start : tie.After-frame-length → tie.Start
+start c = c .before .before .before .before
+
+abbrev from : tie.After-frame-length → List ℕ
+from c = drop (start c .args .at) (start c .args .log .now)
+
+told : (c : tie.After-frame-length) → c .frame-length .result ≡ frameLength (u32 (from c))
+told c = c .frame-length .ensures ∙ ap frameLength (back32 (c .before .to-i32 .result) (c .before .before .length-word .result) (u32 (from c)) (c .before .to-i32 .ensures) (c .before .before .length-word .ensures .0) (c .before .before .length-word .ensures .1))
+
+-- a finished length
+is : (c : tie.After-known-told) → frameLength (u32 (from (c .before .before .before))) ≡ Finished (c .before .n .given .0 .0)
+is c = sym (told (c .before .before .before)) ∙ c .before .n .given .1
+
+returns : tie.Need-returns
+returns c = frame-short (from (c .before .before .before .before)) _ _ (is (c .before)) (c .if1 .taken)
+
+add-if2 : tie.Need-add-if2
+add-if2 c = omega (arith, finished-word _ _ (is (c .before)))
+
+mul-if2 : tie.Need-mul-if2
+mul-if2 c = omega (arith, finished-word _ _ (is (c .before)))
+
+returns-2 : tie.Need-returns-2
+returns-2 c = frame-long (from (c .before .before .before .before .before)) _ _ (is (c .before .before)) (c .before .if1 .left) (c .if2 .taken)
+
+frame-type-requires : tie.Need-frame-type-requires
+frame-type-requires c κs = search needs
+
+returns-3 : tie.Need-returns-3
+returns-3 c = frame-absent (from (c .before .before)) _ Free (sym (told (c .before .before)) ∙ c .enum-told .given .1) refl
+
+returns-4 : tie.Need-returns-4
+returns-4 c = frame-absent (from (c .before .before)) _ Writing (sym (told (c .before .before)) ∙ c .enum-told2 .given .1) refl
+
+returns-5 : tie.Need-returns-5
+returns-5 c = frame-padding (from (c .before .before .before .before .before .before .before)) _ _ (is (c .before .before .before .before)) (c .before .before .before .if1 .left) (c .before .before .if2 .left) (sym (c .before .frame-type .ensures) ∙ c .if3 .taken)
+
+returns-6 : tie.Need-returns-6
+returns-6 c = frame-data (from (c .before .before .before .before .before .before .before)) _ _ (is (c .before .before .before .before)) (c .before .before .before .if1 .left) (c .before .before .if2 .left) (λ e. c .if3 .left (c .before .frame-type .ensures ∙ e))
+
+pub frame-at-spec : {M : Type 1} → statement M
+frame-at-spec =
+    tie.close
+    (tie.spec
+    length-word-requires
+    to-i32-requires
+    frame-length-requires
+    enum-told
+    enum-told-2
+    enum-known-n
+    returns
+    add-if2
+    mul-if2
+    returns-2
+    frame-type-requires
+    returns-3
+    returns-4
+    returns-5
+    returns-6)

@@ -1,0 +1,36 @@
+-- Row 1 is judged, and the walk answers the rest.
+use Rattle.model.proofs.ReaderLaws.{good-walk-true, frames-refused, frames-by}
+use borrow.Author.Tests.{not-true, not-false}
+use lib.ListN.{length}
+use native.Mathlib.Omega.{arith}
+use mathlib.Core.Path.{_≡_, sym, ap, _∙_}
+use borrow.Author.Needs.{needs}
+use Rattle.logbuffer.proofs.term_reader.read_frames.Statement.{statement}
+use Rattle.logbuffer.proofs.term_reader.read_frames.Tie as tie
+
+good-walk-requires : tie.Need-good-walk-requires
+good-walk-requires c κs = search needs
+
+returns : tie.Need-returns
+returns c =
+    let a = c .before .before .before .before .args in
+    frames-refused (a .log .now) (a .base) (a .term) (a .end) (a .at) (a .limit) (a .actions .now) (a .entries .now) (sym (c .before .good-walk .ensures) ∙ not-true _ (c .if1 .taken))
+
+walk-frames-requires : tie.Need-walk-frames-requires
+walk-frames-requires c κs =
+    let a = c .before .before .before .before .before .args in
+    let g = good-walk-true (length (a .log .now)) (a .base) (a .term) (a .end) (a .at) (a .limit) (length (a .entries .now)) (sym (c .before .before .good-walk .ensures) ∙ not-false _ (c .before .if1 .left)) in
+    (g .inside, (g .term-high, (g .end-in, omega (arith, g .room))))
+
+same-length : tie.Need-same-length
+same-length c = search needs
+
+returns-2 : tie.Need-returns-2
+returns-2 c =
+    let a = c .before .before .before .before .before .before .before .args in
+    let k = frames-by (a .log .now) (a .base) (a .term) (a .end) (a .at) (a .limit) (a .actions .now) (a .entries .now) (sym (c .before .before .before .before .good-walk .ensures) ∙ not-false _ (c .before .before .before .if1 .left)) in
+    (c .before .walk-frames .ensures .0 ∙ k .0, c .before .walk-frames .ensures .1 ∙ k .1)
+
+pub read-frames-spec : {M : Type 1} → statement M
+read-frames-spec =
+    tie.close (tie.spec good-walk-requires returns walk-frames-requires same-length returns-2)

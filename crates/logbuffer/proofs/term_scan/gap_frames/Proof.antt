@@ -1,0 +1,169 @@
+-- The loop keeps `Rebuilding` of model's GapLaws; each way out cites its law there.
+use mathlib.Core.Path.{ap₂}
+use mathlib.Core.Path.{_≡_, refl, sym, ap, _∙_}
+use Prim.Native.Nat.{ℕ, _+_, _-_, _*_, _/_, _≤_, _<_}
+use native.Mathlib.Omega.{arith}
+use borrow.Author.Needs.{needs}
+use lib.ListN.{length, drop}
+use lib.IntN.{ℤ}
+use mir.Facts.{toZ-ofZ}
+use Rattle.model.specs.declared.Frame.{Frame}
+use Rattle.model.specs.declared.Frame.the-variants.{Absent, Unsound, Padding, Data}
+use Rattle.model.specs.declared.GapScanned.the-variants.{Gap}
+use Rattle.model.specs.FrameDescriptor.{frameAt}
+use Rattle.model.proofs.FrameLaws.{Lies, lies}
+use Rattle.model.proofs.GapLaws as laws
+use Rattle.model.proofs.GapLaws.{Rebuilding}
+use Rattle.logbuffer.proofs.term_scan.gap_frames.Statement.{statement}
+use Rattle.logbuffer.proofs.term_scan.gap_frames.Tie as tie
+
+abbrev Inv-loop : tie.InvT-loop
+Inv-loop log base term term-id high at offset₀ offset = Rebuilding log base term high at offset
+
+abbrev μ-loop : tie.MeasureT-loop
+μ-loop log base term term-id high at offset₀ offset = term - offset
+
+-- the entry, and what is seen of a frame, from the loop's head
+abbrev st : tie.At-loop Inv-loop μ-loop → tie.Start Inv-loop μ-loop
+st c = c .before .before
+
+is : (c : tie.After-frame-at Inv-loop μ-loop) (x : Frame) → c .frame-at .result ≡ x
+    → frameAt (drop (st (c .before) .args .base + c .before .loop .offset) (st (c .before) .args .log .now)) (st (c .before) .args .term - c .before .loop .offset) ≡ x
+is c x e = sym (c .frame-at .ensures) ∙ e
+
+padding-in : (c : tie.After-known-told Inv-loop μ-loop) → let l = c .before .before .before .before in Lies (c .before .n .given .0 .0) (st l .args .term - l .loop .offset)
+padding-in c = lies _ _ (Padding (c .before .n .given .0 .0)) (is (c .before .before .before) _ (c .before .n .given .1)) refl
+
+data-in : (c : tie.After-known-told2 Inv-loop μ-loop) → let l = c .before .before .before .before in Lies (c .before .n2 .given .0 .0) (st l .args .term - l .loop .offset)
+data-in c = lies _ _ (Data (c .before .n2 .given .0 .0)) (is (c .before .before .before) _ (c .before .n2 .given .1)) refl
+
+loop-holds : tie.Need-loop-holds Inv-loop μ-loop
+loop-holds c = let a = c .before .args in laws.gap-start (a .log .now) (a .base) (a .term) (a .high) (a .at) (omega arith) (omega arith)
+
+add-frame-at : tie.Need-add-frame-at Inv-loop μ-loop
+add-frame-at c = omega (arith, c .loop .inv .inside)
+
+sub-frame-at : tie.Need-sub-frame-at Inv-loop μ-loop
+sub-frame-at c = omega (arith, c .loop .inv .inside)
+
+frame-at-requires : tie.Need-frame-at-requires Inv-loop μ-loop
+frame-at-requires c κs = search needs
+
+enum-told : tie.Need-enum-told Inv-loop μ-loop
+enum-told c = search needs
+
+enum-told-2 : tie.Need-enum-told-2 Inv-loop μ-loop
+enum-told-2 c = search needs
+
+returns : tie.Need-returns Inv-loop μ-loop
+returns c =
+    let l = c .before .before .before .before in
+    let a = st l .args in
+    laws.gap-first (a .log .now) (a .base) (a .term) (a .high) (a .at) (a .«term-id») (l .loop .offset) (c .if1 .taken) (is (c .before .before .before) _ (c .before .enum-told2 .given .1))
+
+returns-2 : tie.Need-returns-2 Inv-loop μ-loop
+returns-2 c =
+    let l = c .before .before .before .before in
+    let a = st l .args in
+    laws.gap-unsound (a .log .now) (a .base) (a .term) (a .high) (a .at) (a .«term-id») (l .loop .offset) (l .loop .inv) (is (c .before .before .before) _ (c .before .enum-told2 .given .1)) (c .if1 .left)
+
+enum-known-n : tie.Need-enum-known-n Inv-loop μ-loop
+enum-known-n c = search needs
+
+add-offset : tie.Need-add-offset Inv-loop μ-loop
+add-offset c = omega (arith, padding-in c)
+
+mul-offset : tie.Need-mul-offset Inv-loop μ-loop
+mul-offset c = omega (arith, padding-in c)
+
+add-offset-2 : tie.Need-add-offset-2 Inv-loop μ-loop
+add-offset-2 c = omega (arith, padding-in c)
+
+returns-3 : tie.Need-returns-3 Inv-loop μ-loop
+returns-3 c =
+    let l = c .before .before .before .before .before in
+    let a = st l .args in
+    laws.gap-past (a .log .now) (a .base) (a .term) (a .high) (a .at) (a .«term-id») (l .loop .offset) _ (Padding (c .before .before .n .given .0 .0)) (l .loop .inv) (is (c .before .before .before .before) _ (c .before .before .n .given .1)) refl refl (c .if2 .taken)
+
+loop-less : tie.Need-loop-less Inv-loop μ-loop
+loop-less c = omega (arith, padding-in (c .before), c .before .before .before .before .before .loop .inv .inside)
+
+loop-again : tie.Need-loop-again Inv-loop μ-loop
+loop-again c =
+    let l = c .before .before .before .before .before in
+    let a = st l .args in
+    laws.gap-on (a .log .now) (a .base) (a .term) (a .high) (a .at) (l .loop .offset) _ (Padding (c .before .before .n .given .0 .0)) (l .loop .inv) (is (c .before .before .before .before) _ (c .before .before .n .given .1)) refl refl (omega arith) (c .if2 .left)
+
+enum-known-n-2 : tie.Need-enum-known-n-2 Inv-loop μ-loop
+enum-known-n-2 c = search needs
+
+add-offset-3 : tie.Need-add-offset-3 Inv-loop μ-loop
+add-offset-3 c = omega (arith, data-in c)
+
+mul-offset-2 : tie.Need-mul-offset-2 Inv-loop μ-loop
+mul-offset-2 c = omega (arith, data-in c)
+
+add-offset-4 : tie.Need-add-offset-4 Inv-loop μ-loop
+add-offset-4 c = omega (arith, data-in c)
+
+returns-4 : tie.Need-returns-4 Inv-loop μ-loop
+returns-4 c =
+    let l = c .before .before .before .before .before in
+    let a = st l .args in
+    laws.gap-past (a .log .now) (a .base) (a .term) (a .high) (a .at) (a .«term-id») (l .loop .offset) _ (Data (c .before .before .n2 .given .0 .0)) (l .loop .inv) (is (c .before .before .before .before) _ (c .before .before .n2 .given .1)) refl refl (c .if3 .taken)
+
+loop-less-2 : tie.Need-loop-less-2 Inv-loop μ-loop
+loop-less-2 c = omega (arith, data-in (c .before), c .before .before .before .before .before .loop .inv .inside)
+
+loop-again-2 : tie.Need-loop-again-2 Inv-loop μ-loop
+loop-again-2 c =
+    let l = c .before .before .before .before .before in
+    let a = st l .args in
+    laws.gap-on (a .log .now) (a .base) (a .term) (a .high) (a .at) (l .loop .offset) _ (Data (c .before .before .n2 .given .0 .0)) (l .loop .inv) (is (c .before .before .before .before) _ (c .before .before .n2 .given .1)) refl refl (omega arith) (c .if3 .left)
+
+returns-5 : tie.Need-returns-5 Inv-loop μ-loop
+returns-5 c =
+    let l = c .before .before .before .before in
+    let a = st l .args in
+    laws.gap-none (a .log .now) (a .base) (a .term) (a .high) (a .at) (a .«term-id») (l .loop .offset) (l .loop .inv) (is (c .before .before .before) _ (c .before .enum-told .given .1)) (c .if4 .taken)
+
+gap-length-requires : tie.Need-gap-length-requires Inv-loop μ-loop
+gap-length-requires c κs = let i = c .before .before .before .before .loop .inv in omega (arith, i .aligned)
+
+returns-6 : tie.Need-returns-6 Inv-loop μ-loop
+returns-6 c =
+    let l = c .before .before .before .before .before in
+    let a = st l .args in
+    ap₂ (λ (i : ℤ) (n : ℕ). Gap i (l .loop .offset) n) (toZ-ofZ (st l .fits .«term-id»)) (c .gap-length .ensures) ∙ laws.gap-here (a .log .now) (a .base) (a .term) (a .high) (a .at) (a .«term-id») (l .loop .offset) (l .loop .inv) (is (c .before .before .before .before) _ (c .before .before .enum-told .given .1)) (c .before .if4 .left)
+
+pub gap-frames-spec : {M : Type 1} → statement M
+gap-frames-spec =
+    tie.close
+    (tie.spec
+    Inv-loop
+    μ-loop
+    loop-holds
+    add-frame-at
+    sub-frame-at
+    frame-at-requires
+    enum-told
+    enum-told-2
+    returns
+    returns-2
+    enum-known-n
+    add-offset
+    mul-offset
+    add-offset-2
+    returns-3
+    loop-less
+    loop-again
+    enum-known-n-2
+    add-offset-3
+    mul-offset-2
+    add-offset-4
+    returns-4
+    loop-less-2
+    loop-again-2
+    returns-5
+    gap-length-requires
+    returns-6)

@@ -1,0 +1,68 @@
+-- The loop keeps `Measuring` of model's GapLaws: the gap so far, and what is left of it from here.
+use mathlib.Core.Path.{_≡_, refl, sym, ap, _∙_}
+use Prim.Native.Nat.{ℕ, _+_, _-_, _≤_, _<_}
+use native.Mathlib.Omega.{arith}
+use borrow.Author.Needs.{needs}
+use Rattle.model.proofs.GapLaws as laws
+use Rattle.model.proofs.GapLaws.{Measuring}
+use Rattle.logbuffer.proofs.term_scan.gap_length.Statement.{statement}
+use Rattle.logbuffer.proofs.term_scan.gap_length.Tie as tie
+
+abbrev Inv-loop : tie.InvT-loop
+Inv-loop log base term high at gap₀ gap = (at + gap ≤ high) × Measuring log base term high at gap
+
+abbrev μ-loop : tie.MeasureT-loop
+μ-loop log base term high at gap₀ gap = high - gap
+
+loop-holds : tie.Need-loop-holds Inv-loop μ-loop
+loop-holds c = let a = c .before .args in (omega arith, laws.measure-start (a .log .now) (a .base) (a .term) (a .high) (a .at) (omega arith))
+
+add-loop : tie.Need-add-loop Inv-loop μ-loop
+add-loop c = omega arith
+
+add-word4 : tie.Need-add-word4 Inv-loop μ-loop
+add-word4 c = omega arith
+
+add-word4-2 : tie.Need-add-word4-2 Inv-loop μ-loop
+add-word4-2 c = omega arith
+
+word4-requires : tie.Need-word4-requires Inv-loop μ-loop
+word4-requires c κs = omega (arith, c .before .loop .inv .1 .aligned)
+
+add-gap : tie.Need-add-gap Inv-loop μ-loop
+add-gap c = omega arith
+
+loop-less : tie.Need-loop-less Inv-loop μ-loop
+loop-less c = omega arith
+
+loop-again : tie.Need-loop-again Inv-loop μ-loop
+loop-again c = (omega (arith, c .before .before .before .loop .inv .1 .aligned), let l = c .before .before .before in let a = l .before .before .args in laws.measure-on (a .log .now) (a .base) (a .term) (a .high) (a .at) (l .loop .gap) (l .loop .inv .1) (omega arith) (sym (c .before .word4 .ensures .0) ∙ c .if1 .left))
+
+returns : tie.Need-returns Inv-loop μ-loop
+returns c =
+    let l = c .before in
+    let a = l .before .before .args in
+    laws.measure-mark (a .log .now) (a .base) (a .term) (a .high) (a .at) (l .loop .gap) (l .loop .inv .1) (c .loop-test .taken)
+
+returns-2 : tie.Need-returns-2 Inv-loop μ-loop
+returns-2 c =
+    let l = c .before .before .before in
+    let a = l .before .before .args in
+    laws.measure-word (a .log .now) (a .base) (a .term) (a .high) (a .at) (l .loop .gap) (l .loop .inv .1) (λ q. c .if1 .taken (c .before .word4 .ensures .0 ∙ q))
+
+pub gap-length-spec : {M : Type 1} → statement M
+gap-length-spec =
+    tie.close
+    (tie.spec
+    Inv-loop
+    μ-loop
+    loop-holds
+    add-loop
+    add-word4
+    add-word4-2
+    word4-requires
+    add-gap
+    loop-less
+    loop-again
+    returns
+    returns-2)

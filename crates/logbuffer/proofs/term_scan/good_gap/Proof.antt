@@ -1,0 +1,38 @@
+-- The first test that fails decides.
+use Rattle.model.proofs.ReaderLaws.{and-not, and-then}
+use Rattle.model.specs.LogBufferDescriptor.{goodPartition, goodOffset, withinTerm}
+use borrow.Author.Tests.{not-true, not-false, eq-eqb, ne-eqb}
+use lib.Dec.{eqb}
+use Prim.Native.Nat.{_%_}
+use mathlib.Core.Bool.{Bool, true, false, _&&_}
+use mathlib.Core.Path.{_≡_, refl, sym, ap, _∙_}
+use borrow.Author.Needs.{needs}
+use Rattle.logbuffer.proofs.term_scan.good_gap.Statement.{statement}
+use Rattle.logbuffer.proofs.term_scan.good_gap.Tie as tie
+
+good-place-requires : tie.Need-good-place-requires
+good-place-requires c κs = search needs
+
+returns : tie.Need-returns
+returns c =
+    let a = c .before .before .args in
+    and-not (goodPartition (a .k)) (goodOffset (a .at) (a .v)) _ (sym (c .before .good-place .ensures) ∙ not-true _ (c .if1 .taken))
+
+returns-2 : tie.Need-returns-2
+returns-2 c =
+    let a = c .before .before .before .args in
+    let e : (eqb (a .mark % 32) 0 && withinTerm (a .mark) (a .v)) ≡ false = rw (ne-eqb (a .mark % 32) 0 (c .if2 .taken)) in
+    sym e ∙ and-then (goodPartition (a .k)) (goodOffset (a .at) (a .v)) _ (sym (c .before .before .good-place .ensures) ∙ not-false _ (c .before .if1 .left))
+
+within-term-requires : tie.Need-within-term-requires
+within-term-requires c κs = search needs
+
+returns-3 : tie.Need-returns-3
+returns-3 c =
+    let a = c .before .before .before .before .args in
+    let e : (eqb (a .mark % 32) 0 && withinTerm (a .mark) (a .v)) ≡ withinTerm (a .mark) (a .v) = rw (eq-eqb (a .mark % 32) 0 (c .before .if2 .left)) in
+    c .within-term .ensures ∙ sym e ∙ and-then (goodPartition (a .k)) (goodOffset (a .at) (a .v)) _ (sym (c .before .before .before .good-place .ensures) ∙ not-false _ (c .before .before .if1 .left))
+
+pub good-gap-spec : {M : Type 1} → statement M
+good-gap-spec =
+    tie.close (tie.spec good-place-requires returns returns-2 within-term-requires returns-3)

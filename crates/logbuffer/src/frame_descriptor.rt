@@ -1,0 +1,107 @@
+// Frames as readers meet them: the length word by its sign, the frame at a place, the end of a message, the longest message.
+ghost use mathlib.Core.Path.{_≡_};
+ghost use Prim.Native.Nat.{_+_, _/_, _≤_, _<_, min};
+ghost use lib.ListN.{length, drop, getD};
+ghost use Rattle.model.specs.Bytes.{word, u16 as halfOf, u32 as wordOf};
+ghost use Rattle.model.specs.FrameDescriptor.{frameLength, frameBy, frameAt, flagsAt, ends};
+use crate::cast;
+use crate::field;
+use model::Frame;
+use model::FrameLength;
+
+// 0 is free, a negative length is being written, a positive one is finished.
+pub fn frame_length(length: i32) -> FrameLength
+    ensures { λ r. ⌜ r ≡ frameLength (word length) ⌝ }
+{
+    let bits = cast::word(length);
+    if length == 0 {
+        return FrameLength::Free;
+    }
+    if length < 0 {
+        return FrameLength::Writing;
+    }
+    FrameLength::Finished(bits)
+}
+
+// The longest message: an eighth of a term, at most 16 MiB.
+pub fn compute_max_message_length(term_length: u32) -> usize
+    ensures { λ r. ⌜ r ≡ min («term_length» / 8) 16777216 ⌝ }
+{
+    let eighth = (term_length as usize) / 8;
+    if eighth < 16777216 { eighth } else { 16777216 }
+}
+
+// The byte that lies i behind an index, and 0 past the log's end.
+fn byte_behind(log: &[u8], at: usize, i: usize) -> usize
+    ensures { λ r. ⌜ (r ≡ getD (drop at (now (log .entry))) i 0) × (r < 256) ⌝ }
+{
+    let n = log.len();
+    if at >= n {
+        return 0;
+    }
+    if i >= n - at {
+        return 0;
+    }
+    field::byte(log, at + i)
+}
+
+// A frame's length word at any index; bytes past the log's end count as 0.
+fn length_word(log: &[u8], at: usize) -> usize
+    ensures { λ r. ⌜ (r ≡ wordOf (drop at (now (log .entry)))) × (r < 4294967296) ⌝ }
+{
+    let n = log.len();
+    if n >= 4 {
+        if at <= n - 4 {
+            return field::word4(log, at);
+        }
+    }
+    byte_behind(log, at, 0)
+        + 256 * byte_behind(log, at, 1)
+        + 65536 * byte_behind(log, at, 2)
+        + 16777216 * byte_behind(log, at, 3)
+}
+
+// Its type, in the same way.
+fn frame_type(log: &[u8], at: usize) -> usize
+    ensures { λ r. ⌜ r ≡ halfOf (drop 6 (drop at (now (log .entry)))) ⌝ }
+{
+    let n = log.len();
+    if n >= 8 {
+        if at <= n - 8 {
+            return field::half(log, at + 6);
+        }
+    }
+    byte_behind(log, at, 6) + 256 * byte_behind(log, at, 7)
+}
+
+// What stands at an index of a log, with so many bytes to the term's end. No index is refused.
+pub fn frame_at(log: &[u8], at: usize, room: usize) -> Frame
+    ensures { λ r. ⌜ r ≡ frameAt (drop at (now (log .entry))) room ⌝ }
+{
+    match frame_length(cast::to_i32(length_word(log, at))) {
+        FrameLength::Free => Frame::Absent,
+        FrameLength::Writing => Frame::Absent,
+        FrameLength::Finished(n) => {
+            if n < 32 {
+                return Frame::Unsound;
+            }
+            if room < (n + 31) / 32 * 32 {
+                return Frame::Unsound;
+            }
+            if frame_type(log, at) == 0 {
+                Frame::Padding(n)
+            } else {
+                Frame::Data(n)
+            }
+        }
+    }
+}
+
+// Whether the frame at an index ends a message.
+pub(crate) fn ends_message(log: &[u8], at: usize) -> bool
+    requires { ⌜ at + 8 ≤ length (now log) ⌝ }
+    ensures { λ r. ⌜ r ≡ ends (flagsAt (drop at (now (log .entry)))) ⌝ }
+{
+    let flags = field::byte(log, at + 5);
+    flags / 64 % 2 == 1
+}

@@ -1,0 +1,279 @@
+// Reading a term: the walk over frames that every poll takes, `read`, and views of bodies and blocks.
+ghost use mathlib.Core.Path.{_≡_};
+ghost use mathlib.Core.Bool.{cond, _&&_};
+ghost use Prim.Native.Nat.{_+_, _*_, _≤_, _<_};
+ghost use lib.ListN.{length, drop};
+ghost use denote.Ref.{ptr};
+ghost use Rattle.logbuffer.specs.Lent.{startOf};
+ghost use Rattle.model.specs.declared.Error.the-variants.{UnsoundFrame};
+ghost use Rattle.model.specs.declared.Verdict.the-variants.{Pass, Refuse};
+ghost use Rattle.model.specs.LogBufferDescriptor.{goodPartition, goodOffset};
+ghost use Rattle.model.specs.TermReader.{nextAction, walk, firstUnsound, goodWalk, goodEntries, entriesBy, framesBy, framesOf, framesEntries, readOf, readEntries, goodView, viewOf};
+ghost use Rattle.model.specs.Parts.{partOf, locatedNumber};
+use crate::argument;
+use crate::cast;
+use crate::errors;
+use crate::frame_descriptor;
+use crate::log_buffer_descriptor;
+use model::Error;
+use model::Frame;
+use model::FramesRead;
+use model::Located;
+use model::LogRecord;
+use model::Reading;
+use model::TermRead;
+use model::Walk;
+
+// The handler's answer to the fragment after `passed` others; 4, continue, where none is given.
+fn action_of(actions: &[u8], passed: usize) -> usize
+    ensures { λ r. ⌜ r ≡ nextAction (drop passed (now (actions .entry))) ⌝ }
+{
+    if passed < actions.len() {
+        actions[passed] as usize
+    } else {
+        4
+    }
+}
+
+// The bytes up to the last whole message or padding, after one more fragment.
+fn last_settled(whole: bool, moved: usize, settled: usize) -> usize
+    ensures { λ r. ⌜ r ≡ cond whole moved settled ⌝ }
+{
+    if whole { moved } else { settled }
+}
+
+// Row 1 of a walk.
+fn good_walk(
+    n: usize,
+    base: usize,
+    term: usize,
+    end: usize,
+    at: usize,
+    limit: usize,
+    slots: usize,
+) -> bool
+    ensures { λ r. ⌜ r ≡ goodWalk n base term end at limit slots ⌝ }
+{
+    if base > n {
+        return false;
+    }
+    if term > n - base {
+        return false;
+    }
+    if term > 1073741824 {
+        return false;
+    }
+    if term % 32 != 0 {
+        return false;
+    }
+    if end > term {
+        return false;
+    }
+    if at % 32 != 0 {
+        return false;
+    }
+    if slots > 2147483647 {
+        return false;
+    }
+    limit <= slots / 2
+}
+
+// The walk itself, its arguments judged. Each frame is looked at once; it is left at a free place, an unsound frame, the end or the limit.
+fn walk_frames(
+    log: &[u8],
+    base: usize,
+    term: usize,
+    end: usize,
+    at: usize,
+    limit: usize,
+    actions: &[u8],
+    entries: &mut [i32],
+) -> FramesRead
+    requires { ⌜ (base + term ≤ length (now log)) × ((term ≤ 1073741824) × ((end ≤ term) × (2 * limit ≤ length (now entries)))) ⌝ }
+    ensures { λ r. ⌜ r ≡ framesBy (walk term (now (log .entry)) base term end at limit (now (actions .entry))) (cond (firstUnsound (now (log .entry)) base term end at limit) (Refuse UnsoundFrame) Pass) ⌝ }
+    ensures { λ _. ⌜ now (entries .exit) ≡ entriesBy (now (entries .entry)) (walk term (now (log .entry)) base term end at limit (now (actions .entry))) (cond (firstUnsound (now (log .entry)) base term end at limit) (Refuse UnsoundFrame) Pass) ⌝ }
+{
+    let mut offset = at;
+    let mut moved: usize = 0;
+    let mut settled: usize = 0;
+    let mut count: usize = 0;
+    loop {
+        if limit <= count {
+            break;
+        }
+        if end <= offset {
+            break;
+        }
+        match frame_descriptor::frame_at(log, base + offset, term - offset) {
+            Frame::Absent => {
+                break;
+            }
+            Frame::Unsound => {
+                if offset == at {
+                    return FramesRead::Refused(Error::UnsoundFrame);
+                }
+                break;
+            }
+            Frame::Padding(n) => {
+                offset = offset + (n + 31) / 32 * 32;
+                moved = offset - at;
+                settled = moved;
+            }
+            Frame::Data(n) => {
+                let action = action_of(actions, count);
+                let whole = frame_descriptor::ends_message(log, base + offset);
+                let p = 2 * count;
+                entries[p] = (offset + 32) as i32;
+                entries[p + 1] = (n - 32) as i32;
+                if action == 1 {
+                    return FramesRead::Walked(Walk {
+                        entries: count + 1,
+                        fragments: count,
+                        moved: moved,
+                        settled: settled,
+                    });
+                }
+                let size = (n + 31) / 32 * 32;
+                offset = offset + size;
+                moved = offset - at;
+                settled = last_settled(whole, moved, settled);
+                count = count + 1;
+                if action == 2 {
+                    break;
+                }
+            }
+        }
+    }
+    FramesRead::Walked(Walk {
+        entries: count,
+        fragments: count,
+        moved: moved,
+        settled: settled,
+    })
+}
+
+// A walk over frames for any numbers: log, where the term starts, its length, the end, the offset, the fragment limit, the handler's
+// answers, and the lent entries, two numbers each. 1 where the numbers do not fit each other, 17 where the first frame is unsound.
+pub fn read_frames(
+    log: &[u8],
+    base: usize,
+    term: usize,
+    end: usize,
+    at: usize,
+    limit: usize,
+    actions: &[u8],
+    entries: &mut [i32],
+) -> FramesRead
+    ensures { λ r. ⌜ r ≡ framesOf (now (log .entry)) base term end at limit (now (actions .entry)) (now (entries .entry)) ⌝ }
+    ensures { λ _. ⌜ now (entries .exit) ≡ framesEntries (now (log .entry)) base term end at limit (now (actions .entry)) (now (entries .entry)) ⌝ }
+{
+    if !good_walk(log.len(), base, term, end, at, limit, entries.len()) {
+        return FramesRead::Refused(Error::IllegalArgument);
+    }
+    walk_frames(log, base, term, end, at, limit, actions, entries)
+}
+
+// Row 1 of `read`.
+fn good_read(v: Reading, k: usize, at: usize, limit: usize, slots: usize) -> bool
+    requires { ⌜ at < 4294967296 ⌝ }
+    ensures { λ r. ⌜ r ≡ (goodPartition k && (goodOffset at v && goodEntries slots limit)) ⌝ }
+{
+    if !argument::good_place(k, at, v) {
+        return false;
+    }
+    if slots > 2147483647 {
+        return false;
+    }
+    limit <= slots / 2
+}
+
+// Reads frames of a term from an offset on, at most `limit` fragments, and lays the offset and length of each body into `entries`.
+pub fn read(
+    rec: LogRecord,
+    log: &[u8],
+    partition: i32,
+    offset: i32,
+    limit: i32,
+    entries: &mut [i32],
+) -> TermRead
+    ensures { λ r. ⌜ r ≡ readOf rec (now (log .entry)) partition offset limit (now (entries .entry)) ⌝ }
+    ensures { λ _. ⌜ now (entries .exit) ≡ readEntries rec (now (log .entry)) partition offset limit (now (entries .entry)) ⌝ }
+{
+    let v = log_buffer_descriptor::read_active(rec);
+    let k = cast::word(partition);
+    let at = cast::word(offset);
+    let most = argument::natural(limit);
+    if !good_read(v, k, at, most, entries.len()) {
+        return TermRead::Refused(Error::IllegalArgument);
+    }
+    if !log_buffer_descriptor::is_sound(v, log.len()) {
+        return TermRead::Refused(Error::IllegalRecord);
+    }
+    let term = v.term;
+    let FramesRead::Walked(walked) = read_frames(
+        log,
+        k * term,
+        term,
+        term,
+        at,
+        most,
+        &log[0..0],
+        entries,
+    ) else {
+        return TermRead::Refused(Error::UnsoundFrame);
+    };
+    TermRead::Outcome(at + walked.moved, walked.fragments)
+}
+
+// ---- views
+
+// Row 1 of a view.
+fn good_view(v: Reading, k: usize, at: usize, size: usize) -> bool
+    requires { ⌜ (at < 4294967296) × (size < 4294967296) ⌝ }
+    ensures { λ r. ⌜ r ≡ goodView v k at size ⌝ }
+{
+    if k > 2 {
+        return false;
+    }
+    argument::within_term(at + size, v)
+}
+
+// Where a body or a block lies in the log: an offset of a partition's term and a length.
+pub fn view_span(rec: LogRecord, log: &[u8], partition: i32, offset: i32, length: i32) -> Located
+    ensures { λ r. ⌜ r ≡ viewOf rec (now (log .entry)) partition offset length ⌝ }
+{
+    let v = log_buffer_descriptor::read_active(rec);
+    let k = cast::word(partition);
+    let at = cast::word(offset);
+    let size = cast::word(length);
+    if !good_view(v, k, at, size) {
+        return Located::Refused(Error::IllegalArgument);
+    }
+    if !log_buffer_descriptor::is_sound(v, log.len()) {
+        return Located::Refused(Error::IllegalRecord);
+    }
+    let term = v.term;
+    let from = k * term + at;
+    Located::Span(from, from + size)
+}
+
+// A body or a block as a part of the log; the empty part for a refusal.
+pub fn view(rec: LogRecord, log: &[u8], partition: i32, offset: i32, length: i32) -> &[u8]
+    ensures { λ r. ⌜ now r ≡ partOf (now (log .entry)) (viewOf rec (now (log .entry)) partition offset length) ⌝ }
+    ensures { λ r. ⌜ ptr r ≡ ((ptr (log .entry)) .0, startOf (viewOf rec (now (log .entry)) partition offset length) + (ptr (log .entry)) .1) ⌝ }
+{
+    let Located::Span(from, to) = view_span(rec, log, partition, offset, length) else {
+        return &log[0..0];
+    };
+    &log[from..to]
+}
+
+// The companion: 0, or the number of the refusal.
+pub fn view_number(rec: LogRecord, log: &[u8], partition: i32, offset: i32, length: i32) -> i32
+    ensures { λ r. ⌜ r ≡ locatedNumber (viewOf rec (now (log .entry)) partition offset length) ⌝ }
+{
+    match view_span(rec, log, partition, offset, length) {
+        Located::Span(_, _) => 0,
+        Located::Refused(e) => errors::number(e),
+    }
+}

@@ -1,0 +1,285 @@
+// The scans of a term: whole frames up to a limit, the first gap, and what is available. Each meets an unsound frame as readers do.
+ghost use mathlib.Core.Path.{_≡_};
+ghost use mathlib.Core.Bool.{cond, _&&_, true};
+ghost use Prim.Native.Nat.{_+_, _-_, _*_, _%_, _≤_, _<_, min};
+ghost use lib.Dec.{eqb, ltb};
+ghost use lib.ListN.{length, drop};
+ghost use Rattle.model.specs.declared.Error.the-variants.{UnsoundFrame};
+ghost use Rattle.model.specs.declared.Verdict.the-variants.{Pass, Refuse};
+ghost use Rattle.model.specs.FrameDescriptor.{frameAt, isUnsound};
+ghost use Rattle.model.specs.LogBufferDescriptor.{goodPartition, goodOffset, withinTerm};
+ghost use Rattle.model.specs.TermScan.{scanFrom, scanBy, scanOf, rebuild, gapLength, gapBy, gapOf, availableFrom, availabilityBy, availabilityOf};
+ghost use Rattle.model.proofs.GapLaws.{gapFound};
+ghost use Rattle.model.proofs.AvailableLaws.{outcome as outcomeOf};
+use crate::argument;
+use crate::cast;
+use crate::field;
+use crate::frame_descriptor;
+use crate::log_buffer_descriptor;
+use model::AvailabilityScanned;
+use model::Error;
+use model::Frame;
+use model::GapScanned;
+use model::LogRecord;
+use model::Reading;
+use model::Scanned;
+
+// Whole data frames up to the limit; a padding frame only at the start, even one that ends past the limit.
+fn scan_frames(log: &[u8], base: usize, term: usize, limit: usize, at: usize) -> Scanned
+    requires { ⌜ (base + term ≤ length (now log)) × ((term ≤ 1073741824) × ((at < term) × (limit ≤ term))) ⌝ }
+    ensures { λ r. ⌜ r ≡ scanBy (scanFrom term (now (log .entry)) base term limit true at) (cond (ltb at limit && isUnsound (frameAt (drop (base + at) (now (log .entry))) (term - at))) (Refuse UnsoundFrame) Pass) ⌝ }
+{
+    let mut offset = at;
+    loop {
+        if limit <= offset {
+            break;
+        }
+        match frame_descriptor::frame_at(log, base + offset, term - offset) {
+            Frame::Absent => {
+                break;
+            }
+            Frame::Unsound => {
+                if offset == at {
+                    return Scanned::Refused(Error::UnsoundFrame);
+                }
+                break;
+            }
+            Frame::Padding(n) => {
+                if offset == at {
+                    return Scanned::Offset(at + (n + 31) / 32 * 32);
+                }
+                break;
+            }
+            Frame::Data(n) => {
+                let next = offset + (n + 31) / 32 * 32;
+                if next > limit {
+                    break;
+                }
+                offset = next;
+            }
+        }
+    }
+    Scanned::Offset(offset)
+}
+
+// Row 1 of `scan`.
+fn good_scan(k: usize, at: usize, limit: usize, v: Reading) -> bool
+    requires { ⌜ at < 4294967296 ⌝ }
+    ensures { λ r. ⌜ r ≡ (goodPartition k && (goodOffset at v && withinTerm limit v)) ⌝ }
+{
+    if !argument::good_place(k, at, v) {
+        return false;
+    }
+    argument::within_term(limit, v)
+}
+
+// How far whole frames reach from an offset, at most to the limit: any number up to the term length.
+pub fn scan(rec: LogRecord, log: &[u8], partition: i32, offset: i32, limit: i32) -> Scanned
+    ensures { λ r. ⌜ r ≡ scanOf rec (now (log .entry)) partition offset limit ⌝ }
+{
+    let v = log_buffer_descriptor::read_active(rec);
+    let k = cast::word(partition);
+    let at = cast::word(offset);
+    let most = argument::natural(limit);
+    if !good_scan(k, at, most, v) {
+        return Scanned::Refused(Error::IllegalArgument);
+    }
+    if !log_buffer_descriptor::is_sound(v, log.len()) {
+        return Scanned::Refused(Error::IllegalRecord);
+    }
+    let term = v.term;
+    scan_frames(log, k * term, term, most, at)
+}
+
+// ---- scan_for_gap
+
+// The gap's length from a free place on: 32 at a time to the first nonzero word, or to the high mark.
+fn gap_length(log: &[u8], base: usize, term: usize, high: usize, at: usize) -> usize
+    requires { ⌜ (base + term ≤ length (now log)) × ((term ≤ 1073741824) × ((high ≤ term) × ((high % 32 ≡ 0) × ((at % 32 ≡ 0) × (at < high))))) ⌝ }
+    ensures { λ r. ⌜ r ≡ gapLength term (now (log .entry)) base high at ⌝ }
+{
+    let mut gap: usize = 32;
+    loop {
+        if high <= at + gap {
+            break;
+        }
+        if field::word4(log, base + (at + gap)) != 0 {
+            break;
+        }
+        gap = gap + 32;
+    }
+    gap
+}
+
+// The walk over frames to the first free place, or until it is at or past the high mark.
+fn gap_frames(
+    log: &[u8],
+    base: usize,
+    term: usize,
+    term_id: i32,
+    high: usize,
+    at: usize,
+) -> GapScanned
+    requires { ⌜ (base + term ≤ length (now log)) × ((term ≤ 1073741824) × ((high ≤ term) × ((high % 32 ≡ 0) × ((at % 32 ≡ 0) × (at < term))))) ⌝ }
+    ensures { λ r. ⌜ r ≡ gapBy (gapFound «term_id» (now (log .entry)) base term high (rebuild term (now (log .entry)) base term high at)) (cond (isUnsound (frameAt (drop (base + at) (now (log .entry))) (term - at))) (Refuse UnsoundFrame) Pass) ⌝ }
+{
+    let mut offset = at;
+    loop {
+        match frame_descriptor::frame_at(log, base + offset, term - offset) {
+            Frame::Absent => {
+                break;
+            }
+            Frame::Unsound => {
+                if offset == at {
+                    return GapScanned::Refused(Error::UnsoundFrame);
+                }
+                return GapScanned::NoGap(offset);
+            }
+            Frame::Padding(n) => {
+                offset = offset + (n + 31) / 32 * 32;
+                if high <= offset {
+                    return GapScanned::NoGap(offset);
+                }
+            }
+            Frame::Data(n) => {
+                offset = offset + (n + 31) / 32 * 32;
+                if high <= offset {
+                    return GapScanned::NoGap(offset);
+                }
+            }
+        }
+    }
+    if high <= offset {
+        return GapScanned::NoGap(offset);
+    }
+    GapScanned::Gap(term_id, offset, gap_length(log, base, term, high, offset))
+}
+
+// Row 1 of `scan_for_gap`.
+fn good_gap(k: usize, at: usize, mark: usize, v: Reading) -> bool
+    requires { ⌜ at < 4294967296 ⌝ }
+    ensures { λ r. ⌜ r ≡ (goodPartition k && (goodOffset at v && (eqb (mark % 32) 0 && withinTerm mark v))) ⌝ }
+{
+    if !argument::good_place(k, at, v) {
+        return false;
+    }
+    if mark % 32 != 0 {
+        return false;
+    }
+    argument::within_term(mark, v)
+}
+
+// The first gap from an offset on, before a high mark: a multiple of 32 up to the term length. The term id is handed back.
+pub fn scan_for_gap(
+    rec: LogRecord,
+    log: &[u8],
+    partition: i32,
+    term_id: i32,
+    offset: i32,
+    high: i32,
+) -> GapScanned
+    ensures { λ r. ⌜ r ≡ gapOf rec (now (log .entry)) partition «term_id» offset high ⌝ }
+{
+    let v = log_buffer_descriptor::read_active(rec);
+    let k = cast::word(partition);
+    let at = cast::word(offset);
+    let mark = cast::word(high);
+    if !good_gap(k, at, mark, v) {
+        return GapScanned::Refused(Error::IllegalArgument);
+    }
+    if !log_buffer_descriptor::is_sound(v, log.len()) {
+        return GapScanned::Refused(Error::IllegalRecord);
+    }
+    let term = v.term;
+    gap_frames(log, k * term, term, term_id, mark, at)
+}
+
+// ---- scan_for_availability
+
+// The two numbers as one.
+fn outcome(available: usize, padding: usize) -> AvailabilityScanned
+    requires { ⌜ (available ≤ 1073741824) × (padding ≤ 1073741824) ⌝ }
+    ensures { λ r. ⌜ r ≡ outcomeOf available padding ⌝ }
+{
+    AvailabilityScanned::Outcome((padding * 4294967296 + available) as i64)
+}
+
+// Frames passed up to the maximum, and the padding behind the last padding frame's header; the walk goes on inside a padding frame.
+fn available_frames(
+    log: &[u8],
+    base: usize,
+    term: usize,
+    at: usize,
+    most: usize,
+) -> AvailabilityScanned
+    requires { ⌜ (base + term ≤ length (now log)) × ((term ≤ 1073741824) × ((at < term) × (most ≤ term - at))) ⌝ }
+    ensures { λ r. ⌜ r ≡ availabilityBy (availableFrom term (now (log .entry)) base term at most 0 0) (cond (isUnsound (frameAt (drop (base + at) (now (log .entry))) (term - at))) (Refuse UnsoundFrame) Pass) ⌝ }
+{
+    let mut available: usize = 0;
+    let mut padding: usize = 0;
+    loop {
+        match frame_descriptor::frame_at(log, base + (at + available), term - (at + available)) {
+            Frame::Absent => {
+                break;
+            }
+            Frame::Unsound => {
+                if available == 0 {
+                    return AvailabilityScanned::Refused(Error::UnsoundFrame);
+                }
+                return outcome(available, padding);
+            }
+            Frame::Padding(n) => {
+                if most < available + 32 {
+                    return outcome(available, 0);
+                }
+                available = available + 32;
+                padding = (n + 31) / 32 * 32 - 32;
+                if most <= available + padding {
+                    return outcome(available, padding);
+                }
+            }
+            Frame::Data(n) => {
+                let size = (n + 31) / 32 * 32;
+                if most < available + size {
+                    return outcome(available, 0);
+                }
+                available = available + size;
+                if most <= available + padding {
+                    return outcome(available, padding);
+                }
+            }
+        }
+    }
+    outcome(available, padding)
+}
+
+// The smaller of a maximum and what is left of a term.
+fn at_most(maximum: usize, left: usize) -> usize
+    ensures { λ r. ⌜ r ≡ min maximum left ⌝ }
+{
+    if maximum < left { maximum } else { left }
+}
+
+// What is available from an offset on, at most a maximum: any number, cut to what is left of the term.
+pub fn scan_for_availability(
+    rec: LogRecord,
+    log: &[u8],
+    partition: i32,
+    offset: i32,
+    maximum: i32,
+) -> AvailabilityScanned
+    ensures { λ r. ⌜ r ≡ availabilityOf rec (now (log .entry)) partition offset maximum ⌝ }
+{
+    let v = log_buffer_descriptor::read_active(rec);
+    let k = cast::word(partition);
+    let at = cast::word(offset);
+    let most = argument::natural(maximum);
+    if !argument::good_place(k, at, v) {
+        return AvailabilityScanned::Refused(Error::IllegalArgument);
+    }
+    if !log_buffer_descriptor::is_sound(v, log.len()) {
+        return AvailabilityScanned::Refused(Error::IllegalRecord);
+    }
+    let term = v.term;
+    available_frames(log, k * term, term, at, at_most(most, term - at))
+}

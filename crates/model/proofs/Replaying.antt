@@ -1,0 +1,608 @@
+-- Any replay of a log of frames comes to an end, having taken in what the frames hold up to the first claim still open.
+use mathlib.Core.Path.{_≡_, refl, sym, ap, ap₂, _∙_, subst}
+use mathlib.Core.Bool.{Bool, true, false, cond, not, _&&_}
+use mathlib.Core.Logic.{_⊎_, inl, inr, ⊎-elim}
+use Prim.Native.Nat.{ℕ, zero, suc, _+_, _-_, _*_, _/_, _%_, _≤_, _<_}
+use native.Mathlib.Nat.{zero-add, le-refl, mod-lt, div-add-mod', div-lt-iff-lt-mul, mod-eq-of-lt, mul-left-comm}
+use mathlib.Core.List.{List, [], _∷_, _++_, append-assoc, append-nil}
+use native.Mathlib.Omega.{arith}
+use borrow.Author.Tests.{le-leb, lt-leb, eq-eqb}
+use lib.Dec.{leb, ltb, eqb}
+use lib.ListN.{length, take, drop, getD, replicate, length-append}
+use lib.Seq.{drop-at}
+use lib.Arith.{digits-mod}
+use lib.IntN.{ℤ, pos}
+use Rattle.model.specs.declared.LogRecord.{LogRecord}
+use Rattle.model.specs.declared.Frame.{Frame}
+use Rattle.model.specs.declared.Polled.{Polled}
+use Rattle.model.specs.declared.Polled.the-variants.{Fragments, Refused as PollRefused}
+use Rattle.model.specs.declared.Replayed.{Replayed as Given}
+use Rattle.model.specs.declared.Replayed.the-variants.{InLog, InBuffer, End, Refused as ReplayRefused}
+use Rattle.model.specs.declared.Assembled.{Assembled}
+use Rattle.model.specs.declared.Assembled.the-variants.{Nothing, Fragment, Message, Refused as AssemblyRefused}
+use Rattle.model.specs.declared.Error.{Error}
+use Rattle.model.specs.declared.ReadVerdict.{ReadVerdict}
+use Rattle.model.specs.declared.ReadVerdict.the-variants.{Read, Closed, Refuse}
+use Rattle.model.specs.declared.Error.the-variants.{IllegalArgument, IllegalRecord, PositionOutOfRange, UnsoundFrame}
+use Rattle.model.specs.Bytes.{zeros, long}
+use Rattle.model.specs.FrameDescriptor.{frameAt, isUnsound}
+use Rattle.model.specs.LogBufferDescriptor.{partitionOf, reading, greatest, sound, Sound}
+use Rattle.model.specs.TermReader.{Walked, walk, natural, goodEntries, numbers, laid, firstUnsound}
+use Rattle.model.specs.Image.{Image, newImage, readable, pollVerdict, PollReply, pollReply, pollOf}
+use Rattle.model.specs.FragmentAssembler.{Assembly, assembleOf}
+use Rattle.model.specs.Replay.{Replaying, handedOut, after, feed, feedAll, entriesOf, withImage, round, start, Polls, rounds, Quiet, ReplayState, NextReply, giving, givenBy, assembledTo, pollOne, turnBy, nextFrom, nextOf, messageBy, replayed}
+use Rattle.model.specs.History.{Shape, shapeOf, World, State, open·, committed, aborted}
+use Rattle.model.specs.Demand.{Allowed, Replayed, GivesAll}
+use Rattle.model.proofs.Sound.{term-32}
+use Rattle.model.proofs.Choice.{cond-true, cond-false, both-true, split, same?, eq-yes, eq-no}
+use Rattle.model.proofs.Cells.{Cell, cell, flen, fsize, enc, bytes, sizes, length-bytes, bytes-append, sizes-append, flen-ge, fsize-ge, sizes-32}
+use Rattle.model.proofs.Walking.{Small, AllSmall, norm, Fits, Clear, seen, entsOf, Goes, goes, Stuck, moves, see-here, see-end, few}
+use Rattle.model.proofs.OneSession.{fragsOf, Asm, empty, takes-in, takes-append, takes-lost, takes-grow}
+use Rattle.model.proofs.Assembling.{fresh-same}
+use Rattle.model.proofs.Feeding.{feedEach, feed-all, Like, all-fed, one-lost}
+
+-- ---- rooms
+
+pub norm-pos : (T r : ℕ) → zero < r → norm T r ≡ r
+unfolding norm
+norm-pos T zero h = absurd (omega arith)
+norm-pos T (suc r) h = refl
+
+pub room-next : (T p s : ℕ) → zero < T → s ≤ T - p % T → norm T (T - p % T - s) ≡ T - (p + s) % T
+unfolding norm
+room-next T p s t h =
+    let r : p % T < T = mod-lt p t in
+    let e : p / T * T + p % T ≡ p = div-add-mod' p T in
+    split (T - p % T) s
+    (λ k.
+    let full : p + s ≡ (p / T + 1) * T + 0 = omega arith in
+    let z : (p + s) % T ≡ 0 = ap (λ (n : ℕ). n % T) full ∙ digits-mod (p / T + 1) t in
+    let none : T - p % T - s ≡ 0 = omega arith in
+    ap (norm T) none ∙ omega arith)
+    (λ k.
+    let part : p + s ≡ p / T * T + (p % T + s) = omega arith in
+    let z : (p + s) % T ≡ p % T + s = ap (λ (n : ℕ). n % T) part ∙ digits-mod (p / T) (omega arith) in
+    norm-pos T (T - p % T - s) (omega arith) ∙ omega arith)
+
+pub fits-back : (T p : ℕ) (fs gs : List Cell) → zero < T → Fits T (T - p % T) (fs ++ gs) → Fits T (T - (p + sizes fs) % T) gs
+unfolding Fits sizes
+fits-back T p [] gs t h = subst (λ (q : ℕ). Fits T (T - q % T) gs) (omega arith) h
+fits-back T p (f ∷ fs) gs t h =
+    subst (λ (q : ℕ). Fits T (T - q % T) gs) (omega arith)
+    (fits-back T (p + fsize f) fs gs t (subst (λ (r : ℕ). Fits T r (fs ++ gs)) (room-next T p (fsize f) t (h .1)) (h .2)))
+
+fits-small : (T r : ℕ) (fs gs : List Cell) → Fits T r (fs ++ gs) → AllSmall fs
+unfolding Fits AllSmall
+fits-small T r [] gs h = tt
+fits-small T r (f ∷ fs) gs h = (h .0, fits-small T (norm T (r - fsize f)) fs gs (h .2))
+
+-- within the first three terms a position is its own place
+pub place-is : (T p : ℕ) → zero < T → p < 3 * T → partitionOf p T * T + p % T ≡ p
+place-is T p t h =
+    ap (λ (k : ℕ). k * T + p % T) (mod-eq-of-lt {n = p / T} {m = 3} (div-lt-iff-lt-mul t .1 h)) ∙ div-add-mod' p T
+
+-- ---- lists of frames
+
+clear-append : (fs gs : List Cell) → Clear fs → Clear gs → Clear (fs ++ gs)
+unfolding Clear
+clear-append [] gs h k = k
+clear-append (cell open· fl re b ∷ fs) gs h k = h
+clear-append (cell committed fl re b ∷ fs) gs h k = clear-append fs gs h k
+clear-append (cell aborted fl re b ∷ fs) gs h k = clear-append fs gs h k
+
+frags-append : (fs gs : List Cell) → Clear fs → fragsOf (fs ++ gs) ≡ fragsOf fs ++ fragsOf gs
+unfolding Clear fragsOf
+frags-append [] gs h = refl
+frags-append (cell open· fl re b ∷ fs) gs h = absurd h
+frags-append (cell committed fl re b ∷ fs) gs h = ap {B = List (ℕ × List ℕ)} (λ (r : List (ℕ × List ℕ)). (fl, b) ∷ r) (frags-append fs gs h)
+frags-append (cell aborted fl re b ∷ fs) gs h = frags-append fs gs h
+
+frags-stuck : (fs : List Cell) → Stuck fs → fragsOf fs ≡ []
+unfolding Stuck fragsOf
+frags-stuck [] h = refl
+frags-stuck (cell open· fl re b ∷ fs) h = refl
+frags-stuck (cell committed fl re b ∷ fs) h = absurd h
+frags-stuck (cell aborted fl re b ∷ fs) h = absurd h
+
+sizes-some : (fs : List Cell) → ¬ (sizes fs ≡ 0) → zero < length fs
+unfolding sizes
+sizes-some [] h = absurd (h refl)
+sizes-some (f ∷ fs) h = omega arith
+
+sizes-zero : (fs : List Cell) → sizes fs ≡ 0 → fs ≡ []
+unfolding sizes
+sizes-zero [] h = refl
+sizes-zero (f ∷ fs) h = absurd (omega (arith, fsize-ge f, flen-ge f))
+
+pub mul-32 : (k t : ℕ) → t % 32 ≡ 0 → k * t % 32 ≡ 0
+mul-32 k t h =
+    let e : t ≡ 32 * (t / 32) = omega arith in
+    let f : k * t ≡ 32 * (k * (t / 32)) = ap (λ (x : ℕ). k * x) e ∙ mul-left-comm k 32 (t / 32) in
+    omega arith
+
+never-unsound : (f : Cell) → isUnsound (seen f) ≡ false
+unfolding seen
+never-unsound (cell open· fl re b) = refl
+never-unsound (cell committed fl re b) = refl
+never-unsound (cell aborted fl re b) = refl
+
+neither : (a b x : Bool) → x ≡ false → (a && (b && x)) ≡ false
+neither true true x e = e
+neither true false x e = refl
+neither false b x e = refl
+
+module _ (r : LogRecord) (log : List ℕ) (snd : Sound (reading r) (length log)) (good : sound (reading r) (length log) ≡ true) where
+  abbrev T : ℕ
+  T = reading r .term
+
+  abbrev c· : Shape
+  c· = shapeOf (reading r)
+
+  module _ (fs : List Cell) (z : ℕ) (e : log ≡ bytes c· 0 fs ++ zeros z) (fits : Fits T T fs) (short : sizes fs < 3 * T) where
+    t : zero < T
+    t = omega (arith, snd .term-low)
+
+    -- what lies behind a front of the frames
+    rest : (front back : List Cell) → fs ≡ front ++ back → drop (sizes front) log ≡ bytes c· (sizes front) back ++ zeros z
+    rest front back q =
+        ap (drop (sizes front))
+        (e ∙ ap (λ (l : List Cell). bytes c· 0 l ++ zeros z) q ∙ ap (λ (l : List ℕ). l ++ zeros z) (bytes-append c· 0 front back)
+        ∙ append-assoc (bytes c· 0 front) (bytes c· (0 + sizes front) back) (zeros z))
+        ∙ drop-at (bytes c· 0 front) (bytes c· (0 + sizes front) back ++ zeros z) (sizes front) (length-bytes c· 0 front)
+        ∙ ap (λ (n : ℕ). bytes c· n back ++ zeros z) (zero-add (sizes front))
+
+    fits-at : (front back : List Cell) → fs ≡ front ++ back → Fits T (T - sizes front % T) back
+    fits-at front back q =
+        let full : T ≡ T - 0 % T = omega (arith, mod-eq-of-lt t) in
+        subst (λ (n : ℕ). Fits T (T - n % T) back) (zero-add (sizes front))
+        (fits-back T 0 front back t (subst (Fits T (T - 0 % T)) q (subst (λ (r : ℕ). Fits T r fs) full fits)))
+
+    abbrev base : ℕ → ℕ
+    base p = partitionOf p T * T
+
+    below : (front back : List Cell) → fs ≡ front ++ back → sizes front < 3 * T
+    below front back q = omega (arith, ap sizes q, sizes-append front back)
+
+    here : (front back : List Cell) → fs ≡ front ++ back → base (sizes front) + sizes front % T ≡ sizes front
+    here front back q = place-is T (sizes front) t (below front back q)
+
+    rest-at : (front back : List Cell) → fs ≡ front ++ back
+        → drop (base (sizes front) + sizes front % T) log ≡ bytes c· (base (sizes front) + sizes front % T) back ++ zeros z
+    rest-at front back q = subst (λ (p : ℕ). drop p log ≡ bytes c· p back ++ zeros z) (sym (here front back q)) (rest front back q)
+
+    roomy : (p : ℕ) → zero < T - p % T
+    roomy p = omega (arith, mod-lt p t)
+
+    abbrev walked : ℕ → ℕ → Walked
+    walked p lim = walk T log (base p) T T (p % T) lim []
+
+    walks : (front back : List Cell) (lim : ℕ) → fs ≡ front ++ back → Goes T (sizes front % T) back (walked (sizes front) lim)
+    walks front back lim q =
+        goes c· T z (base (sizes front)) log T (sizes front % T) lim back (rest-at front back q)
+        (subst (λ (r : ℕ). Fits T r back) (sym (norm-pos T (T - sizes front % T) (roomy (sizes front)))) (fits-at front back q))
+
+    -- a walk that does not move stands before what is free or being written
+    stops : (front back : List Cell) (lim : ℕ) → fs ≡ front ++ back → zero < lim → walked (sizes front) lim .moved ≡ 0 → Stuck back
+    stops front back lim q l m =
+        moves c· T z (base (sizes front)) log T (sizes front % T) lim back t (mod-lt (sizes front) t) l (rest-at front back q) (fits-at front back q) m
+
+    -- ---- the poll reads
+
+    sees : (front back : List Cell) → fs ≡ front ++ back → isUnsound (frameAt (drop (base (sizes front) + sizes front % T) log) (T - sizes front % T)) ≡ false
+    unfolding Fits
+    sees front [] q = ap isUnsound (see-end c· T z (base (sizes front)) log (sizes front % T) (T - sizes front % T) (rest-at front [] q))
+    sees front (f ∷ back) q =
+        let h = fits-at front (f ∷ back) q in
+        ap isUnsound (see-here c· T z (base (sizes front)) log (sizes front % T) (T - sizes front % T) f back (rest-at front (f ∷ back) q) (h .0) (h .1)) ∙ never-unsound f
+
+    module _ (session : ℤ) (front back : List Cell) (q : fs ≡ front ++ back) (slots : List ℤ) (limit : ℤ) (lent : goodEntries (length slots) (natural limit) ≡ true) where
+      abbrev image : Image
+      image = newImage (pos (sizes front)) session
+
+      abbrev p· : ℕ
+      p· = sizes front
+
+      reads : pollVerdict (reading r) log image (goodEntries (length slots) (natural limit)) T (natural limit) ≡ Read
+      unfolding pollVerdict readable
+      reads =
+          cond-false (not (goodEntries (length slots) (natural limit))) (Refuse IllegalArgument) _ (ap not lent)
+          ∙ cond-false (not (sound (reading r) (length log))) (Refuse IllegalRecord) _ (ap not good)
+          ∙ cond-false (not (leb p· (greatest (reading r)) && eqb (p· % 32) 0)) (Refuse PositionOutOfRange) _
+          (ap not (both-true (le-leb p· (greatest (reading r)) (omega (arith, below front back q))) (eq-eqb (p· % 32) 0 (sizes-32 front))))
+          ∙ cond-false (firstUnsound log (base p·) T T (p· % T) (natural limit)) (Refuse UnsoundFrame) Read
+          (neither (ltb (p· % T) T) (ltb 0 (natural limit)) _ (sees front back q))
+
+      polls : pollOf r log image slots limit ≡ pollReply image slots (walked p· (natural limit)) Read
+      unfolding pollOf
+      polls = ap (pollReply image slots (walked p· (natural limit))) reads
+
+    -- ---- where a replay stands: over the frames `front`, all taken in
+
+    module _ (session : ℤ) (buffer : List ℕ) (small : length buffer ≤ 2147483647) where
+      abbrev part : ℕ
+      part = length buffer / 16
+
+      pub record Stands (p : Replaying) (front back : List Cell) : Type 0 where
+        pub cut : fs ≡ front ++ back
+        pub clear : Clear front
+        pub image : p .image ≡ newImage (pos (sizes front)) session
+        pub like : Like r log snd good (length buffer) p (takes-in part empty (fragsOf front))
+
+      -- one poll more
+      module _ (p : Replaying) (front back : List Cell) (s : Stands p front back) (slots : List ℤ) (limit : ℤ) (lent : goodEntries (length slots) (natural limit) ≡ true) where
+        abbrev w : Goes T (sizes front % T) back (walked (sizes front) (natural limit))
+        w = walks front back (natural limit) (s .cut)
+
+        abbrev reply : PollReply
+        reply = pollReply (newImage (pos (sizes front)) session) slots (walked (sizes front) (natural limit)) Read
+
+        polled : pollOf r log (p .image) slots limit ≡ reply
+        polled = ap (λ (i : Image). pollOf r log i slots limit) (s .image) ∙ polls session front back (s .cut) slots limit lent
+
+        onward : fs ≡ (front ++ w .front) ++ w .back
+        onward = s .cut ∙ ap (λ (l : List Cell). front ++ l) (w .cut) ∙ sym (append-assoc front (w .front) (w .back))
+
+        abbrev k : ℕ
+        k = partitionOf (sizes front) T
+
+        -- the image after the poll
+        next : Image
+        next = newImage (pos (sizes (front ++ w .front))) session
+
+        moved-on : reply .next ≡ next
+        unfolding next
+        moved-on = ap (λ (n : ℕ). newImage (pos n) session) (ap (λ (n : ℕ). sizes front + n) (w .moved) ∙ sym (sizes-append front (w .front)))
+
+        round-is : round r log limit slots p ≡ feedEach r log snd good k (entsOf (sizes front % T) (w .front)) (withImage p next)
+        unfolding round laid
+        round-is =
+            ap₂ (λ (i : Image) (y : PollReply). feedAll r log (partitionOf (long (i .position)) T) (entriesOf (y .answer)) (y .slots) (withImage p (y .next))) (s .image) polled
+            ∙ ap (λ (i : Image). feedAll r log k (entriesOf (reply .answer)) (reply .slots) (withImage p i)) moved-on
+            ∙ feed-all r log snd good k (walked (sizes front) (natural limit) .entries) (drop (2 * length (walked (sizes front) (natural limit) .entries)) slots) (withImage p next)
+            ∙ ap (λ (es : List (ℕ × ℕ)). feedEach r log snd good k es (withImage p next)) (w .entries)
+
+        lies : drop (k * T + sizes front % T) log ≡ bytes c· (k * T + sizes front % T) (w .front) ++ (bytes c· (k * T + sizes front % T + sizes (w .front)) (w .back) ++ zeros z)
+        lies =
+            rest-at front back (s .cut) ∙ ap (λ (l : List Cell). bytes c· (k * T + sizes front % T) l ++ zeros z) (w .cut)
+            ∙ ap (λ (l : List ℕ). l ++ zeros z) (bytes-append c· (k * T + sizes front % T) (w .front) (w .back))
+            ∙ append-assoc (bytes c· (k * T + sizes front % T) (w .front)) (bytes c· (k * T + sizes front % T + sizes (w .front)) (w .back)) (zeros z)
+
+        offset-32 : sizes front % T % 32 ≡ 0
+        offset-32 =
+            let e : partitionOf (sizes front) T * T + sizes front % T ≡ sizes front = here front back (s .cut) in
+            let m : k * T % 32 ≡ 0 = mul-32 k T (term-32 (reading r) (length log) snd) in
+            omega (arith, sizes-32 front)
+
+        fed : Like r log snd good (length buffer) (feedEach r log snd good k (entsOf (sizes front % T) (w .front)) (withImage p next)) (takes-in part (takes-in part empty (fragsOf front)) (fragsOf (w .front)))
+            × (feedEach r log snd good k (entsOf (sizes front % T) (w .front)) (withImage p next) .image ≡ next)
+        fed =
+            all-fed r log snd good (length buffer) k small (third (sizes front)) (sizes front % T) (w .front) (bytes c· (k * T + sizes front % T + sizes (w .front)) (w .back) ++ zeros z)
+            (withImage p next) (takes-in part empty (fragsOf front)) offset-32 (w .clear)
+            (fits-small T (T - sizes front % T) (w .front) (w .back) (subst (Fits T (T - sizes front % T)) (w .cut) (fits-at front back (s .cut))))
+            (w .within) lies (record { same = s .like .same; out = s .like .out })
+          where
+            third : (n : ℕ) → partitionOf n T ≤ 2
+            third n = let l : n / T % 3 < 3 = mod-lt (n / T) (omega arith) in omega arith
+
+        on : Stands (round r log limit slots p) (front ++ w .front) (w .back)
+        unfolding next
+        on =
+            record {
+              cut = onward;
+              clear = clear-append front (w .front) (s .clear) (w .clear);
+              image = ap (λ (x : Replaying). x .image) round-is ∙ fed .1;
+              like = subst (λ (x : Replaying). Like r log snd good (length buffer) x (takes-in part empty (fragsOf (front ++ w .front)))) (sym round-is)
+                  (subst (Like r log snd good (length buffer) (feedEach r log snd good k (entsOf (sizes front % T) (w .front)) (withImage p next)))
+                  (sym (takes-append part empty (fragsOf front) (fragsOf (w .front))) ∙ ap (takes-in part empty) (sym (frags-append front (w .front) (s .clear)))) (fed .0));
+            }
+
+      shorter : (n : ℕ) (front back : List Cell) (q : fs ≡ front ++ back) → ¬ (walked (sizes front) n .moved ≡ 0) → length (walks front back n q .back) < length back
+      shorter n front back q m =
+          let v = walks front back n q in
+          omega (arith, ap length (v .cut), length-append (v .front) (v .back), sizes-some (v .front) (λ k. m (v .moved ∙ k)))
+
+      -- one that stands before what is free or being written has taken in all there is
+      complete : (p : Replaying) (front back : List Cell) → Stands p front back → Stuck back → p .out ≡ takes-in part empty (fragsOf fs) .out
+      complete p front back s stop =
+          s .like .out
+          ∙ ap (λ (l : List (ℕ × List ℕ)). takes-in part empty l .out)
+          (sym (append-nil (fragsOf front)) ∙ ap (λ (l : List (ℕ × List ℕ)). fragsOf front ++ l) (sym (frags-stuck back stop)) ∙ sym (frags-append front back (s .clear)) ∙ ap fragsOf (sym (s .cut)))
+
+      module _ (ps : Polls) (allowed : Allowed ps) where
+        abbrev at : ℕ → Replaying
+        at n = rounds r log ps (start session buffer) n
+
+        stands : (n : ℕ) → (front : List Cell) × (back : List Cell) × Stands (at n) front back
+        unfolding rounds Clear sizes fragsOf takes-in
+        stands zero = ([], fs, record { cut = refl; clear = tt; image = refl; like = record { same = fresh-same c· buffer; out = refl } })
+        stands (suc n) =
+            let g = stands n in (
+              g .0 ++ walks (g .0) (g .1) (natural (ps .limit n)) (g .2 .cut) .front,
+              walks (g .0) (g .1) (natural (ps .limit n)) (g .2 .cut) .back,
+              on (at n) (g .0) (g .1) (g .2) (ps .slots n) (ps .limit n) (allowed .slots n),
+            )
+
+        -- a walk that does not move is quiet
+        quiet : (n : ℕ) (front back : List Cell) → Stands (at n) front back → walked (sizes front) (natural (ps .limit n)) .moved ≡ 0 → Quiet r log ps (start session buffer) n
+        unfolding entsOf
+        quiet n front back s m =
+            let v = walks front back (natural (ps .limit n)) (s .cut) in
+            let none : walked (sizes front) (natural (ps .limit n)) .entries ≡ [] = v .entries ∙ ap (entsOf (sizes front % T)) (sizes-zero (v .front) (sym (v .moved) ∙ m)) in
+            let q = polled (at n) front back s (ps .slots n) (ps .limit n) (allowed .slots n) in
+            record {
+              comes = ap (λ (y : PollReply). y .answer) q ∙ ap₂ Fragments (v .fragments ∙ ap length none) (ap length none);
+              moves = ap (λ (y : PollReply). y .next) q ∙ ap (λ (k : ℕ). newImage (pos k) session) (ap (λ (k : ℕ). sizes front + k) m ∙ omega arith) ∙ sym (s .image);
+            }
+
+        seek : (k n : ℕ) (front back : List Cell) → Stands (at n) front back → length back ≤ k → (m : ℕ) × Quiet r log ps (start session buffer) m
+        unfolding rounds
+        seek zero n front back s h =
+            same? (walked (sizes front) (natural (ps .limit n)) .moved) 0 (λ m. (n, quiet n front back s m))
+            (λ m. absurd (omega (arith, shorter (natural (ps .limit n)) front back (s .cut) m)))
+        seek (suc k) n front back s h =
+            same? (walked (sizes front) (natural (ps .limit n)) .moved) 0 (λ m. (n, quiet n front back s m))
+            (λ m. seek k (suc n) (front ++ walks front back (natural (ps .limit n)) (s .cut) .front) (walks front back (natural (ps .limit n)) (s .cut) .back)
+            (on (at n) front back s (ps .slots n) (ps .limit n) (allowed .slots n)) (omega (arith, shorter (natural (ps .limit n)) front back (s .cut) m)))
+
+        finishes : (n : ℕ) × Quiet r log ps (start session buffer) n
+        finishes = let g = stands 0 in seek (length (g .1)) 0 (g .0) (g .1) (g .2) (le-refl (length (g .1)))
+
+        -- a quiet poll did not move
+        stays : (n : ℕ) (front back : List Cell) → Stands (at n) front back → Quiet r log ps (start session buffer) n → walked (sizes front) (natural (ps .limit n)) .moved ≡ 0
+        stays n front back s q =
+            let m : sizes front + walked (sizes front) (natural (ps .limit n)) .moved ≡ sizes front =
+            ap (λ (i : Image). long (i .position)) (ap (λ (y : PollReply). y .next) (sym (polled (at n) front back s (ps .slots n) (ps .limit n) (allowed .slots n))) ∙ q .moves ∙ s .image) in
+            omega arith
+
+        told : (n : ℕ) → Quiet r log ps (start session buffer) n → at n .out ≡ takes-in part empty (fragsOf fs) .out
+        told n q =
+            let g = stands n in
+            complete (at n) (g .0) (g .1) (g .2) (stops (g .0) (g .1) (natural (ps .limit n)) (g .2 .cut) (allowed .some n) (stays n (g .0) (g .1) (g .2) q))
+
+      pub replays : (ms : List (List ℕ)) → takes-in part empty (fragsOf fs) .out ≡ ms → Replayed (record { record· = r; log = log }) session buffer ms
+      replays ms m = record { finish = λ ps allowed. finishes ps allowed; exact = λ ps allowed n q. told ps allowed n q ∙ m }
+
+      -- ---- message by message: polls of one fragment
+
+      abbrev two : List ℤ
+      two = replicate 2 (pos 0)
+
+      lent-two : goodEntries (length two) (natural (pos 1)) ≡ true
+      lent-two = refl
+
+      abbrev state : Replaying → ReplayState
+      state p = record { image = p .image; sessions = p .sessions; buffer = p .buffer }
+
+      -- the replay that a poll of one fragment leads to
+      abbrev onto : Replaying → Replaying
+      onto p = round r log (pos 1) two p
+
+      -- what a call says: the end, with all given, or a message, and then it stands further on
+      record Onward (p : Replaying) (back : List Cell) (y : NextReply) : Type 0 where
+        at : Replaying
+        front′ : List Cell
+        back′ : List Cell
+        stands-on : Stands at front′ back′
+        less : length back′ < length back
+        is : y .next ≡ state at
+        message : List ℕ
+        gives : (rest : List (List ℕ)) → messageBy log (y .next) (y .answer) rest ≡ message ∷ rest
+        grown : at .out ≡ p .out ++ (message ∷ [])
+
+      abbrev Said : Replaying → List Cell → NextReply → Type 0
+      Said p back y = ((y .answer ≡ End) × (p .out ≡ takes-in part empty (fragsOf fs) .out)) ⊎ Onward p back y
+
+      -- from where nothing was given yet, and with more left
+      said-on : (p q : Replaying) (back back′ : List Cell) (y : NextReply) → q .out ≡ p .out → length back′ ≤ length back → Said q back′ y → Said p back y
+      said-on p q back back′ y e l (inl x) = inl (x .0, sym e ∙ x .1)
+      said-on p q back back′ y e l (inr x) =
+          inr (record { at = x .at; front′ = x .front′; back′ = x .back′; stands-on = x .stands-on; less = omega (arith, x .less); is = x .is; message = x .message; gives = x .gives; grown = x .grown ∙ ap (λ (o : List (List ℕ)). o ++ (x .message ∷ [])) e })
+
+      -- the turn, by the poll's reply at a position
+      abbrev turning : ReplayState → ℕ → PollReply → Polled → (ReplayState → NextReply) → NextReply
+      turning s q y (PollRefused e) go = giving s (ReplayRefused e)
+      turning s q y (Fragments n m) go =
+          cond (leb (3 * T) q) (giving s End)
+          (cond (eqb m 0)
+          (cond (eqb (long (y .next .position)) q) (giving s End) (go (record { image = y .next; sessions = s .sessions; buffer = s .buffer })))
+          (givenBy (partitionOf q T * T)
+          (assembledTo (y .next) (assembleOf r log (s .sessions) (s .buffer) (pos (partitionOf q T)) (pos (natural (getD (y .slots) 0 (pos 0)) - 32))))
+          (assembleOf r log (s .sessions) (s .buffer) (pos (partitionOf q T)) (pos (natural (getD (y .slots) 0 (pos 0)) - 32)) .answer) go))
+
+      turn-is : (s : ReplayState) (x : Polled) (go : ReplayState → NextReply) → turnBy r log s x go ≡ turning s (long (s .image .position)) (pollOne r log (s .image)) x go
+      turn-is s (PollRefused e) go = refl
+      turn-is s (Fragments n m) go = refl
+
+      module _ (kept : takes-in part empty (fragsOf fs) .lost ≡ false) (p : Replaying) (front back : List Cell) (s : Stands p front back) (go : ReplayState → NextReply) where
+        abbrev v : Goes T (sizes front % T) back (walked (sizes front) 1)
+        v = walks front back 1 (s .cut)
+
+        abbrev q· : ℕ
+        q· = sizes front
+
+        abbrev reply· : PollReply
+        reply· = pollReply (newImage (pos (sizes front)) session) two (walked (sizes front) 1) Read
+
+        -- the poll's reply, where the replay stands
+        turns : turnBy r log (state p) (pollOne r log (p .image) .answer) go ≡ turning (state p) q· reply· (reply· .answer) go
+        turns =
+            turn-is (state p) (pollOne r log (p .image) .answer) go
+            ∙ ap₂ (λ (i : Image) (y : PollReply). turning (state p) (long (i .position)) y (y .answer) go) (s .image) (polled p front back s two (pos 1) lent-two)
+
+        inside : {X : Type 0} (x y : X) → cond (leb (3 * T) q·) x y ≡ y
+        inside x y = cond-false (leb (3 * T) q·) x y (lt-leb (3 * T) q· (below front back (s .cut)))
+
+        abbrev p′ : Replaying
+        p′ = onto p
+
+        s′ : Stands (onto p) (front ++ v .front) (v .back)
+        s′ = on p front back s two (pos 1) lent-two
+
+        abbrev image′ : Image
+        image′ = reply· .next
+
+        next-is : next p front back s two (pos 1) lent-two ≡ image′
+        next-is = sym (moved-on p front back s two (pos 1) lent-two)
+
+        -- nothing came
+        quiet-round : walked q· 1 .entries ≡ [] → onto p ≡ withImage p image′
+        unfolding feedEach
+        quiet-round e =
+            round-is p front back s two (pos 1) lent-two
+            ∙ ap₂ (λ (es : List (ℕ × ℕ)) (i : Image). feedEach r log snd good (partitionOf q· T) es (withImage p i)) (sym (v .entries) ∙ e) next-is
+
+        -- one body came
+        one-round : (m n : ℕ) → walked q· 1 .entries ≡ (m, n) ∷ [] → onto p ≡ feed r log (partitionOf q· T) (withImage p image′) (pos m)
+        unfolding feedEach
+        one-round m n e =
+            round-is p front back s two (pos 1) lent-two
+            ∙ ap₂ (λ (es : List (ℕ × ℕ)) (i : Image). feedEach r log snd good (partitionOf q· T) es (withImage p i)) (sym (v .entries) ∙ e) next-is
+
+        less : ¬ (walked q· 1 .moved ≡ 0) → length (v .back) < length back
+        less m = shorter 1 front back (s .cut) m
+
+        -- no message came
+        none-came : walked q· 1 .entries ≡ [] → ((x : Replaying) (f b : List Cell) → Stands x f b → length b < length back → Said x b (go (state x)))
+            → Said p back (cond (eqb (q· + walked q· 1 .moved) q·) (giving (state p) End) (go (record { image = image′; sessions = p .sessions; buffer = p .buffer })))
+        none-came e ih =
+            same? (walked q· 1 .moved) 0
+            (λ m.
+            subst (Said p back) (sym (eq-yes (q· + walked q· 1 .moved) q· _ _ (omega arith))) (inl (refl, complete p front back s (stops front back 1 (s .cut) (omega arith) m))))
+            (λ m.
+            subst (Said p back) (ap (λ (x : Replaying). go (state x)) (quiet-round e) ∙ sym (eq-no (q· + walked q· 1 .moved) q· (giving (state p) End) _ (λ (z : q· + walked q· 1 .moved ≡ q·). m (omega arith))))
+            (said-on p (onto p) back (v .back) (go (state (onto p))) (ap (λ (x : Replaying). x .out) (quiet-round e)) (omega (arith, less m)) (ih (onto p) (front ++ v .front) (v .back) s′ (less m))))
+
+        -- a body came: what the assembler was given
+        abbrev a· : ℕ → Assembly
+        a· m = assembleOf r log (p .sessions) (p .buffer) (pos (partitionOf q· T)) (pos (m - 32))
+
+        came : (m n : ℕ) → walked q· 1 .entries ≡ (m, n) ∷ [] → onto p ≡ after log (partitionOf q· T * T) (withImage p image′) (a· m)
+        unfolding feed
+        came m n e = one-round m n e
+
+        -- the assembler never refuses: it would have lost a message
+        kept-all : (m n : ℕ) → walked q· 1 .entries ≡ (m, n) ∷ [] → (e : Error) → a· m .answer ≡ AssemblyRefused e → ⊥
+        kept-all m n e x h =
+            let k = partitionOf q· T in
+            let lost : takes-in part (takes-in part empty (fragsOf front)) (fragsOf (v .front)) .lost ≡ true =
+            one-lost r log snd good (length buffer) k small (third q·) (q· % T) (v .front) (bytes c· (k * T + q· % T + sizes (v .front)) (v .back) ++ zeros z) p (takes-in part empty (fragsOf front))
+            (offset-32 p front back s two (pos 1) lent-two) (v .clear)
+            (fits-small T (T - q· % T) (v .front) (v .back) (subst (Fits T (T - q· % T)) (v .cut) (fits-at front back (s .cut)))) (v .within) (lies p front back s two (pos 1) lent-two) (s .like)
+            m n (sym (v .entries) ∙ e) x h in
+            let all : takes-in part (takes-in part (takes-in part empty (fragsOf front)) (fragsOf (v .front))) (fragsOf (v .back)) .lost ≡ true = takes-lost part _ (fragsOf (v .back)) lost in
+            let same : takes-in part (takes-in part (takes-in part empty (fragsOf front)) (fragsOf (v .front))) (fragsOf (v .back)) ≡ takes-in part empty (fragsOf fs) =
+            sym (takes-append part (takes-in part empty (fragsOf front)) (fragsOf (v .front)) (fragsOf (v .back)))
+            ∙ ap (takes-in part (takes-in part empty (fragsOf front))) (sym (frags-append (v .front) (v .back) (v .clear)) ∙ ap fragsOf (sym (v .cut)))
+            ∙ sym (takes-append part empty (fragsOf front) (fragsOf back)) ∙ ap (takes-in part empty) (sym (frags-append front back (s .clear)) ∙ ap fragsOf (sym (s .cut))) in
+            let z : _≡_ {A = Bool} true false = sym all ∙ ap (λ (x : Asm). x .lost) same ∙ kept in
+            let y : _≡_ {A = ℕ} 0 1 = cc in omega arith
+          where
+            third : (n : ℕ) → partitionOf n T ≤ 2
+            third n = let l : n / T % 3 < 3 = mod-lt (n / T) (omega arith) in omega arith
+
+        one-came : (m n : ℕ) → walked q· 1 .entries ≡ (m, n) ∷ [] → ¬ (walked q· 1 .moved ≡ 0)
+            → ((x : Replaying) (f b : List Cell) → Stands x f b → length b < length back → Said x b (go (state x)))
+            → (o : Assembled) → a· m .answer ≡ o → Said p back (givenBy (partitionOf q· T * T) (assembledTo image′ (a· m)) o go)
+        one-came m n e u ih Nothing h =
+            subst (λ (x : ReplayState). Said p back (go x)) (ap state (came m n e))
+            (said-on p (onto p) back (v .back) (go (state (onto p)))
+            (ap (λ (x : Replaying). x .out) (came m n e) ∙ ap (λ (o : Assembled). p .out ++ handedOut log (partitionOf q· T * T) (a· m .buffer) o) h ∙ append-nil (p .out))
+            (omega (arith, less u)) (ih (onto p) (front ++ v .front) (v .back) s′ (less u)))
+        one-came m n e u ih (Fragment at k) h =
+            inr (record {
+              at = onto p;
+              front′ = front ++ v .front;
+              back′ = v .back;
+              stands-on = s′;
+              less = less u;
+              is = sym (ap state (came m n e));
+              message = take k (drop (partitionOf q· T * T + at) log);
+              gives = λ rest. refl;
+              grown = ap (λ (x : Replaying). x .out) (came m n e) ∙ ap (λ (o : Assembled). p .out ++ handedOut log (partitionOf q· T * T) (a· m .buffer) o) h;
+            })
+        one-came m n e u ih (Message at k) h =
+            inr (record {
+              at = onto p;
+              front′ = front ++ v .front;
+              back′ = v .back;
+              stands-on = s′;
+              less = less u;
+              is = sym (ap state (came m n e));
+              message = take k (drop at (a· m .buffer));
+              gives = λ rest. refl;
+              grown = ap (λ (x : Replaying). x .out) (came m n e) ∙ ap (λ (o : Assembled). p .out ++ handedOut log (partitionOf q· T * T) (a· m .buffer) o) h;
+            })
+        one-came m n e u ih (AssemblyRefused x) h = absurd (kept-all m n e x h)
+
+        -- what moved where a body came
+        moves-some : (m n : ℕ) (es : List (ℕ × ℕ)) → walked q· 1 .entries ≡ (m, n) ∷ es → ¬ (walked q· 1 .moved ≡ 0)
+        unfolding entsOf
+        moves-some m n es e z =
+            let none : (m, n) ∷ es ≡ [] = sym e ∙ v .entries ∙ ap (entsOf (q· % T)) (sizes-zero (v .front) (sym (v .moved) ∙ z)) in
+            let y : _≡_ {A = ℕ} 0 1 = cc in omega arith
+
+        -- one turn, by what came
+        abbrev by-entries : List (ℕ × ℕ) → NextReply
+        by-entries es =
+            cond (eqb (length es) 0)
+            (cond (eqb (q· + walked q· 1 .moved) q·) (giving (state p) End) (go (record { image = image′; sessions = p .sessions; buffer = p .buffer })))
+            (givenBy (partitionOf q· T * T)
+            (assembledTo image′ (assembleOf r log (p .sessions) (p .buffer) (pos (partitionOf q· T)) (pos (natural (getD (laid two es) 0 (pos 0)) - 32))))
+            (assembleOf r log (p .sessions) (p .buffer) (pos (partitionOf q· T)) (pos (natural (getD (laid two es) 0 (pos 0)) - 32)) .answer) go)
+
+        turns-to : turnBy r log (state p) (pollOne r log (p .image) .answer) go ≡ by-entries (walked q· 1 .entries)
+        turns-to = turns ∙ inside (giving (state p) End) (by-entries (walked q· 1 .entries))
+
+        turn-says : (es : List (ℕ × ℕ)) → walked q· 1 .entries ≡ es → ((x : Replaying) (f b : List Cell) → Stands x f b → length b < length back → Said x b (go (state x)))
+            → Said p back (turnBy r log (state p) (pollOne r log (p .image) .answer) go)
+        unfolding laid numbers
+        turn-says [] e ih = subst (Said p back) (sym (turns-to ∙ ap by-entries e)) (none-came e ih)
+        turn-says (x ∷ []) e ih =
+            subst (Said p back) (sym (turns-to ∙ ap by-entries e)) (one-came (x .0) (x .1) e (moves-some (x .0) (x .1) [] e) ih (a· (x .0) .answer) refl)
+        turn-says (x ∷ y ∷ es) e ih = absurd (omega (arith, few T log (base q·) T T (q· % T) 1, ap length e))
+
+      -- a call of `nextOf`
+      next-says : takes-in part empty (fragsOf fs) .lost ≡ false → (fuel : ℕ) (p : Replaying) (front back : List Cell) → Stands p front back → length back < fuel
+          → Said p back (nextFrom fuel r log (state p))
+      unfolding nextFrom
+      next-says kept zero p front back s l = absurd (omega arith)
+      next-says kept (suc fuel) p front back s l =
+          turn-says kept p front back s (λ x. nextFrom fuel r log x) (walked (sizes front) 1 .entries) refl
+          (λ x f b t m. next-says kept fuel x f b t (omega arith))
+
+      -- frames are at least 32 bytes, so there are no more than the log's bytes
+      few-frames : (gs : List Cell) → length gs ≤ sizes gs
+      unfolding sizes
+      few-frames [] = omega arith
+      few-frames (g ∷ gs) = omega (arith, few-frames gs, flen-ge g, fsize-ge g)
+
+      enough : (front back : List Cell) → fs ≡ front ++ back → length back < suc (3 * T)
+      enough front back q = omega (arith, few-frames back, ap sizes q, sizes-append front back)
+
+      -- what was given so far is some of it
+      least : (p : Replaying) (front back : List Cell) → Stands p front back → length (p .out) ≤ length (takes-in part empty (fragsOf fs) .out)
+      least p front back s =
+          let same : takes-in part (takes-in part empty (fragsOf front)) (fragsOf back) ≡ takes-in part empty (fragsOf fs) =
+          sym (takes-append part empty (fragsOf front) (fragsOf back)) ∙ ap (takes-in part empty) (sym (frags-append front back (s .clear)) ∙ ap fragsOf (sym (s .cut))) in
+          omega (arith, takes-grow part (takes-in part empty (fragsOf front)) (fragsOf back), ap (λ (a : Asm). length (a .out)) same, ap length (s .like .out))
+
+      all-given : (ms : List (List ℕ)) → takes-in part empty (fragsOf fs) .lost ≡ false → takes-in part empty (fragsOf fs) .out ≡ ms
+          → (most : ℕ) (p : Replaying) (front back : List Cell) → Stands p front back → length ms < length (p .out) + most → p .out ++ replayed most r log (state p) ≡ ms
+      unfolding replayed nextOf
+      all-given ms kept found zero p front back s l = absurd (omega (arith, least p front back s, ap length found))
+      all-given ms kept found (suc most) p front back s l =
+          let y = nextFrom (suc (3 * T)) r log (state p) in
+          ⊎-elim
+          (λ x. ap (λ (a : Given). p .out ++ messageBy log (y .next) a (replayed most r log (y .next))) (x .0) ∙ append-nil (p .out) ∙ x .1 ∙ found)
+          (λ x.
+          ap (λ (l : List (List ℕ)). p .out ++ l) (x .gives (replayed most r log (y .next)) ∙ ap (λ (t : ReplayState). x .message ∷ replayed most r log t) (x .is))
+          ∙ sym (append-assoc (p .out) (x .message ∷ []) (replayed most r log (state (x .at))))
+          ∙ ap (λ (o : List (List ℕ)). o ++ replayed most r log (state (x .at))) (sym (x .grown))
+          ∙ all-given ms kept found most (x .at) (x .front′) (x .back′) (x .stands-on) (omega (arith, ap length (x .grown), length-append (p .out) (x .message ∷ []))))
+          (next-says kept (suc (3 * T)) p front back s (enough front back (s .cut)))
+
+      pub gives-all : (ms : List (List ℕ)) → takes-in part empty (fragsOf fs) ≡ record { held = []; out = ms; lost = false } → GivesAll (record { record· = r; log = log }) session buffer ms
+      unfolding GivesAll Clear sizes fragsOf takes-in
+      gives-all ms m most l =
+          all-given ms (ap (λ (a : Asm). a .lost) m) (ap (λ (a : Asm). a .out) m) most (start session buffer) [] fs
+          (record { cut = refl; clear = tt; image = refl; like = record { same = fresh-same c· buffer; out = refl } }) (omega arith)

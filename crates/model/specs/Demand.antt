@@ -1,0 +1,114 @@
+-- Demand 3, word for word against its parts. `demand3` (proofs/Demand.antt) proves `Demand3`.
+--
+-- "for every list of offers, claims, lendings, writings into lent bodies of open claims, commits, aborts, limit changes and closes,
+--  refused ones included"                                        every `calls : List Call` (History), every argument
+-- "from a log fresh from our opening"                            `openOf .. .answer ≡ Done`, for every log lent to it
+-- "if the stream ends short of three full terms"                 `short`
+-- "any replay of the log so left comes to an end"                `finish`: some poll hands out nothing and moves nothing
+-- "having handed out exactly the messages of accepted offers and committed claims before the first claim still open, equal in every
+--  byte, each once, in the order of their stretches"             `exact`, with `messages` (History)
+-- "message stretches, claim stretches without one and end-of-term paddings lie end to end and add up to the publisher's position"
+--                                                                `adds-up`, with `sizeAll`: the extents' sizes, one after another
+-- "each answered position the end of its own stretch"            `ends`
+-- "Each call gets the record and log the last one left, which nobody else writes"        `left`, `answers`
+-- "lendings, commits and aborts get only claim records that claims on this log answered" `AllGiven`
+-- "A replay polls from position 0 by a fresh image, whatever the fragment limits of 1 or more, until nothing comes and nothing moves"
+--                                                                `start`, `rounds`, `Allowed`, `Quiet` (Replay)
+-- "into a fresh assembler whose parts each hold the longest fragmented message"           `start`, `Holds`
+-- "A replay's lent slices meet row 1"                            `Allowed`, and the buffer's length in `Replayed`
+use mathlib.Core.Path.{_≡_}
+use Prim.Native.Nat.{ℕ, _*_, _<_, _≤_}
+use mathlib.Core.Bool.{true}
+use mathlib.Core.List.{List, [], _∷_}
+use lib.ListN.{length}
+use lib.IntN.{ℤ, pos}
+use lib.Signed.{ltZ}
+use Rattle.model.specs.declared.LogRecord.{LogRecord}
+use Rattle.model.specs.declared.Outcome.the-variants.{Done, Refused}
+use Rattle.model.specs.declared.Offered.{Offered}
+use Rattle.model.specs.declared.Offered.the-variants.{Position as OfferPosition, Refused as OfferRefused}
+use Rattle.model.specs.declared.Claimed.{Claimed}
+use Rattle.model.specs.declared.Claimed.the-variants.{Position as ClaimPosition, Refused as ClaimRefused}
+use Rattle.model.specs.LogBufferDescriptor.{reading, publisherPosition}
+use Rattle.model.specs.Publication.{openOf, openBytes}
+use Rattle.model.specs.TermReader.{natural, goodEntries}
+use Rattle.model.specs.Image.{newImage}
+use Rattle.model.specs.FragmentAssembler.{partLength, fresh}
+use Rattle.model.specs.History.{Call, Answer, offered, claimed, outcome, World, step, answers, left, Shape, shapeOf, Extent, message, claimed·, padding, sizeAll, tell, told, messages, AllGiven}
+use Rattle.model.specs.Replay.{Replaying, Polls, start, rounds, Quiet, replayed}
+
+-- ---- the answered positions
+
+-- an answered position is the end of the history told just after the call
+abbrev pub EndOffered : ℕ → Offered → Type 0
+EndOffered size (OfferPosition p) = p ≡ pos size
+EndOffered size (OfferRefused e) = Unit {0}
+
+abbrev pub EndClaimed : ℕ → Claimed → Type 0
+EndClaimed size (ClaimPosition p k) = p ≡ pos size
+EndClaimed size (ClaimRefused e) = Unit {0}
+
+abbrev pub EndAt : ℕ → Answer → Type 0
+EndAt size (offered a) = EndOffered size a
+EndAt size (claimed a) = EndClaimed size a
+EndAt size (outcome a) = Unit {0}
+
+unfoldable pub Ends : Shape → List Extent → List (Call × Answer) → Type 0
+Ends c h [] = Unit {0}
+Ends c h (t ∷ ts) = EndAt (sizeAll c (tell c h (t .0) (t .1))) (t .1) × Ends c (tell c h (t .0) (t .1)) ts
+
+-- ---- replays
+
+-- fragment limits of 1 or more, and lent entries that row 1 lets through
+pub record Allowed (ps : Polls) : Type 0 where
+  pub some : (n : ℕ) → 1 ≤ natural (ps .limit n)
+  pub slots : (n : ℕ) → goodEntries (length (ps .slots n)) (natural (ps .limit n)) ≡ true
+
+-- a part holds each fragmented message
+unfoldable pub Holds : Shape → ℕ → List Extent → Type 0
+Holds c part [] = Unit {0}
+Holds c part (message reserved m ∷ h) = (c .payload < length m → length m ≤ part) × Holds c part h
+Holds c part (claimed· s b ∷ h) = Holds c part h
+Holds c part (padding n ∷ h) = Holds c part h
+
+-- Any replay of the world left comes to an end, and at any end it has handed out exactly ms. The image's session is any number, and the
+-- lent buffer may hold anything.
+pub record Replayed (w : World) (session : ℤ) (buffer : List ℕ) (ms : List (List ℕ)) : Type 0 where
+  pub finish : (ps : Polls) → Allowed ps → (n : ℕ) × Quiet (w .record·) (w .log) ps (start session buffer) n
+  pub exact : (ps : Polls) → Allowed ps → (n : ℕ) → Quiet (w .record·) (w .log) ps (start session buffer) n
+      → rounds (w .record·) (w .log) ps (start session buffer) n .out ≡ ms
+
+-- The same message by message: what `nextOf` (Replay) gives, one call after another, is ms.
+unfoldable pub GivesAll : World → ℤ → List ℕ → List (List ℕ) → Type 0
+GivesAll w session buffer ms =
+    (most : ℕ) → length ms < most
+    → replayed most (w .record·) (w .log) (record { image = newImage (pos 0) session; sessions = fresh; buffer = buffer }) ≡ ms
+
+-- ---- the demand
+
+-- the log that opening leaves, and the history that calls on it tell
+abbrev pub opened : List ℕ → ℤ → ℤ → ℤ → ℤ → ℤ → World
+opened log term mtu initial session stream =
+    record { record· = openOf log term mtu initial session stream .next; log = openBytes log term mtu initial session stream }
+
+abbrev pub shape : World → Shape
+shape w = shapeOf (reading (w .record·))
+
+abbrev pub history : World → List Call → List Extent
+history w calls = told (shape w) [] (answers w calls)
+
+pub record Upheld (w : World) (calls : List Call) : Type 0 where
+  pub replayed : (session : ℤ) (buffer : List ℕ) → length buffer ≤ 2147483647 → Holds (shape w) (partLength (length buffer)) (history w calls)
+      → Replayed (left w calls) session buffer (messages (history w calls))
+  pub gives : (session : ℤ) (buffer : List ℕ) → length buffer ≤ 2147483647 → Holds (shape w) (partLength (length buffer)) (history w calls)
+      → GivesAll (left w calls) session buffer (messages (history w calls))
+  pub adds-up : publisherPosition (reading (left w calls .record·)) ≡ pos (sizeAll (shape w) (history w calls))
+  pub ends : Ends (shape w) [] (answers w calls)
+
+unfoldable pub Demand3 : Type 0
+Demand3 =
+    (log : List ℕ) (term mtu initial session stream : ℤ) → openOf log term mtu initial session stream .answer ≡ Done
+    → (calls : List Call) → AllGiven [] (opened log term mtu initial session stream) calls
+    → (short : ltZ (publisherPosition (reading (left (opened log term mtu initial session stream) calls .record·)))
+    (pos (3 * shape (opened log term mtu initial session stream) .term)) ≡ true)
+    → Upheld (opened log term mtu initial session stream) calls
