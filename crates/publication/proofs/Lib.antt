@@ -1,3 +1,4 @@
 -- Laws that the functions' proofs share.
 pub mod ClaimLaws
 pub mod OfferBy
+pub mod Lengths

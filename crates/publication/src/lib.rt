@@ -1,11 +1,11 @@
 // The publication above the leaf library, of which it knows only the promises: an offer.
 ghost use mathlib.Core.Path.{_≡_};
 ghost use Prim.Native.Nat.{_%_, _≤_, _<_};
-ghost use lib.ListN.{length};
+ghost use lib.ListN.{length as lengthOf};
 ghost use Rattle.model.specs.declared.Verdict.the-variants.{Pass};
 ghost use Rattle.model.specs.Bytes.{word, long};
 ghost use Rattle.model.specs.LogBufferDescriptor.{biased, readingOf, reading};
-ghost use Rattle.model.specs.Publication.{beforeAppend, tripNext, tripError, offerOf, offerBytes};
+ghost use Rattle.model.specs.Publication.{beforeAppend, tripNext, tripError, offerOf, offerBytes, claimVerdict, claimOf, claimBytes};
 ghost use Rattle.model.proofs.Sound.{Bounds};
 ghost use Rattle.model.proofs.Append.{appendReply, appendBytes};
 ghost use Rattle.model.proofs.OfferLaws.{Turns};
@@ -13,6 +13,9 @@ use logbuffer::log_buffer_descriptor;
 use logbuffer::term_appender;
 use model::AppendReply;
 use model::Appended;
+use model::AppendedClaim;
+use model::ClaimReply;
+use model::Claimed;
 use model::Error;
 use model::LogRecord;
 use model::OfferReply;
@@ -83,7 +86,7 @@ fn append_message(
     reserved: i64,
     term_id: i32,
 ) -> AppendReply
-    requires { ⌜ (k ≤ 2) × ((32 ≤ payload) × ((payload ≤ 65472) × ((payload % 32 ≡ 0) × (length (now message) ≤ 2147483647)))) ⌝ }
+    requires { ⌜ (k ≤ 2) × ((32 ≤ payload) × ((payload ≤ 65472) × ((payload % 32 ≡ 0) × (lengthOf (now message) ≤ 2147483647)))) ⌝ }
     ensures { λ r. ⌜ r ≡ appendReply rec (now (log .entry)) k payload (now (message .entry)) (biased (word «term_id»)) ⌝ }
     ensures { λ _. ⌜ now (log .exit) ≡ appendBytes rec (now (log .entry)) k payload (now (message .entry)) (long reserved) (biased (word «term_id»)) ⌝ }
 {
@@ -110,7 +113,7 @@ fn append_message(
 
 // The append of an offer that nothing refuses before it, and what its answer leads to.
 fn offer_on(rec: LogRecord, log: &mut [u8], v: Reading, message: &[u8], reserved: i64) -> OfferReply
-    requires { ⌜ (v ≡ reading rec) × (beforeAppend v (length (now log)) (length (now message)) Pass ≡ Pass) ⌝ }
+    requires { ⌜ (v ≡ reading rec) × (beforeAppend v (lengthOf (now log)) (lengthOf (now message)) Pass ≡ Pass) ⌝ }
     ensures { λ r. ⌜ r ≡ offerOf rec (now (log .entry)) (now (message .entry)) ⌝ }
     ensures { λ _. ⌜ now (log .exit) ≡ offerBytes rec (now (log .entry)) (now (message .entry)) reserved ⌝ }
 {
@@ -154,5 +157,62 @@ pub fn offer(rec: LogRecord, log: &mut [u8], message: &[u8], reserved_value: i64
             answer: Offered::Refused(e),
         },
         Verdict::Pass => offer_on(rec, log, v, message, reserved_value),
+    }
+}
+
+// ---- claim
+
+// The claiming append of a claim that nothing refuses, and what its answer leads to.
+fn claim_on(rec: LogRecord, log: &mut [u8], v: Reading, length: i32) -> ClaimReply
+    requires { ⌜ (v ≡ reading rec) × (claimVerdict v (lengthOf (now log)) (word length) ≡ Pass) ⌝ }
+    ensures { λ r. ⌜ r ≡ claimOf rec (now (log .entry)) length ⌝ }
+    ensures { λ _. ⌜ now (log .exit) ≡ claimBytes rec (now (log .entry)) length ⌝ }
+{
+    let count = v.count;
+    let term = v.term;
+    let k = count % 3;
+    let term_id = own_term_id(rec, k);
+    let a = term_appender::claim(rec, log, k as i32, length, term_id);
+    let answer = a.answer;
+    let next = a.next;
+    let AppendedClaim::Claimed(end, claim) = answer else {
+        let AppendedClaim::Refused(e) = answer else {
+            let t = after_trip(next, v, rec.active_term_count, term_id);
+            let last = t.next;
+            let error = t.error;
+            return ClaimReply {
+                next: last,
+                answer: Claimed::Refused(error),
+            };
+        };
+        return ClaimReply {
+            next: next,
+            answer: Claimed::Refused(e),
+        };
+    };
+    ClaimReply {
+        next: next,
+        answer: Claimed::Position((count * term + end) as i64, claim),
+    }
+}
+
+// A frame is claimed, to be written by its owner and then committed or aborted.
+pub fn try_claim(rec: LogRecord, log: &mut [u8], length: i32) -> ClaimReply
+    ensures { λ r. ⌜ r ≡ claimOf rec (now (log .entry)) length ⌝ }
+    ensures { λ _. ⌜ now (log .exit) ≡ claimBytes rec (now (log .entry)) length ⌝ }
+{
+    if length < 0 {
+        return ClaimReply {
+            next: rec,
+            answer: Claimed::Refused(Error::IllegalArgument),
+        };
+    }
+    let v = log_buffer_descriptor::read_active(rec);
+    match judge::before_claim(v, log.len(), length as usize) {
+        Verdict::Refuse(e) => ClaimReply {
+            next: rec,
+            answer: Claimed::Refused(e),
+        },
+        Verdict::Pass => claim_on(rec, log, v, length),
     }
 }
