@@ -24,6 +24,8 @@ use model::Reading;
 use model::Verdict;
 
 mod judge;
+pub mod opening;
+pub mod positions;
 
 // What an offer or a claim that tripped leaves and answers.
 struct Trip {

@@ -9,43 +9,31 @@ use mathlib.Core.Path.{ap, ap₂, _∙_}
 use borrow.Author.Needs.{needs}
 use Rattle.publication.proofs.after_trip.Statement.{statement}
 use Rattle.publication.proofs.after_trip.Tie as tie
-use Rattle.publication.proofs.after_trip.Reads as reads
-use Rattle.publication.proofs.after_trip.Lts as lts
-use Rattle.logbuffer.proofs.log_buffer_descriptor.rotate_log.Reads as rotate-log-reads
 
--- src/lib.rt:47:8
 mul-if1 : tie.Need-mul-if1
 mul-if1 c = omega (arith, begin-most _ (c .pre .0))
 
--- src/lib.rt:47:8
 add-if1 : tie.Need-add-if1
 add-if1 c = omega (arith, begin-most _ (c .pre .0))
 
--- src/lib.rt:47:8
 add-if1-2 : tie.Need-add-if1-2
 add-if1-2 c = omega (arith, begin-most _ (c .pre .0))
 
--- src/lib.rt:47:42
 mul-if1-2 : tie.Need-mul-if1-2
 mul-if1-2 c = search needs
 
--- src/lib.rt:48:9
 returns : tie.Need-returns
 returns c = let v = c .before .args .v in (trip-7 v _ _ _ (c .if1 .taken), trip-7 v _ _ _ (c .if1 .taken))
 
--- src/lib.rt:54:9
 returns-2 : tie.Need-returns-2
 returns-2 c = let v = c .before .before .args .v in let h = c .before .if1 .left in (trip-12-id v _ _ _ h (c .if2 .taken), trip-12-id v _ _ _ h (c .if2 .taken))
 
--- src/lib.rt:60:9
 returns-3 : tie.Need-returns-3
 returns-3 c = let v = c .before .before .before .args .v in let h = c .before .before .if1 .left in (trip-12-count v _ _ _ h (c .if3 .taken), trip-12-count v _ _ _ h (c .if3 .taken))
 
--- src/lib.rt:65:9
 rotate-log-requires : tie.Need-rotate-log-requires
 rotate-log-requires c κs = search needs
 
--- src/lib.rt:39:1
 returns-4 : tie.Need-returns-4
 returns-4 c = let s = c .before .before .before .before .before in
     let h = c .before .before .before .before .if1 .left in

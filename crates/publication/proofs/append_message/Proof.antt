@@ -12,27 +12,19 @@ use mathlib.Core.Path.{_≡_, ap, _∙_}
 use borrow.Author.Needs.{needs}
 use Rattle.publication.proofs.append_message.Statement.{statement}
 use Rattle.publication.proofs.append_message.Tie as tie
-use Rattle.publication.proofs.append_message.Reads as reads
-use Rattle.publication.proofs.append_message.Lts as lts
-use Rattle.logbuffer.proofs.term_appender.append_fragmented_message.Reads as append-fragmented-message-reads
-use Rattle.logbuffer.proofs.term_appender.append_unfragmented_message.Reads as append-unfragmented-message-reads
 
 small : (n : ℕ) → n < 4294967296 → word (toZ w32 n) ≡ n
 small n h = ofZ-toZ {w = w32} (record { fits = h })
 
--- src/lib.rt:93:13
 cast-append-unfragmented-message : tie.Need-cast-append-unfragmented-message
 cast-append-unfragmented-message c = search needs
 
--- src/lib.rt:90:9
 append-unfragmented-message-requires : tie.Need-append-unfragmented-message-requires
 append-unfragmented-message-requires c κs = search needs
 
--- src/lib.rt:90:9
 same-length : tie.Need-same-length
 same-length c = search needs
 
--- src/lib.rt:90:9
 returns : tie.Need-returns
 returns c = let s = c .before .before .before .before .before .before .before in
     let a = s .args in
@@ -40,23 +32,18 @@ returns c = let s = c .before .before .before .before .before .before .before in
     (ap (λ (z : ℤ). biased (word z)) (toZ-ofZ (s .fits .term-id))) (omega arith) (omega arith) (omega arith) in
     (c .before .before .append-unfragmented-message .ensures .0 ∙ d .0, c .before .before .append-unfragmented-message .ensures .1 ∙ d .1)
 
--- src/lib.rt:102:9
 cast-append-fragmented-message : tie.Need-cast-append-fragmented-message
 cast-append-fragmented-message c = search needs
 
--- src/lib.rt:105:9
 cast-append-fragmented-message-2 : tie.Need-cast-append-fragmented-message-2
 cast-append-fragmented-message-2 c = search needs
 
--- src/lib.rt:99:5
 append-fragmented-message-requires : tie.Need-append-fragmented-message-requires
 append-fragmented-message-requires c κs = search needs
 
--- src/lib.rt:76:1
 same-length-2 : tie.Need-same-length-2
 same-length-2 c = search needs
 
--- src/lib.rt:76:1
 returns-2 : tie.Need-returns-2
 returns-2 c = let s = c .before .before .before .before .before .before .before in
     let a = s .args in

@@ -30,11 +30,6 @@ use Rattle.publication.proofs.ClaimLaws.{Passed, passed, after, afterBy
 use borrow.Author.Needs.{needs}
 use Rattle.publication.proofs.claim_on.Statement.{statement}
 use Rattle.publication.proofs.claim_on.Tie as tie
-use Rattle.publication.proofs.claim_on.Reads as reads
-use Rattle.publication.proofs.claim_on.Lts as lts
-use Rattle.logbuffer.proofs.term_appender.claim.Reads as claim-reads
-use Rattle.publication.proofs.after_trip.Reads as after-trip-reads
-use Rattle.publication.proofs.own_term_id.Reads as own-term-id-reads
 
 -- of three answers, neither a claim nor a refusal
 neither : (a : AppendedClaim) → OneOf (1 ∷ 2 ∷ []) (tagOf the-type a) → OneOf (0 ∷ 1 ∷ []) (tagOf the-type a) → a ≡ Tripped
@@ -88,27 +83,21 @@ module _ (c : tie.After-claim) where
       let a = start .args in
       omega (arith, claim-end (a .rec) (a .log .now) (a .v) k· (word (a .length)) given (c .claim .result) (part start) (start .pre .0) given-is (does .0) end x h, begin-most (a .v) (bounds _ _ (so start)), so start)
 
--- src/lib.rt:174:9
 own-term-id-requires : tie.Need-own-term-id-requires
 own-term-id-requires c κs = search needs
 
--- src/lib.rt:175:44
 cast-claim : tie.Need-cast-claim
 cast-claim c = search needs
 
--- src/lib.rt:175:9
 claim-requires : tie.Need-claim-requires
 claim-requires c κs = search needs
 
--- src/lib.rt:178:32
 enum-known-answer : tie.Need-enum-known-answer
 enum-known-answer c = search needs
 
--- src/lib.rt:179:36
 enum-known-answer-2 : tie.Need-enum-known-answer-2
 enum-known-answer-2 c = search needs
 
--- src/lib.rt:180:17
 after-trip-requires : tie.Need-after-trip-requires
 after-trip-requires c κs =
     let d = c .before .before .before .before .before .before in
@@ -122,11 +111,9 @@ after-trip-requires c κs =
           (toZ w32 (ofZ w32 (a .rec .«active_term_count»))) (toZ w32 (ofZ w32 (d .before .before .own-term-id .result))) (toZ-ofZ active-fits) refl three e,
     )
 
--- src/lib.rt:183:13
 same-length : tie.Need-same-length
 same-length c = search needs
 
--- src/lib.rt:183:13
 returns : tie.Need-returns
 returns c =
     let d = c .before .before .before .before .before .before .before .before in
@@ -137,34 +124,27 @@ returns c =
       law d .1,
     )
 
--- src/lib.rt:188:9
 same-length-2 : tie.Need-same-length-2
 same-length-2 c = search needs
 
--- src/lib.rt:188:9
 returns-2 : tie.Need-returns-2
 returns-2 c =
     let d = c .before .before .before .before .before .before .before in
     let a = c .before .before .before .before .before .before .before .before .before .before .before .args in
     (sym (ap (afterBy (a .v) (d .claim .result .next)) (c .before .answer2 .given .1)) ∙ law d .0, law d .1)
 
--- src/lib.rt:195:36
 mul-t23 : tie.Need-mul-t23
 mul-t23 c = omega (arith, ends (c .before .before .before .before .before .before) _ _ (c .before .answer .given .1))
 
--- src/lib.rt:195:36
 add-t24 : tie.Need-add-t24
 add-t24 c = omega (arith, ends (c .before .before .before .before .before .before) _ _ (c .before .answer .given .1))
 
--- src/lib.rt:195:35
 cast-t25 : tie.Need-cast-t25
 cast-t25 c = record { sfits = ends (c .before .before .before .before .before .before) _ _ (c .before .answer .given .1) }
 
--- src/lib.rt:166:1
 same-length-3 : tie.Need-same-length-3
 same-length-3 c = search needs
 
--- src/lib.rt:166:1
 returns-3 : tie.Need-returns-3
 returns-3 c =
     let d = c .before .before .before .before .before .before in

@@ -11,43 +11,30 @@ use mathlib.Core.Path.{_≡_, sym, ap, subst, _∙_}
 use borrow.Author.Needs.{needs}
 use Rattle.publication.proofs.offer.Statement.{statement}
 use Rattle.publication.proofs.offer.Tie as tie
-use Rattle.publication.proofs.offer.Reads as reads
-use Rattle.publication.proofs.offer.Lts as lts
-use Rattle.logbuffer.proofs.log_buffer_descriptor.read_active.Reads as read-active-reads
-use Rattle.publication.proofs.judge.before_offer.Reads as before-offer-reads
-use Rattle.publication.proofs.offer_on.Reads as offer-on-reads
 
--- src/lib.rt:155:9
 read-active-requires : tie.Need-read-active-requires
 read-active-requires c κs = search needs
 
--- src/lib.rt:156:11
 before-offer-requires : tie.Need-before-offer-requires
 before-offer-requires c κs = subst (λ (x : Reading). x .initial < 4294967296) (sym (c .read-active .ensures)) (initial-small _ _)
 
--- src/lib.rt:157:25
 enum-known-e : tie.Need-enum-known-e
 enum-known-e c = search needs
 
--- src/lib.rt:161:40
 enum-told : tie.Need-enum-told
 enum-told c = search needs
 
--- src/lib.rt:161:26
 offer-on-requires : tie.Need-offer-on-requires
 offer-on-requires c κs = (c .before .before .before .before .read-active .ensures, sym (c .before .before .before .before-offer .ensures) ∙ c .before .enum-told .given .1)
 
--- src/lib.rt:151:1
 returns : tie.Need-returns
 returns c = let a = c .before .before .before .before .before .before .before .args in
     refused-is (a .rec) (a .log .now) (a .message .now) (a .reserved-value) _
     (ap (λ (x : Reading). beforeAppend x (length (a .log .now)) (length (a .message .now)) Pass) (sym (c .before .before .before .before .read-active .ensures)) ∙ sym (c .before .before .before .before-offer .ensures) ∙ c .before .e .given .1)
 
--- src/lib.rt:151:1
 same-length : tie.Need-same-length
 same-length c = search needs
 
--- src/lib.rt:151:1
 returns-2 : tie.Need-returns-2
 returns-2 c = let s = c .before .before .before .before .before .before .before .before .before .before in
     (c .before .before .offer-on .ensures .0, c .before .before .offer-on .ensures .1 ∙ ap (offerBytes (s .args .rec) (s .args .log .now) (s .args .message .now)) (toZ-ofZ (s .fits .reserved-value)))

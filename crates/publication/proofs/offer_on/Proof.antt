@@ -28,11 +28,6 @@ use Rattle.publication.proofs.OfferBy.{active-by, offer-by, end-by, tur
 use borrow.Author.Needs.{needs}
 use Rattle.publication.proofs.offer_on.Statement.{statement}
 use Rattle.publication.proofs.offer_on.Tie as tie
-use Rattle.publication.proofs.offer_on.Reads as reads
-use Rattle.publication.proofs.offer_on.Lts as lts
-use Rattle.publication.proofs.after_trip.Reads as after-trip-reads
-use Rattle.publication.proofs.append_message.Reads as append-message-reads
-use Rattle.publication.proofs.own_term_id.Reads as own-term-id-reads
 
 -- of three answers, neither an offset nor a refusal
 neither : (a : Appended) → OneOf (1 ∷ 2 ∷ []) (tagOf the-type a) → OneOf (0 ∷ 1 ∷ []) (tagOf the-type a) → a ≡ Tripped
@@ -79,27 +74,21 @@ module _ (c : tie.After-append-message) where
         so start,
       )
 
--- src/lib.rt:125:9
 own-term-id-requires : tie.Need-own-term-id-requires
 own-term-id-requires c κs = search needs
 
--- src/lib.rt:126:49
 sub-append-message : tie.Need-sub-append-message
 sub-append-message c = omega (arith, so (c .before .before .before .before) .mtu-low)
 
--- src/lib.rt:126:9
 append-message-requires : tie.Need-append-message-requires
 append-message-requires c κs = let s = c .before .before .before .before in (omega arith, (omega (arith, so s .mtu-low), (omega (arith, so s .mtu-high), (omega (arith, so s .mtu-32, so s .mtu-low), pass s .short))))
 
--- src/lib.rt:129:26
 enum-known-answer : tie.Need-enum-known-answer
 enum-known-answer c = search needs
 
--- src/lib.rt:130:31
 enum-known-answer-2 : tie.Need-enum-known-answer-2
 enum-known-answer-2 c = search needs
 
--- src/lib.rt:131:17
 after-trip-requires : tie.Need-after-trip-requires
 after-trip-requires c κs =
     let d = c .before .before .before .before .before .before in
@@ -113,11 +102,9 @@ after-trip-requires c κs =
           (toZ w32 (ofZ w32 (a .rec .«active_term_count»))) (toZ w32 (ofZ w32 (d .before .before .own-term-id .result))) (toZ-ofZ active-fits) refl three (omega (arith, so s .mtu-32, so s .mtu-low)) e,
     )
 
--- src/lib.rt:134:13
 same-length : tie.Need-same-length
 same-length c = search needs
 
--- src/lib.rt:134:13
 returns : tie.Need-returns
 returns c =
     let d = c .before .before .before .before .before .before .before .before in
@@ -128,34 +115,27 @@ returns c =
       law d .1,
     )
 
--- src/lib.rt:139:9
 same-length-2 : tie.Need-same-length-2
 same-length-2 c = search needs
 
--- src/lib.rt:139:9
 returns-2 : tie.Need-returns-2
 returns-2 c =
     let d = c .before .before .before .before .before .before .before in
     let a = c .before .before .before .before .before .before .before .before .before .before .before .before .args in
     (sym (ap (afterBy (a .v) (d .append-message .result .next)) (c .before .answer2 .given .1)) ∙ law d .0, law d .1)
 
--- src/lib.rt:146:36
 mul-t18 : tie.Need-mul-t18
 mul-t18 c = omega (arith, ends (c .before .before .before .before .before .before) _ (c .before .answer .given .1))
 
--- src/lib.rt:146:36
 add-t21 : tie.Need-add-t21
 add-t21 c = omega (arith, ends (c .before .before .before .before .before .before) _ (c .before .answer .given .1))
 
--- src/lib.rt:146:35
 cast-t24 : tie.Need-cast-t24
 cast-t24 c = record { sfits = ends (c .before .before .before .before .before .before) _ (c .before .answer .given .1) }
 
--- src/lib.rt:111:1
 same-length-3 : tie.Need-same-length-3
 same-length-3 c = search needs
 
--- src/lib.rt:111:1
 returns-3 : tie.Need-returns-3
 returns-3 c =
     let d = c .before .before .before .before .before .before in

@@ -10,23 +10,16 @@ use mathlib.Core.Path.{ap, _∙_}
 use borrow.Author.Needs.{needs}
 use Rattle.publication.proofs.own_term_id.Statement.{statement}
 use Rattle.publication.proofs.own_term_id.Tie as tie
-use Rattle.publication.proofs.own_term_id.Reads as reads
-use Rattle.publication.proofs.own_term_id.Lts as lts
-use Rattle.logbuffer.proofs.log_buffer_descriptor.term_id.Reads as term-id-reads
 
--- src/lib.rt:35:36
 mul-term-id : tie.Need-mul-term-id
 mul-term-id c = search needs
 
--- src/lib.rt:35:36
 element-copy-out-term-id : tie.Need-element-copy-out-term-id
 element-copy-out-term-id c = search needs
 
--- src/lib.rt:35:5
 term-id-requires : tie.Need-term-id-requires
 term-id-requires c κs = search needs
 
--- src/lib.rt:31:1
 returns : tie.Need-returns
 unfolding readingOf
 returns c = let s = c .before .before in

@@ -16,39 +16,27 @@ use mathlib.Core.Path.{_≡_, sym, ap, ap₂, subst, _∙_}
 use borrow.Author.Needs.{needs}
 use Rattle.publication.proofs.try_claim.Statement.{statement}
 use Rattle.publication.proofs.try_claim.Tie as tie
-use Rattle.publication.proofs.try_claim.Reads as reads
-use Rattle.publication.proofs.try_claim.Lts as lts
-use Rattle.logbuffer.proofs.log_buffer_descriptor.read_active.Reads as read-active-reads
-use Rattle.publication.proofs.claim_on.Reads as claim-on-reads
-use Rattle.publication.proofs.judge.before_claim.Reads as before-claim-reads
 
--- src/lib.rt:205:9
 returns : tie.Need-returns
 returns c = let s = c .before .before in
     let below = negative (s .args .length) (s .fits .length) (c .if1 .taken) in
     claim-refused (s .args .rec) (s .args .log .now) (s .args .length) IllegalArgument (sym (claim-1 _ _ _ (omega arith)))
 
--- src/lib.rt:210:9
 read-active-requires : tie.Need-read-active-requires
 read-active-requires c κs = search needs
 
--- src/lib.rt:211:45
 cast-before-claim : tie.Need-cast-before-claim
 cast-before-claim c = let s = c .before .before .before in length-casts (s .args .length) (s .fits .length) (c .before .if1 .left)
 
--- src/lib.rt:211:11
 before-claim-requires : tie.Need-before-claim-requires
 before-claim-requires c κs = subst (λ (x : Reading). x .initial < 4294967296) (sym (c .read-active .ensures)) (initial-small _ _)
 
--- src/lib.rt:212:25
 enum-known-e : tie.Need-enum-known-e
 enum-known-e c = search needs
 
--- src/lib.rt:216:40
 enum-told : tie.Need-enum-told
 enum-told c = search needs
 
--- src/lib.rt:216:26
 claim-on-requires : tie.Need-claim-on-requires
 claim-on-requires c κs = let s = c .before .before .before .before .before .before .before in (
   c .before .before .before .before .read-active .ensures,
@@ -56,18 +44,15 @@ claim-on-requires c κs = let s = c .before .before .before .before .before .bef
       ∙ sym (c .before .before .before .before-claim .ensures) ∙ c .before .enum-told .given .1,
 )
 
--- src/lib.rt:200:1
 returns-2 : tie.Need-returns-2
 returns-2 c = let s = c .before .before .before .before .before .before .before in
     claim-refused (s .args .rec) (s .args .log .now) (s .args .length) _
     (ap₂ (λ (x : Reading) (n : ℕ). claimVerdict x (length (s .args .log .now)) n) (sym (c .before .before .before .before .read-active .ensures)) (sym (length-bits (s .args .length) (s .fits .length) (c .before .before .before .before .before .if1 .left)))
     ∙ sym (c .before .before .before .before-claim .ensures) ∙ c .before .e .given .1)
 
--- src/lib.rt:200:1
 same-length : tie.Need-same-length
 same-length c = search needs
 
--- src/lib.rt:200:1
 returns-3 : tie.Need-returns-3
 returns-3 c = let s = c .before .before .before .before .before .before .before .before .before .before in
     let e = toZ-ofZ (s .fits .length) in

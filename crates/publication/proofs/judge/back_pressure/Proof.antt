@@ -5,34 +5,25 @@ use Rattle.model.proofs.OfferLaws.{pressed-7, pressed-8, pressed-9}
 use borrow.Author.Needs.{needs}
 use Rattle.publication.proofs.judge.back_pressure.Statement.{statement}
 use Rattle.publication.proofs.judge.back_pressure.Tie as tie
-use Rattle.publication.proofs.judge.back_pressure.Reads as reads
-use Rattle.publication.proofs.judge.back_pressure.Lts as lts
 
--- src/judge.rt:37:8
 mul-if1 : tie.Need-mul-if1
 mul-if1 c = omega (arith, begin-most _ (c .pre .0))
 
--- src/judge.rt:37:8
 add-if1 : tie.Need-add-if1
 add-if1 c = omega (arith, begin-most _ (c .pre .0))
 
--- src/judge.rt:37:8
 add-if1-2 : tie.Need-add-if1-2
 add-if1-2 c = omega (arith, begin-most _ (c .pre .0))
 
--- src/judge.rt:37:37
 mul-if1-2 : tie.Need-mul-if1-2
 mul-if1-2 c = search needs
 
--- src/judge.rt:38:9
 returns : tie.Need-returns
 returns c = pressed-7 _ _ (c .if1 .taken)
 
--- src/judge.rt:41:9
 returns-2 : tie.Need-returns-2
 returns-2 c = pressed-8 _ _ (c .before .if1 .left) (c .if2 .taken)
 
--- src/judge.rt:29:1
 returns-3 : tie.Need-returns-3
 returns-3 c = pressed-9 _ _ (c .before .if1 .left) (c .if2 .left)
 

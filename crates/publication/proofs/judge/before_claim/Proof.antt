@@ -10,16 +10,10 @@ use Rattle.publication.proofs.ClaimLaws.{claim-1, claim-2, claim-4, cla
 use borrow.Author.Needs.{needs}
 use Rattle.publication.proofs.judge.before_claim.Statement.{statement}
 use Rattle.publication.proofs.judge.before_claim.Tie as tie
-use Rattle.publication.proofs.judge.before_claim.Reads as reads
-use Rattle.publication.proofs.judge.before_claim.Lts as lts
-use Rattle.logbuffer.proofs.log_buffer_descriptor.is_sound.Reads as is-sound-reads
-use Rattle.publication.proofs.judge.after_closed.Reads as after-closed-reads
 
--- src/judge.rt:96:9
 returns : tie.Need-returns
 returns c = claim-1 _ _ _ (c .if1 .taken)
 
--- src/judge.rt:98:9
 is-sound-requires : tie.Need-is-sound-requires
 is-sound-requires c κs = search needs
 
@@ -29,58 +23,45 @@ is-so c = sym (c .before .is-sound .ensures) ∙ not-false _ (c .if2 .left)
 so : (c : tie.Else2) → Sound (c .before .before .before .args .v) (c .before .before .before .args .n)
 so c = sound-true _ _ (is-so c)
 
--- src/judge.rt:99:9
 returns-2 : tie.Need-returns-2
 returns-2 c = claim-2 _ _ _ (c .before .before .if1 .left) (sym (c .before .is-sound .ensures) ∙ not-true _ (c .if2 .taken))
 
--- src/judge.rt:102:12
 sub-if3 : tie.Need-sub-if3
 sub-if3 c = omega (arith, so c)
 
--- src/judge.rt:103:9
 returns-3 : tie.Need-returns-3
 returns-3 c = claim-4 _ _ _ (c .before .before .before .if1 .left) (is-so (c .before)) (c .if3 .taken)
 
--- src/judge.rt:106:9
 returns-4 : tie.Need-returns-4
 returns-4 c = claim-5 _ _ _ (c .before .before .before .before .if1 .left) (is-so (c .before .before)) (c .before .if3 .left) (c .if4 .taken)
 
--- src/judge.rt:108:9
 after-closed-requires : tie.Need-after-closed-requires
 after-closed-requires c κs = (bounds _ _ (so (c .before .before)), (c .before .before .before .before .before .pre, c .before .before .before .before .if1 .left))
 
 enum-told : tie.Need-enum-told
 enum-told c = search needs
 
--- src/judge.rt:110:9
 enum-told-2 : tie.Need-enum-told-2
 enum-told-2 c = search needs
 
--- src/judge.rt:110:9
 returns-5 : tie.Need-returns-5
 returns-5 c = claim-7 _ _ _ (c .before .before .before .before .before .before .before .if1 .left) (is-so (c .before .before .before .before .before)) (c .before .before .before .before .if3 .left) (c .before .before .before .if4 .left) _ _ (c .before .before .after-closed .ensures) (c .enum-told2 .given .1)
 
--- src/judge.rt:113:18
 add-if5 : tie.Need-add-if5
 add-if5 c = search needs
 
--- src/judge.rt:113:18
 add-if5-2 : tie.Need-add-if5-2
 add-if5-2 c = search needs
 
--- src/judge.rt:113:17
 mul-if5 : tie.Need-mul-if5
 mul-if5 c = search needs
 
--- src/judge.rt:113:8
 add-if5-3 : tie.Need-add-if5-3
 add-if5-3 c = omega (arith, so (c .before .before .before .before .before), c .before .before .before .before .before .before .before .if1 .left)
 
--- src/judge.rt:114:9
 returns-6 : tie.Need-returns-6
 returns-6 c = claim-11 _ _ _ (c .before .before .before .before .before .before .before .before .if1 .left) (is-so (c .before .before .before .before .before .before)) (c .before .before .before .before .before .if3 .left) (c .before .before .before .before .if4 .left) true (sym (c .before .before .before .after-closed .ensures) ∙ c .before .enum-told .given .1) (lt-ltb _ _ (c .if5 .taken))
 
--- src/judge.rt:91:1
 returns-7 : tie.Need-returns-7
 returns-7 c = claim-11 _ _ _ (c .before .before .before .before .before .before .before .before .if1 .left) (is-so (c .before .before .before .before .before .before)) (c .before .before .before .before .before .if3 .left) (c .before .before .before .before .if4 .left) false (sym (c .before .before .before .after-closed .ensures) ∙ c .before .enum-told .given .1) (le-ltb _ _ (c .if5 .left))
 

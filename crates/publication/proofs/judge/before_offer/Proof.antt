@@ -10,17 +10,10 @@ use Rattle.model.proofs.OfferLaws.{rung-1, rung-2, rung-5, rung-7, rung-10}
 use borrow.Author.Needs.{needs}
 use Rattle.publication.proofs.judge.before_offer.Statement.{statement}
 use Rattle.publication.proofs.judge.before_offer.Tie as tie
-use Rattle.publication.proofs.judge.before_offer.Reads as reads
-use Rattle.publication.proofs.judge.before_offer.Lts as lts
-use Rattle.logbuffer.proofs.log_buffer_descriptor.is_sound.Reads as is-sound-reads
-use Rattle.publication.proofs.judge.after_closed.Reads as after-closed-reads
-use Rattle.publication.proofs.judge.too_long.Reads as too-long-reads
 
--- src/judge.rt:72:9
 returns : tie.Need-returns
 returns c = rung-1 _ _ _ (c .if1 .taken)
 
--- src/judge.rt:74:9
 is-sound-requires : tie.Need-is-sound-requires
 is-sound-requires c κs = search needs
 
@@ -30,38 +23,30 @@ is-so c = sym (c .before .is-sound .ensures) ∙ not-false _ (c .if2 .left)
 so : (c : tie.Else2) → Sound (c .before .before .before .args .v) (c .before .before .before .args .n)
 so c = sound-true _ _ (is-so c)
 
--- src/judge.rt:75:9
 returns-2 : tie.Need-returns-2
 returns-2 c = rung-2 _ _ _ (c .before .before .if1 .left) (sym (c .before .is-sound .ensures) ∙ not-true _ (c .if2 .taken))
 
--- src/judge.rt:78:9
 returns-3 : tie.Need-returns-3
 returns-3 c = rung-5 _ _ _ (c .before .before .before .if1 .left) (is-so (c .before)) (c .if3 .taken)
 
--- src/judge.rt:80:9
 after-closed-requires : tie.Need-after-closed-requires
 after-closed-requires c κs = (bounds _ _ (so (c .before)), (c .before .before .before .before .pre, c .before .before .before .if1 .left))
 
 enum-told : tie.Need-enum-told
 enum-told c = search needs
 
--- src/judge.rt:82:9
 enum-told-2 : tie.Need-enum-told-2
 enum-told-2 c = search needs
 
--- src/judge.rt:82:9
 returns-4 : tie.Need-returns-4
 returns-4 c = rung-7 _ _ _ (c .before .before .before .before .before .before .if1 .left) (is-so (c .before .before .before .before)) (c .before .before .before .if3 .left) _ _ (c .before .before .after-closed .ensures) (c .enum-told2 .given .1)
 
--- src/judge.rt:84:8
 too-long-requires : tie.Need-too-long-requires
 too-long-requires c κs = omega (arith, so (c .before .before .before .before))
 
--- src/judge.rt:85:9
 returns-5 : tie.Need-returns-5
 returns-5 c = rung-10 _ _ _ (c .before .before .before .before .before .before .before .before .if1 .left) (is-so (c .before .before .before .before .before .before)) (c .before .before .before .before .before .if3 .left) true (sym (c .before .before .before .before .after-closed .ensures) ∙ c .before .before .enum-told .given .1) (sym (c .before .too-long .ensures) ∙ c .if4 .taken)
 
--- src/judge.rt:67:1
 returns-6 : tie.Need-returns-6
 returns-6 c = rung-10 _ _ _ (c .before .before .before .before .before .before .before .before .if1 .left) (is-so (c .before .before .before .before .before .before)) (c .before .before .before .before .before .if3 .left) false (sym (c .before .before .before .before .after-closed .ensures) ∙ c .before .before .enum-told .given .1) (sym (c .before .too-long .ensures) ∙ c .if4 .left)
 

@@ -3,22 +3,16 @@ use Rattle.model.proofs.OfferLaws.{long-no, long-small, long-large}
 use borrow.Author.Needs.{needs}
 use Rattle.publication.proofs.judge.too_long.Statement.{statement}
 use Rattle.publication.proofs.judge.too_long.Tie as tie
-use Rattle.publication.proofs.judge.too_long.Reads as reads
-use Rattle.publication.proofs.judge.too_long.Lts as lts
 
--- src/judge.rt:19:13
 sub-if1 : tie.Need-sub-if1
 sub-if1 c = search needs
 
--- src/judge.rt:20:9
 returns : tie.Need-returns
 returns c = long-no (c .before .args .v) (c .before .args .m) (c .if1 .taken)
 
--- src/judge.rt:23:9
 returns-2 : tie.Need-returns-2
 returns-2 c = long-small (c .before .before .args .v) (c .before .before .args .m) (c .before .if1 .left) (c .if2 .taken)
 
--- src/judge.rt:13:1
 returns-3 : tie.Need-returns-3
 returns-3 c = long-large (c .before .before .args .v) (c .before .before .args .m) (c .before .if1 .left) (c .if2 .left)
 
