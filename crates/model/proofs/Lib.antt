@@ -41,3 +41,5 @@ pub mod AvailableLaws
 pub mod ScanRows
 pub mod ViewLaws
 pub mod HeaderRows
+-- the publication
+pub mod OfferLaws

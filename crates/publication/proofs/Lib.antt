@@ -1,0 +1,7 @@
+-- Laws that the functions' proofs share.
+pub mod ClaimLaws
+pub mod OfferBy
+pub mod Lengths
+pub mod Ids
+pub mod Numbers
+pub mod OpenLaws

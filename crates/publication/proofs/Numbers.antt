@@ -1,0 +1,122 @@
+-- Position, limit and window: the ladder that they share, and the position as the code computes it.
+use mathlib.Core.Path.{_≡_, refl, sym, ap, ap₂, subst, _∙_}
+use mathlib.Core.Bool.{Bool, true, false, cond}
+use Prim.Native.Nat.{ℕ, _+_, _*_, _/_, _%_, _^_, _≤_, _<_, min}
+use native.Mathlib.Omega.{arith}
+use borrow.Author.Tests.{le-ltb}
+use lib.Count.{trailingZeros}
+use lib.IntN.{ℤ, pos, natAbs, negℤ, _+ℤ_, _-ℤ_, _*ℤ_}
+use mir.Syntax.{w32, w64}
+use mir.Val.{SFits, ofZ, toZ}
+use mir.Facts.{ofZ-toZ, fits-ofZ, sfits-toZ}
+use Rattle.model.specs.declared.LogRecord.{LogRecord}
+use Rattle.model.specs.declared.Reading.{Reading}
+use Rattle.model.specs.declared.Error.{Error}
+use Rattle.model.specs.declared.Error.the-variants.{IllegalRecord, PublicationClosed}
+use Rattle.model.specs.declared.Verdict.{Verdict}
+use Rattle.model.specs.declared.Verdict.the-variants.{Pass, Refuse}
+use Rattle.model.specs.declared.Positioned.{Positioned}
+use Rattle.model.specs.declared.Positioned.the-variants.{Position, Refused}
+use Rattle.model.specs.declared.Outcome.the-variants.{Done, Refused as ChangeRefused}
+use Rattle.model.specs.declared.RecordReply.{RecordReply}
+use Rattle.model.specs.Bytes.{word, long}
+use Rattle.model.specs.LogBufferDescriptor.{biased, idOf, offsetOf, termId, termOffset, tailOf, readingOf, reading, soundRecord, Sound, computePosition, publisherPosition}
+use Rattle.model.specs.Publication.{openRecord, changeOf}
+use Rattle.model.proofs.Moving.{term-id-back}
+use Rattle.model.proofs.Power.{power, shift-high}
+use Rattle.model.proofs.Sound.{id-small, initial-small}
+use Rattle.logbuffer.proofs.Exact.{near-sum, near-neg, near-fits}
+use Rattle.publication.specs.Numbers.{numberVerdict}
+use Rattle.publication.proofs.Ids.{id-difference, near-position, small-limit}
+
+-- ---- 2, 5
+
+module _ (v : Reading) where
+  by-tests : (b c : Bool) → soundRecord v ≡ b → v .closed ≡ c → numberVerdict v ≡ cond b (cond c (Refuse PublicationClosed) Pass) (Refuse IllegalRecord)
+  unfolding numberVerdict
+  by-tests b c eb ec = ap₂ (λ (x y : Bool). cond x (cond y (Refuse PublicationClosed) Pass) (Refuse IllegalRecord)) eb ec
+
+  pub number-2 : soundRecord v ≡ false → Refuse IllegalRecord ≡ numberVerdict v
+  number-2 h = sym (by-tests false (v .closed) h refl)
+
+  pub number-5 : soundRecord v ≡ true → v .closed ≡ true → Refuse PublicationClosed ≡ numberVerdict v
+  number-5 h k = sym (by-tests true true h k)
+
+  pub number-last : soundRecord v ≡ true → v .closed ≡ false → Pass ≡ numberVerdict v
+  number-last h k = sym (by-tests true false h k)
+
+  pub number-sound : numberVerdict v ≡ Pass → soundRecord v ≡ true
+  number-sound h = go (soundRecord v) (v .closed) refl refl
+    where
+      go : (b c : Bool) → soundRecord v ≡ b → v .closed ≡ c → soundRecord v ≡ true
+      go true c eb ec = eb
+      go false c eb ec = let k : Refuse IllegalRecord ≡ Pass = sym (by-tests false c eb ec) ∙ h in absurd (let z : _≡_ {A = ℕ} 0 1 = cc in omega arith)
+
+  -- what the calls answer, by it
+  abbrev answered : ℤ → Verdict → Positioned
+  answered n Pass = Position n
+  answered n (Refuse e) = Refused e
+
+  pub number-is : (n : ℤ) (x : Verdict) → numberVerdict v ≡ x → answered n x ≡ openRecord v n
+  unfolding openRecord numberVerdict
+  number-is n x h = ap (answered n) (sym h) ∙ go (soundRecord v) (v .closed)
+    where
+      go : (b c : Bool) → answered n (cond b (cond c (Refuse PublicationClosed) Pass) (Refuse IllegalRecord)) ≡ cond b (cond c (Refused PublicationClosed) (Position n)) (Refused IllegalRecord)
+      go false c = refl
+      go true false = refl
+      go true true = refl
+
+-- ---- the position
+
+module _ (r : LogRecord) (v : Reading) (n : ℕ) (ev : v ≡ reading r) (s : Sound v n) where
+  shifted : 2 ^ trailingZeros 32 (v .term) ≡ v .term
+  shifted = power 32 (v .term) (omega (arith, s .term-high)) (s .one-bit)
+
+  ids : (raw : ℤ) → SFits w64 raw → SFits w32 (r .«initial_term_id») → raw ≡ tailOf r (v .count % 3) → termId raw -ℤ r .«initial_term_id» ≡ pos (v .id) -ℤ pos (v .initial)
+  unfolding readingOf
+  ids raw f fi er =
+      let t : SFits w32 (termId raw) = sfits-toZ (record { fits = upper (long raw) (fits-ofZ f .fits) }) in
+      sym (id-difference (termId raw) (r .«initial_term_id») t fi) ∙ ap₂ (λ (x y : ℕ). pos x -ℤ pos y) (term-id-back raw f ∙ ap idOf er ∙ sym (ap (λ (x : Reading). x .id) ev ∙ back (v .count) (ap (λ (x : Reading). x .count) ev))) (sym (ap (λ (x : Reading). x .initial) ev))
+    where
+      upper : (x : ℕ) → x < 18446744073709551616 → x / 4294967296 < 4294967296
+      upper x h = omega arith
+
+      back : (k : ℕ) → k ≡ reading r .count → reading r .id ≡ idOf (tailOf r (k % 3))
+      back k e = ap (λ (j : ℕ). idOf (tailOf r (j % 3))) (sym e)
+
+  pub position-by : (raw initial id : ℤ) (offset bits : ℕ) → SFits w64 raw → raw ≡ tailOf r (v .count % 3) → SFits w32 (r .«initial_term_id») → initial ≡ r .«initial_term_id» → id ≡ termId raw
+      → offset ≡ termOffset raw (v .term) → bits ≡ trailingZeros 32 (v .term) → computePosition id offset bits initial ≡ Position (publisherPosition v)
+  unfolding computePosition readingOf
+  position-by raw initial id offset bits f er fi ei ed eo eb =
+      let e : 2 ^ bits ≡ v .term = ap (λ (x : ℕ). 2 ^ x) eb ∙ shifted in
+      let l : bits ≤ 30 = shift-high bits (v .term) e (s .term-high) in
+      let d : id -ℤ initial ≡ pos (v .id) -ℤ pos (v .initial) = ap₂ (λ (x y : ℤ). x -ℤ y) ed ei ∙ ids raw f fi er in
+      let o : offset ≡ min (v .offset) (v .term) = eo ∙ ap (λ (x : ℕ). min x (v .term)) (ap offsetOf er ∙ sym (ap (λ (x : Reading). x .offset) ev ∙ ap (λ (j : ℕ). offsetOf (tailOf r (j % 3))) (sym (ap (λ (x : Reading). x .count) ev)))) in
+      simp (le-ltb 30 bits l) (ap₂ (λ (x y : ℤ). Position (x +ℤ y)) (ap₂ (λ (x : ℤ) (y : ℕ). x *ℤ pos y) d e) (ap pos o))
+
+  pub position-near : natAbs (publisherPosition v) ≤ 4611686018427387903
+  position-near =
+      near-position (v .id) (v .initial) (v .term) (min (v .offset) (v .term)) (subst (λ (x : Reading). x .id < 4294967296) (sym ev) (id-small _ _)) (subst (λ (x : Reading). x .initial < 4294967296) (sym ev) (initial-small _ _)) (s .initial-low) (s .term-high)
+      (omega arith)
+
+  limit-near : SFits w64 (r .«publication_limit») → natAbs (r .«publication_limit») ≤ 4611686018427387904
+  unfolding readingOf
+  limit-near f = small-limit (r .«publication_limit») f (subst (λ (x : ℕ). x ≤ 4611686018427387904) (ap (λ (x : Reading). x .limit) ev) (s .limit-high))
+
+  pub position-fits : SFits w64 (publisherPosition v)
+  position-fits = near-fits (publisherPosition v) (omega (arith, position-near))
+
+  pub window-fits : SFits w64 (r .«publication_limit») → SFits w64 (r .«publication_limit» -ℤ publisherPosition v)
+  window-fits f =
+      near-fits (r .«publication_limit» -ℤ publisherPosition v)
+      (omega (arith, near-sum (r .«publication_limit») (negℤ (publisherPosition v)), near-neg (publisherPosition v), position-near, limit-near f))
+
+-- ---- changes of the record
+
+pub change-no : (r next : LogRecord) → soundRecord (reading next) ≡ false → record { next = r; answer = ChangeRefused IllegalRecord } ≡ changeOf r next
+unfolding changeOf
+change-no r next h = simp h
+
+pub change-done : (r next : LogRecord) → soundRecord (reading next) ≡ true → record { next = next; answer = Done } ≡ changeOf r next
+unfolding changeOf
+change-done r next h = simp h

@@ -1,0 +1,55 @@
+-- The laws of offers by the numbers that the code has.
+use mathlib.Core.Path.{_≡_, refl, sym, ap, ap₂, _∙_, subst}
+use mathlib.Core.Bool.{Bool, true, false}
+use mathlib.Core.List.{List}
+use Prim.Native.Nat.{ℕ, _+_, _-_, _*_, _%_, _≤_, _<_}
+use native.Mathlib.Omega.{arith}
+use lib.ListN.{length}
+use lib.IntN.{ℤ}
+use Rattle.model.specs.declared.LogRecord.{LogRecord}
+use Rattle.model.specs.declared.Reading.{Reading}
+use Rattle.model.specs.declared.Verdict.the-variants.{Pass}
+use Rattle.model.specs.declared.Appended.the-variants.{Offset, Tripped}
+use Rattle.model.specs.declared.AppendReply.{AppendReply}
+use Rattle.model.specs.Bytes.{word, long}
+use Rattle.model.specs.LogBufferDescriptor.{biased, readingOf, reading, active, payloadLimit, lastTerm}
+use Rattle.model.specs.TermAppender.{need, course}
+use Rattle.model.specs.Publication.{beforeAppend, offerOf, offerBytes}
+use Rattle.model.proofs.Append.{appendReply, appendBytes}
+use Rattle.model.proofs.Moving.{need-32}
+use Rattle.model.proofs.OfferLaws.{Turns, after, offer-is, end-in, trip-turns}
+
+-- the active partition, by the count that was read
+pub active-by : (r : LogRecord) (v : Reading) → v ≡ reading r → v .count % 3 ≡ active r
+unfolding readingOf
+active-by r v e = ap (λ (x : Reading). x .count % 3) e
+
+module _ (r : LogRecord) (log m : List ℕ) (v : Reading) (k g : ℕ) (a : AppendReply) (ek : k ≡ active r) (ev : v ≡ reading r) (eg : g ≡ v .id)
+    (ea : a ≡ appendReply r log k (v .mtu - 32) m g) where
+  pub here : v ≡ readingOf r k
+  here = ev ∙ ap (readingOf r) (sym ek)
+
+  -- an offer that nothing refuses before its append
+  pub offer-by : (log′ : List ℕ) (reserved : ℤ) (z : ℕ) → z ≡ long reserved → beforeAppend v (length log) (length m) Pass ≡ Pass
+      → log′ ≡ appendBytes r log k (v .mtu - 32) m z g → (after v a ≡ offerOf r log m) × (log′ ≡ offerBytes r log m reserved)
+  offer-by log′ reserved z ez h el =
+      let law = offer-is r log m reserved (subst (λ (x : Reading). beforeAppend x (length log) (length m) Pass ≡ Pass) ev h) in
+      let one : (u : Reading) (j : ℕ) → v ≡ u → k ≡ j → a ≡ appendReply r log j (payloadLimit u) m (u .id) = λ u j eu ej. cc in
+      let two : (u : Reading) (j : ℕ) → v ≡ u → k ≡ j → log′ ≡ appendBytes r log j (payloadLimit u) m (long reserved) (u .id) = λ u j eu ej. cc in
+      (ap₂ after ev (one (reading r) (active r) ev ek) ∙ law .0, two (reading r) (active r) ev ek ∙ law .1)
+
+  -- one that ends at an offset ends in its term
+  pub end-by : (end : ℕ) → a .answer ≡ Offset end → end ≤ v .term
+  end-by end h =
+      subst (λ (x : Reading). end ≤ x .term) (sym here)
+      (end-in r (readingOf r k) k (length log) (need (v .mtu - 32) (length m)) g end _ refl (sym (ap (λ (x : AppendReply). x .answer) ea) ∙ h))
+
+  -- one that tripped leaves a record that turns
+  pub turns-by : (count id : ℤ) → count ≡ r .«active_term_count» → biased (word id) ≡ g → length (r .tails) ≡ 3 → (v .mtu - 32) % 32 ≡ 0 → a .answer ≡ Tripped → Turns (a .next) v count id
+  turns-by count id ec ei three p h =
+      let nd = need (v .mtu - 32) (length m) in
+      let law = trip-turns r (readingOf r k) k (length log) nd g id (course (readingOf r k) (length log) nd g) (ap (readingOf r) ek) ek refl (sym (ap (λ (x : AppendReply). x .answer) ea) ∙ h) three (need-32 (v .mtu - 32) (length m) p)
+      (ei ∙ eg ∙ ap (λ (x : Reading). x .id) here) in
+      subst (λ (q : LogRecord). Turns q v count id) (sym (ap (λ (x : AppendReply). x .next) ea))
+      (subst (λ (x : Reading). Turns (appendReply r log k (v .mtu - 32) m g .next) x count id) (sym here)
+      (subst (λ (n : ℤ). Turns (appendReply r log k (v .mtu - 32) m g .next) (readingOf r k) n id) (sym ec) law))

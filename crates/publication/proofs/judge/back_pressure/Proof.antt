@@ -1,0 +1,32 @@
+-- The tests pick the case.
+use native.Mathlib.Omega.{arith}
+use Rattle.model.proofs.Sound.{begin-most}
+use Rattle.model.proofs.OfferLaws.{pressed-7, pressed-8, pressed-9}
+use borrow.Author.Needs.{needs}
+use Rattle.publication.proofs.judge.back_pressure.Statement.{statement}
+use Rattle.publication.proofs.judge.back_pressure.Tie as tie
+
+mul-if1 : tie.Need-mul-if1
+mul-if1 c = omega (arith, begin-most _ (c .pre .0))
+
+add-if1 : tie.Need-add-if1
+add-if1 c = omega (arith, begin-most _ (c .pre .0))
+
+add-if1-2 : tie.Need-add-if1-2
+add-if1-2 c = omega (arith, begin-most _ (c .pre .0))
+
+mul-if1-2 : tie.Need-mul-if1-2
+mul-if1-2 c = search needs
+
+returns : tie.Need-returns
+returns c = pressed-7 _ _ (c .if1 .taken)
+
+returns-2 : tie.Need-returns-2
+returns-2 c = pressed-8 _ _ (c .before .if1 .left) (c .if2 .taken)
+
+returns-3 : tie.Need-returns-3
+returns-3 c = pressed-9 _ _ (c .before .if1 .left) (c .if2 .left)
+
+pub back-pressure-spec : {M : Type 1} → statement M
+back-pressure-spec =
+    tie.close (tie.spec mul-if1 add-if1 add-if1-2 mul-if1-2 returns returns-2 returns-3)

@@ -1,0 +1,54 @@
+-- Each signed number that is handed on is itself, and each raw tail that of its id.
+use Rattle.publication.proofs.OpenLaws.{opened-by}
+use Rattle.model.specs.Publication.{openedRecord}
+use Rattle.model.specs.LogBufferDescriptor.{biased, rawOf}
+use Rattle.model.specs.Bytes.{word}
+use Rattle.model.specs.declared.LogRecord.{LogRecord}
+use mir.Facts.{toZ-ofZ}
+use mir.Val.{SFits, toZ, ofZ}
+use mir.Syntax.{w32, w64}
+use lib.IntN.{ℤ, pos}
+use Prim.Native.Nat.{ℕ, _-_}
+use mathlib.Core.List.{List, [], _∷_}
+use mathlib.Core.Path.{_≡_, refl, sym, ap, ap₂, subst, _∙_}
+use borrow.Author.Needs.{needs}
+use Rattle.publication.proofs.opening.opened.Statement.{statement}
+use Rattle.publication.proofs.opening.opened.Tie as tie
+
+biased-id-requires : tie.Need-biased-id-requires
+biased-id-requires c κs = search needs
+
+raw-tail-requires : tie.Need-raw-tail-requires
+raw-tail-requires c κs = search needs
+
+before-requires : tie.Need-before-requires
+before-requires c κs = search needs
+
+raw-tail-requires-2 : tie.Need-raw-tail-requires-2
+raw-tail-requires-2 c κs = search needs
+
+before-requires-2 : tie.Need-before-requires-2
+before-requires-2 c κs = search needs
+
+raw-tail-requires-3 : tie.Need-raw-tail-requires-3
+raw-tail-requires-3 c κs = search needs
+
+returns : tie.Need-returns
+returns c = let s = c .before .before .before .before .before .before in
+    let e : c .before .before .before .before .before .biased-id .result ≡ biased (word (s .args .initial-term-id)) = c .before .before .before .before .before .biased-id .ensures .0 ∙ ap (λ (z : ℤ). biased (word z)) (toZ-ofZ (s .fits .initial-term-id)) in
+    opened-by _ _ _ _ _ _ _ _ _ _ _ _ _ (toZ-ofZ (s .fits .term-length)) (toZ-ofZ (s .fits .mtu-length)) (toZ-ofZ (s .fits .initial-term-id)) (toZ-ofZ (s .fits .session-id)) (toZ-ofZ (s .fits .stream-id))
+    (toZ-ofZ {w = w64} {z = c .before .before .before .before .raw-tail .result} (search needs) ∙ c .before .before .before .before .raw-tail .ensures ∙ ap (λ (n : ℕ). rawOf n 0) e)
+    (toZ-ofZ {w = w64} {z = c .before .before .raw-tail2 .result} (search needs) ∙ c .before .before .raw-tail2 .ensures ∙ ap (λ (n : ℕ). rawOf n 0) (c .before .before .before .before2 .ensures ∙ ap (λ (n : ℕ). n - 2) e))
+    (toZ-ofZ {w = w64} {z = c .raw-tail3 .result} (search needs) ∙ c .raw-tail3 .ensures ∙ ap (λ (n : ℕ). rawOf n 0) (c .before .before3 .ensures ∙ ap (λ (n : ℕ). n - 1) e))
+
+pub opened-spec : {M : Type 1} → statement M
+opened-spec =
+    tie.close
+    (tie.spec
+    biased-id-requires
+    raw-tail-requires
+    before-requires
+    raw-tail-requires-2
+    before-requires-2
+    raw-tail-requires-3
+    returns)

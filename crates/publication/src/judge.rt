@@ -1,0 +1,117 @@
+// The refusals of an offer and of a claim that leave everything as it was, in document 01's order.
+ghost use mathlib.Core.Path.{_≡_};
+ghost use Prim.Native.Nat.{_≤_, _<_};
+ghost use Rattle.model.specs.declared.Verdict.the-variants.{Pass};
+ghost use Rattle.model.specs.Publication.{tooLong, pressed, afterClosed, beforeAppend, claimVerdict};
+ghost use Rattle.model.proofs.Sound.{Bounds};
+use logbuffer::log_buffer_descriptor;
+use model::Error;
+use model::Reading;
+use model::Verdict;
+
+// Over both the payload limit and the message limit.
+fn too_long(v: Reading, m: usize) -> bool
+    requires { ⌜ 32 ≤ v .mtu ⌝ }
+    ensures { λ r. ⌜ r ≡ tooLong v m ⌝ }
+{
+    let term = v.term;
+    let mtu = v.mtu;
+    if m <= mtu - 32 {
+        return false;
+    }
+    if term / 8 <= 16777216 {
+        return m > term / 8;
+    }
+    m > 16777216
+}
+
+// Not below the limit: 7, 8 or 9.
+fn back_pressure(v: Reading, m: usize) -> Error
+    requires { ⌜ Bounds v × (m ≤ 2147483647) ⌝ }
+    ensures { λ r. ⌜ r ≡ pressed v m ⌝ }
+{
+    let term = v.term;
+    let count = v.count;
+    let offset = v.offset;
+    let connected = v.connected;
+    if count * term + offset + m >= term * 2147483648 {
+        return Error::MaxPositionExceeded;
+    }
+    if connected == 1 {
+        return Error::BackPressured;
+    }
+    Error::NotConnected
+}
+
+// What both ask once they are not closed: 6 (count), 7/8/9.
+fn after_closed(v: Reading, m: usize) -> Verdict
+    requires { ⌜ Bounds v × ((v .initial < 4294967296) × (m ≤ 2147483647)) ⌝ }
+    ensures { λ r. ⌜ r ≡ afterClosed v m Pass ⌝ }
+{
+    let id = v.id;
+    let initial = v.initial;
+    let count = v.count;
+    let term = v.term;
+    let offset = v.offset;
+    let limit = v.limit;
+    if id != initial + count {
+        return Verdict::Refuse(Error::AdminAction);
+    }
+    if limit <= count * term + offset {
+        return Verdict::Refuse(back_pressure(v, m));
+    }
+    Verdict::Pass
+}
+
+// Of an offer, all but 11, which the appender refuses.
+pub fn before_offer(v: Reading, n: usize, m: usize) -> Verdict
+    requires { ⌜ v .initial < 4294967296 ⌝ }
+    ensures { λ r. ⌜ r ≡ beforeAppend v n m Pass ⌝ }
+{
+    if m > 2147483647 {
+        return Verdict::Refuse(Error::IllegalArgument);
+    }
+    if !log_buffer_descriptor::is_sound(v, n) {
+        return Verdict::Refuse(Error::IllegalRecord);
+    }
+    if v.closed {
+        return Verdict::Refuse(Error::PublicationClosed);
+    }
+    let rest = after_closed(v, m);
+    let Verdict::Pass = rest else {
+        return rest;
+    };
+    if too_long(v, m) {
+        return Verdict::Refuse(Error::ExceedsMaxMessageLength);
+    }
+    Verdict::Pass
+}
+
+// Of a claim, all of them.
+pub fn before_claim(v: Reading, n: usize, m: usize) -> Verdict
+    requires { ⌜ v .initial < 4294967296 ⌝ }
+    ensures { λ r. ⌜ r ≡ claimVerdict v n m ⌝ }
+{
+    if m > 2147483647 {
+        return Verdict::Refuse(Error::IllegalArgument);
+    }
+    if !log_buffer_descriptor::is_sound(v, n) {
+        return Verdict::Refuse(Error::IllegalRecord);
+    }
+    let mtu = v.mtu;
+    if m > mtu - 32 {
+        return Verdict::Refuse(Error::ExceedsMaxPayloadLength);
+    }
+    if v.closed {
+        return Verdict::Refuse(Error::PublicationClosed);
+    }
+    let rest = after_closed(v, m);
+    let Verdict::Pass = rest else {
+        return rest;
+    };
+    let offset = v.offset;
+    if offset + (m + 32 + 31) / 32 * 32 > 2147483647 {
+        return Verdict::Refuse(Error::TailOverflow);
+    }
+    Verdict::Pass
+}

@@ -1,0 +1,220 @@
+// The publication above the leaf library, of which it knows only the promises: an offer.
+ghost use mathlib.Core.Path.{_≡_};
+ghost use Prim.Native.Nat.{_%_, _≤_, _<_};
+ghost use lib.ListN.{length as lengthOf};
+ghost use Rattle.model.specs.declared.Verdict.the-variants.{Pass};
+ghost use Rattle.model.specs.Bytes.{word, long};
+ghost use Rattle.model.specs.LogBufferDescriptor.{biased, readingOf, reading};
+ghost use Rattle.model.specs.Publication.{beforeAppend, tripNext, tripError, offerOf, offerBytes, claimVerdict, claimOf, claimBytes};
+ghost use Rattle.model.proofs.Sound.{Bounds};
+ghost use Rattle.model.proofs.Append.{appendReply, appendBytes};
+ghost use Rattle.model.proofs.OfferLaws.{Turns};
+use logbuffer::log_buffer_descriptor;
+use logbuffer::term_appender;
+use model::AppendReply;
+use model::Appended;
+use model::AppendedClaim;
+use model::ClaimReply;
+use model::Claimed;
+use model::Error;
+use model::LogRecord;
+use model::OfferReply;
+use model::Offered;
+use model::Reading;
+use model::Verdict;
+
+mod judge;
+pub mod opening;
+pub mod positions;
+
+// What an offer or a claim that tripped leaves and answers.
+struct Trip {
+    next: LogRecord,
+    error: Error,
+}
+
+// The term id of partition k's tail, as the appenders take it.
+fn own_term_id(rec: LogRecord, k: usize) -> i32
+    requires { ⌜ k < 3 ⌝ }
+    ensures { λ r. ⌜ biased (word r) ≡ readingOf rec k .id ⌝ }
+{
+    log_buffer_descriptor::term_id(rec.tails[k])
+}
+
+// After a trip: 7, 12, or rotated and 6. `next` is the record with the tail moved; its count and term id are handed to the rotation.
+fn after_trip(next: LogRecord, v: Reading, count: i32, term_id: i32) -> Trip
+    requires { ⌜ Bounds v × Turns next v count «term_id» ⌝ }
+    ensures { λ r. ⌜ (r .next ≡ tripNext next v) × (r .error ≡ tripError v) ⌝ }
+{
+    let term = v.term;
+    let active = v.count;
+    let offset = v.offset;
+    let id = v.id;
+    if active * term + offset + offset > term * 2147483648 {
+        return Trip {
+            next: next,
+            error: Error::MaxPositionExceeded,
+        };
+    }
+    if id == 4294967295 {
+        return Trip {
+            next: next,
+            error: Error::LastTerm,
+        };
+    }
+    if active == 2147483647 {
+        return Trip {
+            next: next,
+            error: Error::LastTerm,
+        };
+    }
+    let turned = log_buffer_descriptor::rotate_log(next, count, term_id);
+    let last = turned.next;
+    Trip {
+        next: last,
+        error: Error::AdminAction,
+    }
+}
+
+// ---- offer
+
+// One frame or as many as the message needs, at partition k.
+fn append_message(
+    rec: LogRecord,
+    log: &mut [u8],
+    k: usize,
+    payload: usize,
+    message: &[u8],
+    reserved: i64,
+    term_id: i32,
+) -> AppendReply
+    requires { ⌜ (k ≤ 2) × ((32 ≤ payload) × ((payload ≤ 65472) × ((payload % 32 ≡ 0) × (lengthOf (now message) ≤ 2147483647)))) ⌝ }
+    ensures { λ r. ⌜ r ≡ appendReply rec (now (log .entry)) k payload (now (message .entry)) (biased (word «term_id»)) ⌝ }
+    ensures { λ _. ⌜ now (log .exit) ≡ appendBytes rec (now (log .entry)) k payload (now (message .entry)) (long reserved) (biased (word «term_id»)) ⌝ }
+{
+    if message.len() <= payload {
+        return term_appender::append_unfragmented_message(
+            rec,
+            log,
+            k as i32,
+            message,
+            reserved,
+            term_id,
+        );
+    }
+    term_appender::append_fragmented_message(
+        rec,
+        log,
+        k as i32,
+        message,
+        reserved,
+        payload as i32,
+        term_id,
+    )
+}
+
+// The append of an offer that nothing refuses before it, and what its answer leads to.
+fn offer_on(rec: LogRecord, log: &mut [u8], v: Reading, message: &[u8], reserved: i64) -> OfferReply
+    requires { ⌜ (v ≡ reading rec) × (beforeAppend v (lengthOf (now log)) (lengthOf (now message)) Pass ≡ Pass) ⌝ }
+    ensures { λ r. ⌜ r ≡ offerOf rec (now (log .entry)) (now (message .entry)) ⌝ }
+    ensures { λ _. ⌜ now (log .exit) ≡ offerBytes rec (now (log .entry)) (now (message .entry)) reserved ⌝ }
+{
+    let mtu = v.mtu;
+    let count = v.count;
+    let term = v.term;
+    let term_id = own_term_id(rec, count % 3);
+    let a = append_message(rec, log, count % 3, mtu - 32, message, reserved, term_id);
+    let answer = a.answer;
+    let next = a.next;
+    let Appended::Offset(end) = answer else {
+        let Appended::Refused(e) = answer else {
+            let t = after_trip(next, v, rec.active_term_count, term_id);
+            let last = t.next;
+            let error = t.error;
+            return OfferReply {
+                next: last,
+                answer: Offered::Refused(error),
+            };
+        };
+        return OfferReply {
+            next: next,
+            answer: Offered::Refused(e),
+        };
+    };
+    OfferReply {
+        next: next,
+        answer: Offered::Position((count * term + end) as i64),
+    }
+}
+
+// A message is offered.
+pub fn offer(rec: LogRecord, log: &mut [u8], message: &[u8], reserved_value: i64) -> OfferReply
+    ensures { λ r. ⌜ r ≡ offerOf rec (now (log .entry)) (now (message .entry)) ⌝ }
+    ensures { λ _. ⌜ now (log .exit) ≡ offerBytes rec (now (log .entry)) (now (message .entry)) «reserved_value» ⌝ }
+{
+    let v = log_buffer_descriptor::read_active(rec);
+    match judge::before_offer(v, log.len(), message.len()) {
+        Verdict::Refuse(e) => OfferReply {
+            next: rec,
+            answer: Offered::Refused(e),
+        },
+        Verdict::Pass => offer_on(rec, log, v, message, reserved_value),
+    }
+}
+
+// ---- claim
+
+// The claiming append of a claim that nothing refuses, and what its answer leads to.
+fn claim_on(rec: LogRecord, log: &mut [u8], v: Reading, length: i32) -> ClaimReply
+    requires { ⌜ (v ≡ reading rec) × (claimVerdict v (lengthOf (now log)) (word length) ≡ Pass) ⌝ }
+    ensures { λ r. ⌜ r ≡ claimOf rec (now (log .entry)) length ⌝ }
+    ensures { λ _. ⌜ now (log .exit) ≡ claimBytes rec (now (log .entry)) length ⌝ }
+{
+    let count = v.count;
+    let term = v.term;
+    let k = count % 3;
+    let term_id = own_term_id(rec, k);
+    let a = term_appender::claim(rec, log, k as i32, length, term_id);
+    let answer = a.answer;
+    let next = a.next;
+    let AppendedClaim::Claimed(end, claim) = answer else {
+        let AppendedClaim::Refused(e) = answer else {
+            let t = after_trip(next, v, rec.active_term_count, term_id);
+            let last = t.next;
+            let error = t.error;
+            return ClaimReply {
+                next: last,
+                answer: Claimed::Refused(error),
+            };
+        };
+        return ClaimReply {
+            next: next,
+            answer: Claimed::Refused(e),
+        };
+    };
+    ClaimReply {
+        next: next,
+        answer: Claimed::Position((count * term + end) as i64, claim),
+    }
+}
+
+// A frame is claimed, to be written by its owner and then committed or aborted.
+pub fn try_claim(rec: LogRecord, log: &mut [u8], length: i32) -> ClaimReply
+    ensures { λ r. ⌜ r ≡ claimOf rec (now (log .entry)) length ⌝ }
+    ensures { λ _. ⌜ now (log .exit) ≡ claimBytes rec (now (log .entry)) length ⌝ }
+{
+    if length < 0 {
+        return ClaimReply {
+            next: rec,
+            answer: Claimed::Refused(Error::IllegalArgument),
+        };
+    }
+    let v = log_buffer_descriptor::read_active(rec);
+    match judge::before_claim(v, log.len(), length as usize) {
+        Verdict::Refuse(e) => ClaimReply {
+            next: rec,
+            answer: Claimed::Refused(e),
+        },
+        Verdict::Pass => claim_on(rec, log, v, length),
+    }
+}

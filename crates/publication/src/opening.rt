@@ -1,0 +1,129 @@
+// A log is opened: zeroed, with the record of an empty log.
+ghost use mathlib.Core.Path.{_≡_};
+ghost use Prim.Native.Nat.{_-_, _<_};
+ghost use lib.ListN.{length};
+ghost use Rattle.model.specs.Bytes.{zeros, word};
+ghost use Rattle.model.specs.LogBufferDescriptor.{biased, rawOf};
+ghost use Rattle.model.specs.Publication.{openedRecord, noRecord, openOf, openBytes};
+use logbuffer::log_buffer_descriptor;
+use model::Error;
+use model::LogRecord;
+use model::Outcome;
+use model::RecordReply;
+
+// One plain loop, of which LLVM makes a call of memset.
+fn clear(log: &mut [u8])
+    ensures { λ _. ⌜ now (log .exit) ≡ zeros (length (now (log .entry))) ⌝ }
+{
+    let mut i = 0;
+    while i < log.len() {
+        log[i] = 0;
+        i += 1;
+    }
+}
+
+// A term id with 2^31 added.
+fn biased_id(id: i32) -> usize
+    ensures { λ r. ⌜ (r ≡ biased (word id)) × (r < 4294967296) ⌝ }
+{
+    ((id as i64) + 2147483648) as usize
+}
+
+// The raw tail at the start of the term of a biased id.
+fn raw_tail(id: usize) -> i64
+    requires { ⌜ id < 4294967296 ⌝ }
+    ensures { λ r. ⌜ r ≡ rawOf id 0 ⌝ }
+{
+    ((id as i64) - 2147483648) * 4294967296
+}
+
+// So many ids before; 0 where there are none.
+fn before(id: usize, n: usize) -> usize
+    ensures { λ r. ⌜ r ≡ id - n ⌝ }
+{
+    if id < n {
+        return 0;
+    }
+    id - n
+}
+
+// The record of an empty log.
+fn opened(
+    term_length: i32,
+    mtu_length: i32,
+    initial_term_id: i32,
+    session_id: i32,
+    stream_id: i32,
+) -> LogRecord
+    ensures { λ r. ⌜ r ≡ openedRecord «term_length» «mtu_length» «initial_term_id» «session_id» «stream_id» ⌝ }
+{
+    let id = biased_id(initial_term_id);
+    let first = raw_tail(id);
+    let second = raw_tail(before(id, 2));
+    let third = raw_tail(before(id, 1));
+    LogRecord {
+        tails: [first, second, third],
+        active_term_count: 0,
+        initial_term_id: initial_term_id,
+        term_length: term_length,
+        mtu_length: mtu_length,
+        session_id: session_id,
+        stream_id: stream_id,
+        is_connected: 1,
+        publication_limit: 0,
+        end_of_stream_position: 9223372036854775807,
+        is_closed: false,
+    }
+}
+
+// What a refused opening answers.
+fn no_record() -> LogRecord
+    ensures { λ r. ⌜ r ≡ noRecord ⌝ }
+{
+    LogRecord {
+        tails: [0, 0, 0],
+        active_term_count: 0,
+        initial_term_id: 0,
+        term_length: 0,
+        mtu_length: 0,
+        session_id: 0,
+        stream_id: 0,
+        is_connected: 0,
+        publication_limit: 0,
+        end_of_stream_position: 0,
+        is_closed: false,
+    }
+}
+
+// `open` is a word of the language.
+pub fn open_log(
+    log: &mut [u8],
+    term_length: i32,
+    mtu_length: i32,
+    initial_term_id: i32,
+    session_id: i32,
+    stream_id: i32,
+) -> RecordReply
+    ensures { λ r. ⌜ r ≡ openOf (now (log .entry)) «term_length» «mtu_length» «initial_term_id» «session_id» «stream_id» ⌝ }
+    ensures { λ _. ⌜ now (log .exit) ≡ openBytes (now (log .entry)) «term_length» «mtu_length» «initial_term_id» «session_id» «stream_id» ⌝ }
+{
+    let rec = opened(
+        term_length,
+        mtu_length,
+        initial_term_id,
+        session_id,
+        stream_id,
+    );
+    let v = log_buffer_descriptor::read_active(rec);
+    if !log_buffer_descriptor::is_sound(v, log.len()) {
+        return RecordReply {
+            next: no_record(),
+            answer: Outcome::Refused(Error::IllegalRecord),
+        };
+    }
+    clear(log);
+    RecordReply {
+        next: rec,
+        answer: Outcome::Done,
+    }
+}

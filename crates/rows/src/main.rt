@@ -1,0 +1,183 @@
+// Document 01's small inputs, one for each refusal that the calls of `logbuffer` and `publication` can give, and the marked positions
+// that are no theorems. A line for each: the call, its number (0: none), its position or value, and the active term count after it.
+mod print;
+
+use logbuffer::buffer_claim;
+use logbuffer::term_appender;
+use logbuffer::term_reader;
+use logbuffer::term_scan;
+use model::Claim;
+use model::ClaimReply;
+use model::Claimed;
+use model::LogRecord;
+use publication::opening;
+use publication::positions;
+
+// An empty log of 65,536 bytes a term, mtu 96, initial id 7, with a large limit.
+fn fresh(log: &mut [u8]) -> LogRecord {
+    let opened = opening::open_log(log, 65536, 96, 7, 11, 12);
+    let rec = opened.next;
+    let limited = positions::set_publication_limit(rec, 1099511627776);
+    limited.next
+}
+
+// The raw tail of partition 0 set.
+fn with_tail(rec: LogRecord, raw: i64) -> LogRecord {
+    let mut next = rec;
+    next.tails[0] = raw;
+    next
+}
+
+fn with_limit(rec: LogRecord, limit: i64) -> LogRecord {
+    let limited = positions::set_publication_limit(rec, limit);
+    limited.next
+}
+
+fn closed(rec: LogRecord) -> LogRecord {
+    let reply = positions::close(rec);
+    reply.next
+}
+
+// The marked positions: messages of 8,192 and 8,193 bytes, and a full term.
+fn marked() {
+    let mut log = [0u8; 196608];
+    let message = [1u8; 8193];
+    let rec = fresh(&mut log);
+    print::offered(
+        b"offer 8192",
+        publication::offer(rec, &mut log, &message[..8192], 0),
+    );
+    let again = fresh(&mut log);
+    print::offered(
+        b"offer 8193",
+        publication::offer(again, &mut log, &message, 0),
+    );
+    let full = with_tail(fresh(&mut log), 30064836608);
+    print::offered(
+        b"offer 64 at 65536",
+        publication::offer(full, &mut log, &message[..64], 0),
+    );
+}
+
+// Rows 1, 4, 14: claims.
+fn claims() {
+    let mut log = [0u8; 196608];
+    let rec = fresh(&mut log);
+    print::claimed(b"claim -1", publication::try_claim(rec, &mut log, -1));
+    print::claimed(b"claim 65", publication::try_claim(rec, &mut log, 65));
+    print::claimed(
+        b"claim 65, closed",
+        publication::try_claim(closed(rec), &mut log, 65),
+    );
+    let reply = publication::try_claim(rec, &mut log, 10);
+    print::claimed(b"claim 10", reply);
+    commits(&mut log, reply);
+}
+
+fn commits(log: &mut [u8], reply: ClaimReply) {
+    let rec = reply.next;
+    let answer = reply.answer;
+    if let Claimed::Position(_, claim) = answer {
+        twice(rec, log, claim);
+    }
+}
+
+fn twice(rec: LogRecord, log: &mut [u8], claim: Claim) {
+    print::done(b"commit", rec, buffer_claim::commit(rec, log, claim));
+    print::done(b"second commit", rec, buffer_claim::commit(rec, log, claim));
+}
+
+// Rows 2, 5, 6, 8, 9, 11: opening and offers.
+fn offers() {
+    let mut log = [0u8; 196608];
+    let message = [2u8; 64];
+    print::changed(
+        b"open 65537",
+        opening::open_log(&mut log, 65537, 96, 7, 11, 12),
+    );
+    let rec = fresh(&mut log);
+    print::offered(
+        b"offer after close",
+        publication::offer(closed(rec), &mut log, &message, 0),
+    );
+    let near = with_tail(rec, 30064836544);
+    print::offered(
+        b"offer 64 at 65472",
+        publication::offer(near, &mut log, &message, 0),
+    );
+    let none = with_limit(fresh(&mut log), 0);
+    print::offered(
+        b"offer, limit 0",
+        publication::offer(none, &mut log, &message, 0),
+    );
+    let mut away = none;
+    away.is_connected = 0;
+    print::offered(
+        b"offer, limit 0, connected 0",
+        publication::offer(away, &mut log, &message, 0),
+    );
+    let over = with_tail(rec, 32212254688);
+    print::offered(
+        b"offer at 2147483616",
+        publication::offer(over, &mut log, &message[..0], 0),
+    );
+}
+
+// Rows 7 and 12: the last term of all, and the last term id.
+fn last_terms() {
+    let mut log = [0u8; 196608];
+    let message = [3u8; 64];
+    let mut last = fresh(&mut log);
+    last.initial_term_id = -2147483646;
+    last.active_term_count = 2147483647;
+    last.publication_limit = 0;
+    last.tails[1] = 4295032832;
+    print::offered(
+        b"offer, last term full, limit 0",
+        publication::offer(last, &mut log, &message, 0),
+    );
+    let mut end = fresh(&mut log);
+    end.initial_term_id = 2147483647;
+    end.tails[0] = 9223372032559874048;
+    print::offered(
+        b"offer, id 2147483647, term full",
+        publication::offer(end, &mut log, &message, 0),
+    );
+}
+
+// Row 13: an appender given another term id. Row 17: a frame of length 5.
+fn leaves() {
+    let mut log = [0u8; 196608];
+    let message = [4u8; 8];
+    let mut entries = [0i32; 8];
+    let rec = fresh(&mut log);
+    print::appended(
+        b"append, given 8",
+        term_appender::append_unfragmented_message(rec, &mut log, 0, &message, 0, 8),
+    );
+    log[0] = 5;
+    print::scanned(b"scan", rec, term_scan::scan(rec, &log, 0, 0, 65536));
+    print::term_read(
+        b"read",
+        rec,
+        term_reader::read(rec, &log, 0, 0, 4, &mut entries),
+    );
+    print::gap_scanned(
+        b"scan_for_gap",
+        rec,
+        term_scan::scan_for_gap(rec, &log, 0, 7, 0, 64),
+    );
+    print::available(
+        b"scan_for_availability",
+        rec,
+        term_scan::scan_for_availability(rec, &log, 0, 0, 64),
+    );
+}
+
+fn main() {
+    marked();
+    claims();
+    offers();
+    last_terms();
+    leaves();
+}
