@@ -1,8 +1,8 @@
-// The refusals of an offer and of a claim that leave everything as it was, in document 01's order.
+// The refusals of an offer that leave everything as it was, in document 01's order.
 ghost use mathlib.Core.Path.{_≡_};
 ghost use Prim.Native.Nat.{_≤_, _<_};
 ghost use Rattle.model.specs.declared.Verdict.the-variants.{Pass};
-ghost use Rattle.model.specs.Publication.{tooLong, pressed, afterClosed, beforeAppend, claimVerdict};
+ghost use Rattle.model.specs.Publication.{tooLong, pressed, afterClosed, beforeAppend};
 ghost use Rattle.model.proofs.Sound.{Bounds};
 use logbuffer::log_buffer_descriptor;
 use model::Error;
@@ -44,7 +44,7 @@ fn back_pressure(v: Reading, m: usize) -> Error
 }
 
 // What both ask once they are not closed: 6 (count), 7/8/9.
-fn after_closed(v: Reading, m: usize) -> Verdict
+pub fn after_closed(v: Reading, m: usize) -> Verdict
     requires { ⌜ Bounds v × ((v .initial < 4294967296) × (m ≤ 2147483647)) ⌝ }
     ensures { λ r. ⌜ r ≡ afterClosed v m Pass ⌝ }
 {
@@ -83,35 +83,6 @@ pub fn before_offer(v: Reading, n: usize, m: usize) -> Verdict
     };
     if too_long(v, m) {
         return Verdict::Refuse(Error::ExceedsMaxMessageLength);
-    }
-    Verdict::Pass
-}
-
-// Of a claim, all of them.
-pub fn before_claim(v: Reading, n: usize, m: usize) -> Verdict
-    requires { ⌜ v .initial < 4294967296 ⌝ }
-    ensures { λ r. ⌜ r ≡ claimVerdict v n m ⌝ }
-{
-    if m > 2147483647 {
-        return Verdict::Refuse(Error::IllegalArgument);
-    }
-    if !log_buffer_descriptor::is_sound(v, n) {
-        return Verdict::Refuse(Error::IllegalRecord);
-    }
-    let mtu = v.mtu;
-    if m > mtu - 32 {
-        return Verdict::Refuse(Error::ExceedsMaxPayloadLength);
-    }
-    if v.closed {
-        return Verdict::Refuse(Error::PublicationClosed);
-    }
-    let rest = after_closed(v, m);
-    let Verdict::Pass = rest else {
-        return rest;
-    };
-    let offset = v.offset;
-    if offset + (m + 32 + 31) / 32 * 32 > 2147483647 {
-        return Verdict::Refuse(Error::TailOverflow);
     }
     Verdict::Pass
 }

@@ -24,6 +24,7 @@ use model::Reading;
 use model::Verdict;
 
 mod judge;
+mod judge_claim;
 pub mod opening;
 pub mod positions;
 
@@ -210,7 +211,7 @@ pub fn try_claim(rec: LogRecord, log: &mut [u8], length: i32) -> ClaimReply
         };
     }
     let v = log_buffer_descriptor::read_active(rec);
-    match judge::before_claim(v, log.len(), length as usize) {
+    match judge_claim::before_claim(v, log.len(), length as usize) {
         Verdict::Refuse(e) => ClaimReply {
             next: rec,
             answer: Claimed::Refused(e),

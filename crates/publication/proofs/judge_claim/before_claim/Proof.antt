@@ -8,8 +8,8 @@ use Rattle.model.specs.LogBufferDescriptor.{sound, Sound}
 use Rattle.model.proofs.Sound.{sound-true, bounds}
 use Rattle.publication.proofs.ClaimLaws.{claim-1, claim-2, claim-4, claim-5, claim-7, claim-11}
 use borrow.Author.Needs.{needs}
-use Rattle.publication.proofs.judge.before_claim.Statement.{statement}
-use Rattle.publication.proofs.judge.before_claim.Tie as tie
+use Rattle.publication.proofs.judge_claim.before_claim.Statement.{statement}
+use Rattle.publication.proofs.judge_claim.before_claim.Tie as tie
 
 returns : tie.Need-returns
 returns c = claim-1 _ _ _ (c .if1 .taken)
@@ -26,8 +26,8 @@ so c = sound-true _ _ (is-so c)
 returns-2 : tie.Need-returns-2
 returns-2 c = claim-2 _ _ _ (c .before .before .if1 .left) (sym (c .before .is-sound .ensures) ∙ not-true _ (c .if2 .taken))
 
-sub-if3 : tie.Need-sub-if3
-sub-if3 c = omega (arith, so c)
+sub-payload : tie.Need-sub-payload
+sub-payload c = omega (arith, so c)
 
 returns-3 : tie.Need-returns-3
 returns-3 c = claim-4 _ _ _ (c .before .before .before .if1 .left) (is-so (c .before)) (c .if3 .taken)
@@ -72,7 +72,7 @@ before-claim-spec =
     returns
     is-sound-requires
     returns-2
-    sub-if3
+    sub-payload
     returns-3
     returns-4
     after-closed-requires

@@ -1,0 +1,39 @@
+// The refusals of a claim that leave everything as it was, in document 01's order: its length (4) before closed (5).
+ghost use mathlib.Core.Path.{_≡_};
+ghost use Prim.Native.Nat.{_<_};
+ghost use Rattle.model.specs.Publication.{claimVerdict};
+use crate::judge;
+use logbuffer::log_buffer_descriptor;
+use model::Error;
+use model::Reading;
+use model::Verdict;
+
+pub fn before_claim(v: Reading, n: usize, m: usize) -> Verdict
+    requires { ⌜ v .initial < 4294967296 ⌝ }
+    ensures { λ r. ⌜ r ≡ claimVerdict v n m ⌝ }
+{
+    if m > 2147483647 {
+        return Verdict::Refuse(Error::IllegalArgument);
+    }
+    if !log_buffer_descriptor::is_sound(v, n) {
+        return Verdict::Refuse(Error::IllegalRecord);
+    }
+    let mtu = v.mtu;
+    let payload = mtu - 32;
+    let closed = v.closed;
+    if m > payload {
+        return Verdict::Refuse(Error::ExceedsMaxPayloadLength);
+    }
+    if closed {
+        return Verdict::Refuse(Error::PublicationClosed);
+    }
+    let rest = judge::after_closed(v, m);
+    let Verdict::Pass = rest else {
+        return rest;
+    };
+    let offset = v.offset;
+    if offset + (m + 32 + 31) / 32 * 32 > 2147483647 {
+        return Verdict::Refuse(Error::TailOverflow);
+    }
+    Verdict::Pass
+}
