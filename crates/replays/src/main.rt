@@ -1,0 +1,203 @@
+// A mixed list of calls, and the replay of the log that it leaves. Below each call's line stands what it answered; then one line for each
+// message that the replay gives: where it lies (0 the log, 1 the lent buffer), its length, its first and its last byte. The messages are those
+// offered and committed, in order; refused offers and aborted claims leave none.
+use logbuffer::buffer_claim;
+use logbuffer::errors;
+use model::Claim;
+use model::Claimed;
+use model::Error;
+use model::LogRecord;
+use model::Offered;
+use model::Outcome;
+use model::Replayed;
+use publication::opening;
+use publication::positions;
+use replay::Replay;
+
+fn plain(v: i64) -> u64 {
+    if v < 0 {
+        return 0;
+    }
+    v as u64
+}
+
+fn small(v: i32) -> u64 {
+    if v < 0 {
+        return 0;
+    }
+    v as u64
+}
+
+// A call's line: its refusal's number, 0 for none, and its position.
+fn line(name: &[u8], number: u64, value: u64) {
+    io::write_all(1, name);
+    io::write_all(1, b": number ");
+    io::print_decimal(1, number);
+    io::write_all(1, b", position ");
+    io::print_decimal(1, value);
+    io::write_all(1, b"\n");
+}
+
+fn refused(name: &[u8], e: Error) {
+    line(name, small(errors::number(e)), 0);
+}
+
+fn offer(name: &[u8], rec: LogRecord, log: &mut [u8], message: &[u8]) -> LogRecord {
+    let reply = publication::offer(rec, log, message, 0);
+    let answer = reply.answer;
+    match answer {
+        Offered::Position(p) => line(name, 0, plain(p)),
+        Offered::Refused(e) => refused(name, e),
+    }
+    reply.next
+}
+
+fn done(name: &[u8], answer: Outcome) {
+    match answer {
+        Outcome::Done => line(name, 0, 0),
+        Outcome::Refused(e) => refused(name, e),
+    }
+}
+
+// The claim's body begins with 7, where there is one.
+fn fill(rec: LogRecord, log: &mut [u8], claim: Claim) {
+    let body = buffer_claim::body(rec, log, claim);
+    if body.len() > 0 {
+        body[0] = 7;
+    }
+}
+
+fn claim_and_commit(name: &[u8], rec: LogRecord, log: &mut [u8], n: i32) -> LogRecord {
+    let reply = publication::try_claim(rec, log, n);
+    let next = reply.next;
+    let answer = reply.answer;
+    if let Claimed::Position(p, claim) = answer {
+        line(name, 0, plain(p));
+        fill(next, log, claim);
+        done(b"commit", buffer_claim::commit(next, log, claim));
+    }
+    next
+}
+
+fn claim_and_abort(name: &[u8], rec: LogRecord, log: &mut [u8], n: i32) -> LogRecord {
+    let reply = publication::try_claim(rec, log, n);
+    let next = reply.next;
+    let answer = reply.answer;
+    if let Claimed::Position(p, claim) = answer {
+        line(name, 0, plain(p));
+        fill(next, log, claim);
+        done(b"abort", buffer_claim::abort(next, log, claim));
+    }
+    next
+}
+
+fn with_limit(rec: LogRecord, limit: i64) -> LogRecord {
+    let reply = positions::set_publication_limit(rec, limit);
+    reply.next
+}
+
+fn closed(rec: LogRecord) -> LogRecord {
+    let reply = positions::close(rec);
+    reply.next
+}
+
+// Small messages, claims, and offers that a limit refuses.
+fn small_calls(rec: LogRecord, log: &mut [u8]) -> LogRecord {
+    let message = [1u8; 200];
+    let a = offer(b"offer 10", rec, log, &message[..10]);
+    offer(b"offer 200", a, log, &message)
+}
+
+fn claim_calls(rec: LogRecord, log: &mut [u8]) -> LogRecord {
+    let a = claim_and_commit(b"claim 20", rec, log, 20);
+    claim_and_abort(b"claim 30", a, log, 30)
+}
+
+fn refused_calls(rec: LogRecord, log: &mut [u8]) -> LogRecord {
+    let message = [2u8; 8193];
+    let a = offer(
+        b"offer 64, limit 0",
+        with_limit(rec, 0),
+        log,
+        &message[..64],
+    );
+    let b = offer(b"offer 0", with_limit(a, 1099511627776), log, &message[..0]);
+    offer(b"offer 8193", b, log, &message)
+}
+
+// Long messages, over the end of a term.
+fn long_calls(rec: LogRecord, log: &mut [u8], value: u8) -> LogRecord {
+    let mut message = [3u8; 8192];
+    message[0] = value;
+    let a = offer(b"offer 8192", rec, log, &message);
+    let b = offer(b"offer 8191", a, log, &message[..8191]);
+    offer(b"offer 65", b, log, &message[..65])
+}
+
+// The byte i behind an index; 0 past the end.
+fn byte_at(bytes: &[u8], from: usize, i: usize) -> u64 {
+    let n = bytes.len();
+    if from >= n {
+        return 0;
+    }
+    if i >= n - from {
+        return 0;
+    }
+    let b = bytes[from + i] as usize;
+    b as u64
+}
+
+fn message(place: u64, bytes: &[u8], from: usize, n: usize) {
+    io::write_all(1, b"message: in ");
+    io::print_decimal(1, place);
+    io::write_all(1, b", length ");
+    io::print_decimal(1, n as u64);
+    if n > 0 {
+        io::write_all(1, b", from ");
+        io::print_decimal(1, byte_at(bytes, from, 0));
+        io::write_all(1, b" to ");
+        io::print_decimal(1, byte_at(bytes, from, n - 1));
+    }
+    io::write_all(1, b"\n");
+}
+
+fn next(replay: Replay, rec: LogRecord, log: &[u8], buffer: &mut [u8]) -> Replay {
+    let reply = replay.next(rec, log, buffer);
+    let answer = reply.answer;
+    match answer {
+        Replayed::InLog(from, n) => message(0, log, from, n),
+        Replayed::InBuffer(from, n) => message(1, buffer, from, n),
+        Replayed::End => {
+            io::write_all(1, b"end\n");
+        }
+        Replayed::Refused(e) => refused(b"replay", e),
+    }
+    reply.next
+}
+
+fn four(replay: Replay, rec: LogRecord, log: &[u8], buffer: &mut [u8]) -> Replay {
+    let a = next(replay, rec, log, buffer);
+    let b = next(a, rec, log, buffer);
+    let c = next(b, rec, log, buffer);
+    next(c, rec, log, buffer)
+}
+
+fn replay_all(rec: LogRecord, log: &[u8]) {
+    let mut buffer = [0u8; 131072];
+    let a = four(Replay::new(11), rec, log, &mut buffer);
+    let b = four(a, rec, log, &mut buffer);
+    let c = four(b, rec, log, &mut buffer);
+    let _d = four(c, rec, log, &mut buffer);
+}
+
+fn main() {
+    let mut log = [0u8; 196608];
+    let opened = opening::open_log(&mut log, 65536, 96, 7, 11, 12);
+    let a = with_limit(opened.next, 1099511627776);
+    let b = small_calls(a, &mut log);
+    let c = refused_calls(claim_calls(b, &mut log), &mut log);
+    let d = long_calls(long_calls(c, &mut log, 4), &mut log, 5);
+    let e = long_calls(long_calls(d, &mut log, 6), &mut log, 7);
+    let f = offer(b"offer 10, closed", closed(e), &mut log, &[8u8; 10]);
+    replay_all(f, &log);
+}
