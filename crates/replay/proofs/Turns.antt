@@ -22,12 +22,16 @@ use Rattle.model.specs.Bytes.{word, long, u32, i32}
 use Rattle.model.specs.FrameDescriptor.{flagsAt}
 use Rattle.model.specs.LogBufferDescriptor.{readingOf, reading, partitionOf}
 use Rattle.model.specs.TermReader.{natural}
-use Rattle.model.specs.Image.{Image}
-use Rattle.model.specs.FragmentAssembler.{Sessions, Assembly, assembleVerdict, assembleBy, assembleOf, assembledBy, joining}
+use Rattle.model.specs.Image.{Image, newImage}
+use Rattle.model.specs.FragmentAssembler.{Sessions, fresh, Assembly, assembleVerdict, assembleBy, assembleOf, assembledBy, joining}
 use Rattle.model.specs.Replay.{ReplayState, NextReply, giving, givenBy, assembledTo, pollOne, assembleOne, turnBy, nextFrom, nextOf}
 use Rattle.model.proofs.Choice.{cond-true, cond-false, le-yes, le-no, eq-yes, eq-no}
 use Rattle.logbuffer.proofs.Assembly.{verdict-passed, assembly-at, place-near}
-use Rattle.replay.specs.Replays.{Turned, stops, goesOn, fragmentTurn, given, fragmentGiven, turnSaid, turnOf}
+use Rattle.image.specs.Images.{stateOf as imageState}
+use Rattle.logbuffer.specs.Assembler.{sessionsOf}
+use Rattle.replay.specs.declared.Replay.{Replay}
+use Rattle.replay.specs.declared.Counted.the-variants.{Counts}
+use Rattle.replay.specs.Replays.{Tally, addedTo, givesBy, lengthBy, countedBy, countFrom, countOf, stateOf, Turned, stops, goesOn, fragmentTurn, given, fragmentGiven, turnSaid, turnOf}
 
 -- ---- the assembler's answer
 
@@ -151,3 +155,36 @@ module _ (r : LogRecord) (log : List ℕ) (s : ReplayState) where
   pub next-starts : (w : ℕ) → w ≡ word (r .«term_length») → nextFrom (3 * w + 1) r log s ≡ nextOf r log s
   unfolding nextOf readingOf
   next-starts w e = ap (λ (n : ℕ). nextFrom n r log s) (let x : 3 * w + 1 ≡ suc (3 * word (r .«term_length»)) = omega (arith, e) in x)
+
+-- ---- a whole log, counted
+
+module _ (r : LogRecord) (log : List ℕ) (s : ReplayState) (messages bytes : ℕ) where
+  pub count-none : (left : ℕ) → left ≡ 0 → _≡_ {A = Tally} (record { answer = Counts messages bytes; buffer = s .buffer }) (countFrom left r log s messages bytes)
+  unfolding countFrom
+  count-none left e = sym (ap (λ (n : ℕ). countFrom n r log s messages bytes) e)
+
+  -- one reply more
+  module _ (left : ℕ) (h : 0 < left) (y : NextReply) (e : y ≡ nextOf r log s) where
+    counts : cond (givesBy (y .answer)) (countFrom (left - 1) r log (y .next) (messages + 1) (addedTo bytes (lengthBy (y .answer))))
+        (record { answer = countedBy (y .answer) messages bytes; buffer = y .next .buffer })
+        ≡ countFrom left r log s messages bytes
+    unfolding countFrom
+    counts =
+        let l : suc (left - 1) ≡ left = omega arith in
+        ap (λ (x : NextReply). cond (givesBy (x .answer)) (countFrom (left - 1) r log (x .next) (messages + 1) (addedTo bytes (lengthBy (x .answer)))) (record { answer = countedBy (x .answer) messages bytes; buffer = x .next .buffer })) e
+        ∙ ap (λ (n : ℕ). countFrom n r log s messages bytes) l
+
+    pub count-stops : givesBy (y .answer) ≡ false → _≡_ {A = Tally} (record { answer = countedBy (y .answer) messages bytes; buffer = y .next .buffer }) (countFrom left r log s messages bytes)
+    count-stops f = sym (cond-false (givesBy (y .answer)) (countFrom (left - 1) r log (y .next) (messages + 1) (addedTo bytes (lengthBy (y .answer)))) _ f) ∙ counts
+
+    pub count-goes : givesBy (y .answer) ≡ true → countFrom (left - 1) r log (y .next) (messages + 1) (addedTo bytes (lengthBy (y .answer))) ≡ countFrom left r log s messages bytes
+    count-goes f = sym (cond-true (givesBy (y .answer)) _ (record { answer = countedBy (y .answer) messages bytes; buffer = y .next .buffer }) f) ∙ counts
+
+pub count-starts : (r : LogRecord) (log : List ℕ) (p : Replay) (session : ℤ) (buffer : List ℕ) (w : ℕ)
+    → imageState (p .image) ≡ newImage (pos 0) session → sessionsOf (p .assembler) ≡ fresh → w ≡ word (r .«term_length»)
+    → countFrom (3 * w + 1 - 0) r log (stateOf p buffer) 0 0 ≡ countOf r log session buffer
+unfolding readingOf
+count-starts r log p session buffer w ei es ew =
+    let n : 3 * w + 1 - 0 ≡ 3 * word (r .«term_length») + 1 = omega (arith, ew) in
+    ap (λ (m : ℕ). countFrom m r log (stateOf p buffer) 0 0) n
+    ∙ ap₂ (λ (i : Image) (s : Sessions). countFrom (3 * word (r .«term_length») + 1) r log (record { image = i; sessions = s; buffer = buffer }) 0 0) ei es

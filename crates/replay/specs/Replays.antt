@@ -1,5 +1,5 @@
 -- A replay of the code with its lent buffer, as the definitions have it; and one turn of it, told without what follows it.
-use Prim.Native.Nat.{ℕ, _+_, _-_, _*_}
+use Prim.Native.Nat.{ℕ, zero, suc, _+_, _-_, _*_, min}
 use mathlib.Core.Bool.{Bool, true, false, cond}
 use mathlib.Core.List.{List}
 use lib.Dec.{eqb, leb}
@@ -14,14 +14,16 @@ use Rattle.model.specs.declared.Replayed.the-variants.{InLog, InBuffer, End, Re
 use Rattle.model.specs.Bytes.{long}
 use Rattle.model.specs.LogBufferDescriptor.{reading, partitionOf}
 use Rattle.model.specs.TermReader.{natural}
-use Rattle.model.specs.Image.{Image as ImageState}
-use Rattle.model.specs.FragmentAssembler.{Sessions, Assembly, assembleOf}
-use Rattle.model.specs.Replay.{ReplayState, NextReply as NextSaid, assembledTo, pollOne, assembleOne}
+use Rattle.model.specs.Image.{Image as ImageState, newImage}
+use Rattle.model.specs.FragmentAssembler.{Sessions, fresh, Assembly, assembleOf}
+use Rattle.model.specs.Replay.{ReplayState, NextReply as NextSaid, assembledTo, pollOne, assembleOne, nextOf}
 use Rattle.image.specs.Images.{stateOf as imageState}
 use Rattle.logbuffer.specs.Assembler.{sessionsOf}
 use Rattle.replay.specs.declared.Replay.{Replay}
 use Rattle.replay.specs.declared.NextReply.{NextReply}
 use Rattle.replay.specs.declared.TurnReply.{TurnReply}
+use Rattle.replay.specs.declared.Counted.{Counted}
+use Rattle.replay.specs.declared.Counted.the-variants.{Counts, Refused as CountRefused}
 
 abbrev pub stateOf : Replay → List ℕ → ReplayState
 stateOf p buffer = record { image = imageState (p .image); sessions = sessionsOf (p .assembler); buffer = buffer }
@@ -70,3 +72,43 @@ turnSaid r log s (Fragments n m) =
 
 abbrev pub turnOf : LogRecord → List ℕ → ReplayState → Turned
 turnOf r log s = turnSaid r log s (pollOne r log (s .image) .answer)
+
+-- ---- a whole log, counted
+
+pub record Tally : Type 0 where
+  pub answer : Counted
+  pub buffer : List ℕ
+
+-- a sum that stays in 64 bits
+abbrev pub addedTo : ℕ → ℕ → ℕ
+addedTo bytes n = min (bytes + n) 18446744073709551615
+
+abbrev pub givesBy : Replayed → Bool
+givesBy (InLog from n) = true
+givesBy (InBuffer at n) = true
+givesBy End = false
+givesBy (ReplayRefused e) = false
+
+abbrev pub lengthBy : Replayed → ℕ
+lengthBy (InLog from n) = n
+lengthBy (InBuffer at n) = n
+lengthBy End = 0
+lengthBy (ReplayRefused e) = 0
+
+abbrev pub countedBy : Replayed → ℕ → ℕ → Counted
+countedBy (InLog from n) messages bytes = Counts messages bytes
+countedBy (InBuffer at n) messages bytes = Counts messages bytes
+countedBy End messages bytes = Counts messages bytes
+countedBy (ReplayRefused e) messages bytes = CountRefused e
+
+-- with so many messages and bytes counted, and so many replies left
+unfoldable pub countFrom : ℕ → LogRecord → List ℕ → ReplayState → ℕ → ℕ → Tally
+countFrom zero r log s messages bytes = record { answer = Counts messages bytes; buffer = s .buffer }
+countFrom (suc left) r log s messages bytes =
+    cond (givesBy (nextOf r log s .answer)) (countFrom left r log (nextOf r log s .next) (messages + 1) (addedTo bytes (lengthBy (nextOf r log s .answer))))
+    (record { answer = countedBy (nextOf r log s .answer) messages bytes; buffer = nextOf r log s .next .buffer })
+
+-- a message takes a place of its own in the log, so its bytes bound the messages
+abbrev pub countOf : LogRecord → List ℕ → ℤ → List ℕ → Tally
+countOf r log session buffer =
+    countFrom (3 * reading r .term + 1) r log (record { image = newImage (pos 0) session; sessions = fresh; buffer = buffer }) 0 0

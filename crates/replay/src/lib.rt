@@ -11,7 +11,7 @@ ghost use Rattle.model.specs.FragmentAssembler.{fresh};
 ghost use Rattle.model.specs.Replay.{pollOne, nextOf};
 ghost use Rattle.image.specs.Images.{stateOf as imageState, pollReplyOf};
 ghost use Rattle.logbuffer.specs.Assembler.{sessionsOf};
-ghost use Rattle.replay.specs.Replays.{stateOf, nextReplyOf, turned, turnOf, fragmentGiven};
+ghost use Rattle.replay.specs.Replays.{stateOf, nextReplyOf, addedTo, givesBy, lengthBy, countedBy, countOf, turned, turnOf, fragmentGiven};
 use image::Image;
 use image::PollReply;
 use logbuffer::argument;
@@ -19,6 +19,7 @@ use logbuffer::cast;
 use logbuffer::fragment_assembler::FragmentAssembler;
 use logbuffer::log_buffer_descriptor;
 use model::Assembled;
+use model::Error;
 use model::LogRecord;
 use model::Polled;
 use model::Replayed;
@@ -32,6 +33,12 @@ pub struct Replay {
 pub struct NextReply {
     pub next: Replay,
     pub answer: Replayed,
+}
+
+// A quick look at a log: how many messages, and how many bytes they have together.
+pub enum Counted {
+    Counts(usize, usize),
+    Refused(Error),
 }
 
 // A turn: whether the replay goes on; if it does not, its answer.
@@ -194,4 +201,71 @@ impl Replay {
             answer: Replayed::End,
         }
     }
+}
+
+// A sum of bytes that stays in 64 bits; no log has so many.
+fn added(bytes: usize, n: usize) -> usize
+    ensures { λ r. ⌜ r ≡ addedTo bytes n ⌝ }
+{
+    if n > 18446744073709551615 - bytes {
+        return 18446744073709551615;
+    }
+    bytes + n
+}
+
+// Whether an answer gives a message, and its length.
+fn gives(answer: Replayed) -> bool
+    ensures { λ r. ⌜ r ≡ givesBy answer ⌝ }
+{
+    match answer {
+        Replayed::InLog(_, _) => true,
+        Replayed::InBuffer(_, _) => true,
+        Replayed::End => false,
+        Replayed::Refused(_) => false,
+    }
+}
+
+fn length_of(answer: Replayed) -> usize
+    ensures { λ r. ⌜ r ≡ lengthBy answer ⌝ }
+{
+    match answer {
+        Replayed::InLog(_, n) => n,
+        Replayed::InBuffer(_, n) => n,
+        Replayed::End => 0,
+        Replayed::Refused(_) => 0,
+    }
+}
+
+// What was counted, unless the replay was refused.
+fn count_of(answer: Replayed, messages: usize, bytes: usize) -> Counted
+    ensures { λ r. ⌜ r ≡ countedBy answer messages bytes ⌝ }
+{
+    match answer {
+        Replayed::InLog(_, _) => Counted::Counts(messages, bytes),
+        Replayed::InBuffer(_, _) => Counted::Counts(messages, bytes),
+        Replayed::End => Counted::Counts(messages, bytes),
+        Replayed::Refused(e) => Counted::Refused(e),
+    }
+}
+
+// Replays a whole log, from position 0 by a fresh image into a fresh assembler, and counts what comes back. A refusal ends it.
+pub fn count(rec: LogRecord, log: &[u8], buffer: &mut [u8], session_id: i32) -> Counted
+    ensures { λ r. ⌜ r ≡ countOf rec (now (log .entry)) «session_id» (now (buffer .entry)) .answer ⌝ }
+    ensures { λ _. ⌜ now (buffer .exit) ≡ countOf rec (now (log .entry)) «session_id» (now (buffer .entry)) .buffer ⌝ }
+{
+    let mut replay = Replay::new(session_id);
+    let mut messages: usize = 0;
+    let mut bytes: usize = 0;
+    let most = 3 * cast::word(rec.term_length) + 1;
+    while messages < most {
+        let reply = replay.next(rec, log, buffer);
+        let answer = reply.answer;
+        replay = reply.next;
+        if !gives(answer) {
+            return count_of(answer, messages, bytes);
+        }
+        bytes = added(bytes, length_of(answer));
+        messages = messages + 1;
+    }
+    Counted::Counts(messages, bytes)
 }

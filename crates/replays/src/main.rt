@@ -1,6 +1,7 @@
-// A mixed list of calls, and the replay of the log that it leaves. Below each call's line stands what it answered; then one line for each
+// A mixed list of calls, and the replay of the log that it leaves. A call's line says what it answered; then comes one line for each
 // message that the replay gives: where it lies (0 the log, 1 the lent buffer), its length, its first and its last byte. The messages are those
-// offered and committed, in order; refused offers and aborted claims leave none.
+// offered and committed, in order; refused offers and aborted claims leave none, and an open claim hides what lies behind it. Then the count,
+// and a replay whose lent buffer has parts of one byte: 18.
 use logbuffer::buffer_claim;
 use logbuffer::errors;
 use model::Claim;
@@ -12,6 +13,7 @@ use model::Outcome;
 use model::Replayed;
 use publication::opening;
 use publication::positions;
+use replay::Counted;
 use replay::Replay;
 
 fn plain(v: i64) -> u64 {
@@ -91,6 +93,16 @@ fn claim_and_abort(name: &[u8], rec: LogRecord, log: &mut [u8], n: i32) -> LogRe
     next
 }
 
+fn claim_left_open(name: &[u8], rec: LogRecord, log: &mut [u8], n: i32) -> LogRecord {
+    let reply = publication::try_claim(rec, log, n);
+    let answer = reply.answer;
+    match answer {
+        Claimed::Position(p, _) => line(name, 0, plain(p)),
+        Claimed::Refused(e) => refused(name, e),
+    }
+    reply.next
+}
+
 fn with_limit(rec: LogRecord, limit: i64) -> LogRecord {
     let reply = positions::set_publication_limit(rec, limit);
     reply.next
@@ -132,6 +144,13 @@ fn long_calls(rec: LogRecord, log: &mut [u8], value: u8) -> LogRecord {
     let a = offer(b"offer 8192", rec, log, &message);
     let b = offer(b"offer 8191", a, log, &message[..8191]);
     offer(b"offer 65", b, log, &message[..65])
+}
+
+// Nothing from an open claim on comes back.
+fn open_calls(rec: LogRecord, log: &mut [u8]) -> LogRecord {
+    let message = [8u8; 10];
+    let a = claim_left_open(b"claim 10, left open", rec, log, 10);
+    offer(b"offer 10", a, log, &message)
 }
 
 // The byte i behind an index; 0 past the end.
@@ -190,6 +209,26 @@ fn replay_all(rec: LogRecord, log: &[u8]) {
     let _d = four(c, rec, log, &mut buffer);
 }
 
+fn short_buffer(rec: LogRecord, log: &[u8]) {
+    let mut buffer = [0u8; 16];
+    let a = next(Replay::new(11), rec, log, &mut buffer);
+    let _b = next(a, rec, log, &mut buffer);
+}
+
+fn count_all(rec: LogRecord, log: &[u8]) {
+    let mut buffer = [0u8; 131072];
+    match replay::count(rec, log, &mut buffer, 11) {
+        Counted::Counts(messages, bytes) => {
+            io::write_all(1, b"count: messages ");
+            io::print_decimal(1, messages as u64);
+            io::write_all(1, b", bytes ");
+            io::print_decimal(1, bytes as u64);
+            io::write_all(1, b"\n");
+        }
+        Counted::Refused(e) => refused(b"count", e),
+    }
+}
+
 fn main() {
     let mut log = [0u8; 196608];
     let opened = opening::open_log(&mut log, 65536, 96, 7, 11, 12);
@@ -198,6 +237,9 @@ fn main() {
     let c = refused_calls(claim_calls(b, &mut log), &mut log);
     let d = long_calls(long_calls(c, &mut log, 4), &mut log, 5);
     let e = long_calls(long_calls(d, &mut log, 6), &mut log, 7);
-    let f = offer(b"offer 10, closed", closed(e), &mut log, &[8u8; 10]);
-    replay_all(f, &log);
+    let f = open_calls(e, &mut log);
+    let g = offer(b"offer 10, closed", closed(f), &mut log, &[8u8; 10]);
+    replay_all(g, &log);
+    count_all(g, &log);
+    short_buffer(g, &log);
 }
