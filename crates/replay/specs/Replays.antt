@@ -60,6 +60,10 @@ abbrev pub fragmentGiven : LogRecord → List ℕ → ImageState → Sessions �
 fragmentGiven r log i s buffer k entry =
     fragmentTurn (k * reading r .term) (assembledTo i (given r log i s buffer k entry)) (given r log i s buffer k entry .answer)
 
+abbrev pub refusalBy : Polled → Replayed
+refusalBy (Fragments n m) = End
+refusalBy (Refused e) = ReplayRefused e
+
 abbrev pub turnSaid : LogRecord → List ℕ → ReplayState → Polled → Turned
 turnSaid r log s (Refused e) = stops s (ReplayRefused e)
 turnSaid r log s (Fragments n m) =

@@ -11,7 +11,7 @@ ghost use Rattle.model.specs.FragmentAssembler.{fresh};
 ghost use Rattle.model.specs.Replay.{pollOne, nextOf};
 ghost use Rattle.image.specs.Images.{stateOf as imageState, pollReplyOf};
 ghost use Rattle.logbuffer.specs.Assembler.{sessionsOf};
-ghost use Rattle.replay.specs.Replays.{stateOf, nextReplyOf, addedTo, givesBy, lengthBy, countedBy, countOf, turned, turnOf, fragmentGiven};
+ghost use Rattle.replay.specs.Replays.{stateOf, refusalBy, nextReplyOf, addedTo, givesBy, lengthBy, countedBy, countOf, turned, turnOf, fragmentGiven};
 use image::Image;
 use image::PollReply;
 use logbuffer::argument;
@@ -84,6 +84,16 @@ fn stopped(replay: Replay, answer: Replayed) -> TurnReply
     }
 }
 
+// What a poll that read nothing answers.
+fn refusal(answer: Polled) -> Replayed
+    ensures { λ r. ⌜ r ≡ refusalBy answer ⌝ }
+{
+    match answer {
+        Polled::Fragments(_, _) => Replayed::End,
+        Polled::Refused(e) => Replayed::Refused(e),
+    }
+}
+
 // A fragment of a partition, given to the assembler: the image has passed it.
 fn give(
     next: Image,
@@ -142,27 +152,25 @@ fn turn(replay: Replay, rec: LogRecord, log: &[u8], buffer: &mut [u8]) -> TurnRe
     let polled = one.polled;
     let next = polled.next;
     let answer = polled.answer;
-    match answer {
-        Polled::Refused(e) => stopped(replay, Replayed::Refused(e)),
-        Polled::Fragments(_, m) => {
-            if p / 3 >= term {
-                return stopped(replay, Replayed::End);
-            }
-            if m != 0 {
-                return give(next, assembler, rec, log, buffer, p / term % 3, one.entry);
-            }
-            if cast::long(next.position) == p {
-                return stopped(replay, Replayed::End);
-            }
-            TurnReply {
-                on: true,
-                answer: Replayed::End,
-                next: Replay {
-                    image: next,
-                    assembler: assembler,
-                },
-            }
-        }
+    let Polled::Fragments(_, m) = answer else {
+        return stopped(replay, refusal(answer));
+    };
+    if p / 3 >= term {
+        return stopped(replay, Replayed::End);
+    }
+    if m != 0 {
+        return give(next, assembler, rec, log, buffer, p / term % 3, one.entry);
+    }
+    if cast::long(next.position) == p {
+        return stopped(replay, Replayed::End);
+    }
+    TurnReply {
+        on: true,
+        answer: Replayed::End,
+        next: Replay {
+            image: next,
+            assembler: assembler,
+        },
     }
 }
 

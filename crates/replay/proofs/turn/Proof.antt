@@ -19,7 +19,7 @@ use Rattle.image.specs.declared.PollReply.{PollReply}
 use Rattle.logbuffer.proofs.Signed.{long-by}
 use Rattle.replay.specs.declared.Replay.{Replay}
 use Rattle.replay.specs.declared.TurnReply.{TurnReply}
-use Rattle.replay.specs.Replays.{Turned, stateOf, turned, stops, goesOn, turnSaid, turnOf}
+use Rattle.replay.specs.Replays.{Turned, stateOf, refusalBy, turned, stops, goesOn, turnSaid, turnOf}
 use Rattle.replay.proofs.Turns.{fragment-one, turn-end, turn-fragment, turn-quiet, turn-padding}
 use borrow.Author.Needs.{needs}
 use Rattle.replay.proofs.turn.Statement.{statement}
@@ -31,6 +31,7 @@ use Rattle.logbuffer.proofs.log_buffer_descriptor.read_active.Reads as read-act
 use Rattle.replay.proofs.give.Reads as give-reads
 use Rattle.replay.proofs.poll_one.Reads as poll-one-reads
 use Rattle.replay.proofs.stopped.Reads as stopped-reads
+use Rattle.replay.proofs.refusal.Reads as refusal-reads
 
 abbrev st : tie.After-poll-one → tie.Start
 st c = c .before .before .before .before .before .before .before .before
@@ -65,87 +66,93 @@ halts t p a buffer e =
     like : Bool → Replayed → Replay → Turned
     like x y z = record { on = x; answer = y; next = stateOf z buffer }
 
--- src/lib.rt:130:9
+-- src/lib.rt:146:9
 read-active-requires : tie.Need-read-active-requires
 read-active-requires c κs = search needs
 
--- src/lib.rt:134:9
+-- src/lib.rt:150:9
 long-requires : tie.Need-long-requires
 long-requires c κs = search needs
 
--- src/lib.rt:135:9
+-- src/lib.rt:151:9
 poll-one-requires : tie.Need-poll-one-requires
 poll-one-requires c κs = search needs
 
--- src/lib.rt:140:25
+-- src/lib.rt:155:30
 enum-known-answer : tie.Need-enum-known-answer
 enum-known-answer c = search needs
 
--- src/lib.rt:140:31
+-- src/lib.rt:156:32
+enum-told : tie.Need-enum-told
+enum-told c = search needs
+
+-- src/lib.rt:156:32
+refusal-requires : tie.Need-refusal-requires
+refusal-requires c κs = search needs
+
+-- src/lib.rt:156:9
 stopped-requires : tie.Need-stopped-requires
 stopped-requires c κs = search needs
 
--- src/lib.rt:141:30
-enum-known-answer-2 : tie.Need-enum-known-answer-2
-enum-known-answer-2 c = search needs
+-- src/lib.rt:156:9
+returns : tie.Need-returns
+returns c =
+    let told = c .before .before .enum-told .given .1 in
+    halts (c .stopped .result) _ _ (st (c .before .before .before .before .before .before) .args .buffer .now) (c .stopped .ensures)
+    ∙ ap (stops (S (c .before .before .before .before .before .before))) (c .before .refusal .ensures ∙ ap refusalBy told)
+    ∙ answered (c .before .before .before .before .before .before) (Refused (c .before .before .enum-told .given .0 .0)) told
 
--- src/lib.rt:143:17
+-- src/lib.rt:159:9
 stopped-requires-2 : tie.Need-stopped-requires-2
 stopped-requires-2 c κs = search needs
 
--- src/lib.rt:143:17
-returns : tie.Need-returns
-returns c =
+-- src/lib.rt:159:9
+returns-2 : tie.Need-returns-2
+returns-2 c =
     halts (c .stopped2 .result) _ _ (st (c .before .before .before .before .before .before .before) .args .buffer .now) (c .stopped2 .ensures)
-    ∙ turn-end (st (c .before .before .before .before .before .before .before) .args .rec) (log (c .before .before .before .before .before .before .before)) (S (c .before .before .before .before .before .before .before)) (c .before .before .before .answer2 .given .0 .0) (c .before .before .before .answer2 .given .0 .1 .0) (omega (arith, term-is (c .before .before .before .before .before .before .before), p-is (c .before .before .before .before .before .before .before), c .before .if1)) ∙ answered (c .before .before .before .before .before .before .before) (Fragments (c .before .before .before .answer2 .given .0 .0) (c .before .before .before .answer2 .given .0 .1 .0)) (c .before .before .before .answer2 .given .1)
+    ∙ turn-end (st (c .before .before .before .before .before .before .before) .args .rec) (log (c .before .before .before .before .before .before .before)) (S (c .before .before .before .before .before .before .before)) (c .before .before .before .answer .given .0 .0) (c .before .before .before .answer .given .0 .1 .0) (omega (arith, term-is (c .before .before .before .before .before .before .before), p-is (c .before .before .before .before .before .before .before), c .before .if1)) ∙ answered (c .before .before .before .before .before .before .before) (Fragments (c .before .before .before .answer .given .0 .0) (c .before .before .before .answer .given .0 .1 .0)) (c .before .before .before .answer .given .1)
 
--- src/lib.rt:146:64
+-- src/lib.rt:162:56
 div-give : tie.Need-div-give
 div-give c = search needs
 
--- src/lib.rt:146:17
+-- src/lib.rt:162:9
 give-requires : tie.Need-give-requires
 give-requires c κs = search needs
 
--- src/lib.rt:146:17
+-- src/lib.rt:162:9
 same-length : tie.Need-same-length
 same-length c = search needs
 
--- src/lib.rt:146:17
-returns-2 : tie.Need-returns-2
-returns-2 c =
+-- src/lib.rt:162:9
+returns-3 : tie.Need-returns-3
+returns-3 c =
     c .before .before .give .ensures
-    ∙ fragment-one (st (c .before .before .before .before .before .before .before .before .before .before .before .before) .args .rec) (log (c .before .before .before .before .before .before .before .before .before .before .before .before)) (S (c .before .before .before .before .before .before .before .before .before .before .before .before)) (c .before .before .before .before .before .before .before .before .answer2 .given .0 .0) (c .before .before .before .before .before .before .before .before .answer2 .given .0 .1 .0) _ _ _ (next-is (c .before .before .before .before .before .before .before .before .before .before .before .before))
+    ∙ fragment-one (st (c .before .before .before .before .before .before .before .before .before .before .before .before) .args .rec) (log (c .before .before .before .before .before .before .before .before .before .before .before .before)) (S (c .before .before .before .before .before .before .before .before .before .before .before .before)) (c .before .before .before .before .before .before .before .before .answer .given .0 .0) (c .before .before .before .before .before .before .before .before .answer .given .0 .1 .0) _ _ _ (next-is (c .before .before .before .before .before .before .before .before .before .before .before .before))
     (ap₂ (λ (x y : ℕ). x / y % 3) (p-is (c .before .before .before .before .before .before .before .before .before .before .before .before)) (term-is (c .before .before .before .before .before .before .before .before .before .before .before .before))) (toZ-ofZ {w = w32} {z = c .before .before .before .before .before .before .before .before .before .before .before .before .poll-one .result .entry} (search needs) ∙ c .before .before .before .before .before .before .before .before .before .before .before .before .poll-one .ensures .1)
-    ∙ turn-fragment (st (c .before .before .before .before .before .before .before .before .before .before .before .before) .args .rec) (log (c .before .before .before .before .before .before .before .before .before .before .before .before)) (S (c .before .before .before .before .before .before .before .before .before .before .before .before)) (c .before .before .before .before .before .before .before .before .answer2 .given .0 .0) (c .before .before .before .before .before .before .before .before .answer2 .given .0 .1 .0) (omega (arith, term-is (c .before .before .before .before .before .before .before .before .before .before .before .before), p-is (c .before .before .before .before .before .before .before .before .before .before .before .before), c .before .before .before .before .before .before .if1 .left)) (c .before .before .before .before .before .if2 .taken)
-    ∙ answered (c .before .before .before .before .before .before .before .before .before .before .before .before) (Fragments (c .before .before .before .before .before .before .before .before .answer2 .given .0 .0) (c .before .before .before .before .before .before .before .before .answer2 .given .0 .1 .0)) (c .before .before .before .before .before .before .before .before .answer2 .given .1)
+    ∙ turn-fragment (st (c .before .before .before .before .before .before .before .before .before .before .before .before) .args .rec) (log (c .before .before .before .before .before .before .before .before .before .before .before .before)) (S (c .before .before .before .before .before .before .before .before .before .before .before .before)) (c .before .before .before .before .before .before .before .before .answer .given .0 .0) (c .before .before .before .before .before .before .before .before .answer .given .0 .1 .0) (omega (arith, term-is (c .before .before .before .before .before .before .before .before .before .before .before .before), p-is (c .before .before .before .before .before .before .before .before .before .before .before .before), c .before .before .before .before .before .before .if1 .left)) (c .before .before .before .before .before .if2 .taken)
+    ∙ answered (c .before .before .before .before .before .before .before .before .before .before .before .before) (Fragments (c .before .before .before .before .before .before .before .before .answer .given .0 .0) (c .before .before .before .before .before .before .before .before .answer .given .0 .1 .0)) (c .before .before .before .before .before .before .before .before .answer .given .1)
 
--- src/lib.rt:148:16
+-- src/lib.rt:164:8
 long-requires-2 : tie.Need-long-requires-2
 long-requires-2 c κs = search needs
 
--- src/lib.rt:149:17
+-- src/lib.rt:165:9
 stopped-requires-3 : tie.Need-stopped-requires-3
 stopped-requires-3 c κs = search needs
 
--- src/lib.rt:149:17
-returns-3 : tie.Need-returns-3
-returns-3 c =
-    halts (c .stopped3 .result) _ _ (st (c .before .before .before .before .before .before .before .before .before .before .before) .args .buffer .now) (c .stopped3 .ensures)
-    ∙ turn-quiet (st (c .before .before .before .before .before .before .before .before .before .before .before) .args .rec) (log (c .before .before .before .before .before .before .before .before .before .before .before)) (S (c .before .before .before .before .before .before .before .before .before .before .before)) (c .before .before .before .before .before .before .before .answer2 .given .0 .0) (c .before .before .before .before .before .before .before .answer2 .given .0 .1 .0) (omega (arith, term-is (c .before .before .before .before .before .before .before .before .before .before .before), p-is (c .before .before .before .before .before .before .before .before .before .before .before), c .before .before .before .before .before .if1 .left)) (c .before .before .before .before .if2 .left) (ap (λ (i : Image). long (i .position)) (sym (next-is (c .before .before .before .before .before .before .before .before .before .before .before))) ∙ sym (long-by (c .before .before .before .before .before .before .before .before .before .before .before .poll-one .result .polled .next .position) (c .before .before .long2 .ensures .0) (search needs)) ∙ c .before .if3 .taken ∙ p-is (c .before .before .before .before .before .before .before .before .before .before .before)) ∙ answered (c .before .before .before .before .before .before .before .before .before .before .before) (Fragments (c .before .before .before .before .before .before .before .answer2 .given .0 .0) (c .before .before .before .before .before .before .before .answer2 .given .0 .1 .0)) (c .before .before .before .before .before .before .before .answer2 .given .1)
-
--- src/lib.rt:127:1
+-- src/lib.rt:165:9
 returns-4 : tie.Need-returns-4
 returns-4 c =
-    halts (c .stopped .result) _ _ (st (c .before .before .before .before .before .before) .args .buffer .now) (c .stopped .ensures)
-    ∙ answered (c .before .before .before .before .before .before) (Refused (c .before .before .answer .given .0 .0)) (c .before .before .answer .given .1)
+    halts (c .stopped3 .result) _ _ (st (c .before .before .before .before .before .before .before .before .before .before .before) .args .buffer .now) (c .stopped3 .ensures)
+    ∙ turn-quiet (st (c .before .before .before .before .before .before .before .before .before .before .before) .args .rec) (log (c .before .before .before .before .before .before .before .before .before .before .before)) (S (c .before .before .before .before .before .before .before .before .before .before .before)) (c .before .before .before .before .before .before .before .answer .given .0 .0) (c .before .before .before .before .before .before .before .answer .given .0 .1 .0) (omega (arith, term-is (c .before .before .before .before .before .before .before .before .before .before .before), p-is (c .before .before .before .before .before .before .before .before .before .before .before), c .before .before .before .before .before .if1 .left)) (c .before .before .before .before .if2 .left) (ap (λ (i : Image). long (i .position)) (sym (next-is (c .before .before .before .before .before .before .before .before .before .before .before))) ∙ sym (long-by (c .before .before .before .before .before .before .before .before .before .before .before .poll-one .result .polled .next .position) (c .before .before .long2 .ensures .0) (search needs)) ∙ c .before .if3 .taken ∙ p-is (c .before .before .before .before .before .before .before .before .before .before .before)) ∙ answered (c .before .before .before .before .before .before .before .before .before .before .before) (Fragments (c .before .before .before .before .before .before .before .answer .given .0 .0) (c .before .before .before .before .before .before .before .answer .given .0 .1 .0)) (c .before .before .before .before .before .before .before .answer .given .1)
 
--- src/lib.rt:127:1
+-- src/lib.rt:143:1
 returns-5 : tie.Need-returns-5
 returns-5 c =
     ap (λ (i : Image). goesOn (record { image = i; sessions = S (c .before .before .before .before .before .before .before .before .before .before) .sessions; buffer = S (c .before .before .before .before .before .before .before .before .before .before) .buffer })) (next-is (c .before .before .before .before .before .before .before .before .before .before))
-    ∙ turn-padding (st (c .before .before .before .before .before .before .before .before .before .before) .args .rec) (log (c .before .before .before .before .before .before .before .before .before .before)) (S (c .before .before .before .before .before .before .before .before .before .before)) (c .before .before .before .before .before .before .answer2 .given .0 .0) (c .before .before .before .before .before .before .answer2 .given .0 .1 .0) (omega (arith, term-is (c .before .before .before .before .before .before .before .before .before .before), p-is (c .before .before .before .before .before .before .before .before .before .before), c .before .before .before .before .if1 .left)) (c .before .before .before .if2 .left)
-    (λ e. c .if3 .left (long-by (c .before .before .before .before .before .before .before .before .before .before .poll-one .result .polled .next .position) (c .before .long2 .ensures .0) (search needs) ∙ ap (λ (i : Image). long (i .position)) (next-is (c .before .before .before .before .before .before .before .before .before .before)) ∙ e ∙ sym (p-is (c .before .before .before .before .before .before .before .before .before .before)))) ∙ answered (c .before .before .before .before .before .before .before .before .before .before) (Fragments (c .before .before .before .before .before .before .answer2 .given .0 .0) (c .before .before .before .before .before .before .answer2 .given .0 .1 .0)) (c .before .before .before .before .before .before .answer2 .given .1)
+    ∙ turn-padding (st (c .before .before .before .before .before .before .before .before .before .before) .args .rec) (log (c .before .before .before .before .before .before .before .before .before .before)) (S (c .before .before .before .before .before .before .before .before .before .before)) (c .before .before .before .before .before .before .answer .given .0 .0) (c .before .before .before .before .before .before .answer .given .0 .1 .0) (omega (arith, term-is (c .before .before .before .before .before .before .before .before .before .before), p-is (c .before .before .before .before .before .before .before .before .before .before), c .before .before .before .before .if1 .left)) (c .before .before .before .if2 .left)
+    (λ e. c .if3 .left (long-by (c .before .before .before .before .before .before .before .before .before .before .poll-one .result .polled .next .position) (c .before .long2 .ensures .0) (search needs) ∙ ap (λ (i : Image). long (i .position)) (next-is (c .before .before .before .before .before .before .before .before .before .before)) ∙ e ∙ sym (p-is (c .before .before .before .before .before .before .before .before .before .before)))) ∙ answered (c .before .before .before .before .before .before .before .before .before .before) (Fragments (c .before .before .before .before .before .before .answer .given .0 .0) (c .before .before .before .before .before .before .answer .given .0 .1 .0)) (c .before .before .before .before .before .before .answer .given .1)
 
 pub turn-spec : {M : Type 1} → statement M
 turn-spec =
@@ -155,16 +162,17 @@ turn-spec =
     long-requires
     poll-one-requires
     enum-known-answer
+    enum-told
+    refusal-requires
     stopped-requires
-    enum-known-answer-2
-    stopped-requires-2
     returns
+    stopped-requires-2
+    returns-2
     div-give
     give-requires
     same-length
-    returns-2
+    returns-3
     long-requires-2
     stopped-requires-3
-    returns-3
     returns-4
     returns-5)
