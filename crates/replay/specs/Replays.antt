@@ -52,6 +52,19 @@ fragmentTurn base s (Fragment at n) = stops s (InLog (base + at) n)
 fragmentTurn base s (Message at n) = stops s (InBuffer at n)
 fragmentTurn base s (AssemblyRefused e) = stops s (ReplayRefused e)
 
+-- the same for an answer that is no part of the log
+abbrev pub elsewhereOn : Assembled → Bool
+elsewhereOn Nothing = true
+elsewhereOn (Fragment at n) = false
+elsewhereOn (Message at n) = false
+elsewhereOn (AssemblyRefused e) = false
+
+abbrev pub elsewhereBy : Assembled → Replayed
+elsewhereBy Nothing = End
+elsewhereBy (Fragment at n) = End
+elsewhereBy (Message at n) = InBuffer at n
+elsewhereBy (AssemblyRefused e) = ReplayRefused e
+
 -- the fragment whose body is at an entry of partition k, given to the assembler
 abbrev pub given : LogRecord → List ℕ → ImageState → Sessions → List ℕ → ℕ → ℤ → Assembly
 given r log i s buffer k entry = assembleOf r log s buffer (pos k) (pos (natural entry - 32))

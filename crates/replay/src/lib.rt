@@ -11,7 +11,7 @@ ghost use Rattle.model.specs.FragmentAssembler.{fresh};
 ghost use Rattle.model.specs.Replay.{pollOne, nextOf};
 ghost use Rattle.image.specs.Images.{stateOf as imageState, pollReplyOf};
 ghost use Rattle.logbuffer.specs.Assembler.{sessionsOf};
-ghost use Rattle.replay.specs.Replays.{stateOf, refusalBy, nextReplyOf, addedTo, givesBy, lengthBy, countedBy, countOf, turned, turnOf, fragmentGiven};
+ghost use Rattle.replay.specs.Replays.{stateOf, refusalBy, elsewhereOn, elsewhereBy, nextReplyOf, addedTo, givesBy, lengthBy, countedBy, countOf, turned, turnOf, fragmentGiven};
 use image::Image;
 use image::PollReply;
 use logbuffer::argument;
@@ -94,6 +94,22 @@ fn refusal(answer: Polled) -> Replayed
     }
 }
 
+// The turn by an assembler's answer that is no part of the log: nothing yet, a message in the lent buffer, a refusal.
+fn elsewhere(next: Replay, answer: Assembled) -> TurnReply
+    ensures { λ r. ⌜ (r .on ≡ elsewhereOn answer) × ((r .answer ≡ elsewhereBy answer) × (r .next ≡ next)) ⌝ }
+{
+    match answer {
+        Assembled::Nothing => TurnReply {
+            on: true,
+            answer: Replayed::End,
+            next: next,
+        },
+        Assembled::Fragment(_, _) => stopped(next, Replayed::End),
+        Assembled::Message(at, n) => stopped(next, Replayed::InBuffer(at, n)),
+        Assembled::Refused(e) => stopped(next, Replayed::Refused(e)),
+    }
+}
+
 // A fragment of a partition, given to the assembler: the image has passed it.
 fn give(
     next: Image,
@@ -115,27 +131,13 @@ fn give(
         image: next,
         assembler: assembler,
     };
-    match answer {
-        Assembled::Nothing => TurnReply {
-            on: true,
-            answer: Replayed::End,
-            next: next,
-        },
-        Assembled::Fragment(at, n) => TurnReply {
-            on: false,
-            answer: Replayed::InLog(k * v.term + at, n),
-            next: next,
-        },
-        Assembled::Message(at, n) => TurnReply {
-            on: false,
-            answer: Replayed::InBuffer(at, n),
-            next: next,
-        },
-        Assembled::Refused(e) => TurnReply {
-            on: false,
-            answer: Replayed::Refused(e),
-            next: next,
-        },
+    let Assembled::Fragment(at, n) = answer else {
+        return elsewhere(next, answer);
+    };
+    TurnReply {
+        on: false,
+        answer: Replayed::InLog(k * v.term + at, n),
+        next: next,
     }
 }
 

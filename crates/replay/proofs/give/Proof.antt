@@ -1,5 +1,10 @@
 -- The assembler's answer says what the turn gives.
-use mathlib.Core.Path.{_≡_, sym, ap, ap₂, _∙_}
+use types.Run.{OneOf, miss}
+use denote.Enum.Declared
+use Rattle.model.proofs.Assembled as tags
+use mathlib.Core.Bool.{Bool}
+use mathlib.Core.List.{List, [], _∷_}
+use mathlib.Core.Path.{_≡_, refl, sym, ap, ap₂, _∙_}
 use Prim.Native.Nat.{ℕ, _+_, _-_, _*_, _≤_}
 use native.Mathlib.Omega.{arith}
 use lib.ListN.{length}
@@ -14,7 +19,11 @@ use Rattle.model.specs.TermReader.{natural}
 use Rattle.model.specs.FragmentAssembler.{assembleOf}
 use Rattle.image.specs.Images.{stateOf as imageState}
 use Rattle.logbuffer.specs.Assembler.{sessionsOf}
-use Rattle.replay.specs.Replays.{fragmentTurn, fragmentGiven}
+use Rattle.replay.specs.Replays.{Turned, stateOf, turned, elsewhereOn, elsewhereBy, fragmentTurn, fragmentGiven}
+use Rattle.replay.specs.declared.Replay.{Replay}
+use Rattle.replay.specs.declared.TurnReply.{TurnReply}
+use Rattle.model.specs.declared.Replayed.{Replayed}
+use Rattle.model.specs.Replay.{ReplayState}
 use Rattle.replay.proofs.Turns.{fragment-is, fragment-in}
 use borrow.Author.Needs.{needs}
 use Rattle.replay.proofs.give.Statement.{statement}
@@ -24,6 +33,7 @@ use Rattle.replay.proofs.give.Lts as lts
 use Rattle.logbuffer.proofs.fragment_assembler.FragmentAssembler.on_fragment.Reads as on-fragment-reads
 use Rattle.logbuffer.proofs.log_buffer_descriptor.read_active.Reads as read-active-reads
 use Rattle.replay.proofs.frame_offset.Reads as frame-offset-reads
+use Rattle.replay.proofs.elsewhere.Reads as elsewhere-reads
 
 abbrev st : tie.After-on-fragment → tie.Start
 st c = c .before .before .before .before .before .before
@@ -55,87 +65,79 @@ inside c at n e =
     let f = s (ap₂ (λ (p o : ℤ). assembleOf (st c .args .rec) (st c .args .log .now) (sessionsOf (st c .args .assembler)) (st c .args .buffer .now) p o .answer) (sym (part c)) (sym (offset c)) ∙ sym (c .on-fragment .ensures .0 .0) ∙ e) in
     omega (arith, t, f)
 
--- src/lib.rt:104:9
+-- the turn by an answer that is no part of the log
+elsewhere-is : (base : ℕ) (s : ReplayState) (a : Assembled) → OneOf (0 ∷ 2 ∷ 3 ∷ []) (Declared.tagOf tags.the-type a)
+    → _≡_ {A = Turned} (record { on = elsewhereOn a; answer = elsewhereBy a; next = s }) (fragmentTurn base s a)
+elsewhere-is base s Nothing h = refl
+elsewhere-is base s (Fragment at n) h = absurd (miss (0 ∷ 2 ∷ 3 ∷ []) 1 tt h)
+elsewhere-is base s (Message at n) h = refl
+elsewhere-is base s (Refused e) h = refl
+
+other : (t : TurnReply) (p : Replay) (a : Assembled) (buffer : List ℕ) → (t .on ≡ elsewhereOn a) × ((t .answer ≡ elsewhereBy a) × (t .next ≡ p))
+    → turned t buffer ≡ record { on = elsewhereOn a; answer = elsewhereBy a; next = stateOf p buffer }
+other t p a buffer e =
+    ap (λ (x : Bool). like x (t .answer) (t .next)) (e .0) ∙ ap₂ (like (elsewhereOn a)) (e .1 .0) (e .1 .1)
+  where
+    like : Bool → Replayed → Replay → Turned
+    like x y z = record { on = x; answer = y; next = stateOf z buffer }
+
+-- src/lib.rt:126:9
 read-active-requires : tie.Need-read-active-requires
 read-active-requires c κs = search needs
 
--- src/lib.rt:105:57
+-- src/lib.rt:127:57
 cast-on-fragment : tie.Need-cast-on-fragment
 cast-on-fragment c = search needs
 
--- src/lib.rt:105:67
+-- src/lib.rt:127:67
 frame-offset-requires : tie.Need-frame-offset-requires
 frame-offset-requires c κs = search needs
 
--- src/lib.rt:105:67
+-- src/lib.rt:127:67
 cast-on-fragment-2 : tie.Need-cast-on-fragment-2
 cast-on-fragment-2 c = search needs
 
--- src/lib.rt:105:9
+-- src/lib.rt:127:9
 on-fragment-requires : tie.Need-on-fragment-requires
 on-fragment-requires c κs = search needs
 
--- src/lib.rt:115:21
-enum-told : tie.Need-enum-told
-enum-told c = search needs
-
--- src/lib.rt:118:29
+-- src/lib.rt:134:29
 enum-known-answer : tie.Need-enum-known-answer
 enum-known-answer c = search needs
 
--- src/lib.rt:120:37
-mul-t25 : tie.Need-mul-t25
-mul-t25 c =
-    record { fits = omega (arith, inside (c .before .before .before .before .before .before .before) (c .before .before .answer .given .0 .0) (c .before .before .answer .given .0 .1 .0) (c .before .before .answer .given .1), st (c .before .before .before .before .before .before .before) .good) }
+-- src/lib.rt:135:9
+elsewhere-requires : tie.Need-elsewhere-requires
+elsewhere-requires c κs = search needs
 
--- src/lib.rt:120:37
-add-t26 : tie.Need-add-t26
-add-t26 c =
-    record { fits = omega (arith, inside (c .before .before .before .before .before .before .before) (c .before .before .answer .given .0 .0) (c .before .before .answer .given .0 .1 .0) (c .before .before .answer .given .1), st (c .before .before .before .before .before .before .before) .good) }
-
--- src/lib.rt:123:28
-enum-known-answer-2 : tie.Need-enum-known-answer-2
-enum-known-answer-2 c = search needs
-
--- src/lib.rt:128:28
-enum-known-answer-3 : tie.Need-enum-known-answer-3
-enum-known-answer-3 c = search needs
-
--- src/lib.rt:92:1
+-- src/lib.rt:135:9
 same-length : tie.Need-same-length
 same-length c = search needs
 
--- src/lib.rt:92:1
+-- src/lib.rt:135:9
 returns : tie.Need-returns
 returns c =
-    is (c .before .before .before .before .before) Nothing (c .enum-told .given .1)
+    let a = c .before .before .before .before .before .on-fragment .result .answer in
+    let e = c .elsewhere .ensures in
+    other (c .elsewhere .result) _ a (c .before .before .before .before .before .on-fragment .last .1 .1 .1 .0) e ∙ elsewhere-is (base (c .before .before .before .before .before)) _ a (c .before .match .keys2) ∙ is (c .before .before .before .before .before) a refl
 
--- src/lib.rt:92:1
+-- src/lib.rt:139:33
+mul-t18 : tie.Need-mul-t18
+mul-t18 c =
+    record { fits = omega (arith, inside (c .before .before .before .before .before .before .before) (c .before .before .answer .given .0 .0) (c .before .before .answer .given .0 .1 .0) (c .before .before .answer .given .1), st (c .before .before .before .before .before .before .before) .good) }
+
+-- src/lib.rt:139:33
+add-t20 : tie.Need-add-t20
+add-t20 c =
+    record { fits = omega (arith, inside (c .before .before .before .before .before .before .before) (c .before .before .answer .given .0 .0) (c .before .before .answer .given .0 .1 .0) (c .before .before .answer .given .1), st (c .before .before .before .before .before .before .before) .good) }
+
+-- src/lib.rt:114:1
 same-length-2 : tie.Need-same-length-2
 same-length-2 c = search needs
 
--- src/lib.rt:92:1
+-- src/lib.rt:114:1
 returns-2 : tie.Need-returns-2
 returns-2 c =
     is (c .before .before .before .before .before .before .before) (Fragment (c .before .before .answer .given .0 .0) (c .before .before .answer .given .0 .1 .0)) (c .before .before .answer .given .1)
-
--- src/lib.rt:92:1
-same-length-3 : tie.Need-same-length-3
-same-length-3 c = search needs
-
--- src/lib.rt:92:1
-returns-3 : tie.Need-returns-3
-returns-3 c =
-    is (c .before .before .before .before .before .before) (Message (c .before .answer2 .given .0 .0) (c .before .answer2 .given .0 .1 .0)) (c .before .answer2 .given .1)
-
--- src/lib.rt:92:1
-same-length-4 : tie.Need-same-length-4
-same-length-4 c = search needs
-
--- src/lib.rt:92:1
-returns-4 : tie.Need-returns-4
-returns-4 c =
-    is (c .before .before .before .before .before .before) (Refused (c .before .answer3 .given .0 .0)) (c .before .answer3 .given .1)
 
 pub give-spec : {M : Type 1} → statement M
 give-spec =
@@ -146,17 +148,11 @@ give-spec =
     frame-offset-requires
     cast-on-fragment-2
     on-fragment-requires
-    enum-told
     enum-known-answer
-    mul-t25
-    add-t26
-    enum-known-answer-2
-    enum-known-answer-3
+    elsewhere-requires
     same-length
     returns
+    mul-t18
+    add-t20
     same-length-2
-    returns-2
-    same-length-3
-    returns-3
-    same-length-4
-    returns-4)
+    returns-2)
