@@ -30,8 +30,18 @@ use Rattle.logbuffer.proofs.Assembly.{verdict-passed, assembly-at, place-near}
 use Rattle.image.specs.Images.{stateOf as imageState}
 use Rattle.logbuffer.specs.Assembler.{sessionsOf}
 use Rattle.replay.specs.declared.Replay.{Replay}
+use Rattle.replay.specs.declared.TurnReply.{TurnReply}
+use Rattle.model.specs.declared.Replayed.{Replayed}
 use Rattle.replay.specs.declared.Counted.the-variants.{Counts}
-use Rattle.replay.specs.Replays.{Tally, addedTo, givesBy, lengthBy, countedBy, countFrom, countOf, stateOf, Turned, stops, goesOn, fragmentTurn, given, fragmentGiven, turnSaid, turnOf}
+use Rattle.replay.specs.Replays.{turned, Tally, addedTo, givesBy, lengthBy, countedBy, countFrom, countOf, stateOf, Turned, stops, goesOn, fragmentTurn, given, fragmentGiven, turnSaid, turnOf}
+
+-- a reply of the code, by its three parts
+pub turned-as : (t : TurnReply) (b : Bool) (a : Replayed) (p : Replay) (buffer : List ℕ) → (t .on ≡ b) × ((t .answer ≡ a) × (t .next ≡ p))
+    → turned t buffer ≡ record { on = b; answer = a; next = stateOf p buffer }
+turned-as t b a p buffer e = ap (λ (x : Bool). like x (t .answer) (t .next)) (e .0) ∙ ap₂ (like b) (e .1 .0) (e .1 .1)
+  where
+    like : Bool → Replayed → Replay → Turned
+    like x y z = record { on = x; answer = y; next = stateOf z buffer }
 
 -- ---- the assembler's answer
 

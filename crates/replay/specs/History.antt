@@ -4,7 +4,7 @@
 --   opening       publication::opening::open_log                 openOf, openBytes
 --   offer         publication::offer                             offerOf, offerBytes
 --   claim         publication::try_claim                         claimOf, claimBytes
---   lending       logbuffer::buffer_claim::body, locate          locateOf
+--   lending       logbuffer::buffer_claim::body, locate          locateOf; what is written into the part is the caller's (`filled`)
 --   commit        logbuffer::buffer_claim::commit                commitOf, commitBytes
 --   abort         logbuffer::buffer_claim::abort                 commitOf, abortBytes
 --   limit change  publication::positions::set_publication_limit  limitOf

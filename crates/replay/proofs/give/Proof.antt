@@ -24,7 +24,7 @@ use Rattle.replay.specs.declared.Replay.{Replay}
 use Rattle.replay.specs.declared.TurnReply.{TurnReply}
 use Rattle.model.specs.declared.Replayed.{Replayed}
 use Rattle.model.specs.Replay.{ReplayState}
-use Rattle.replay.proofs.Turns.{fragment-is, fragment-in}
+use Rattle.replay.proofs.Turns.{turned-as, fragment-is, fragment-in}
 use borrow.Author.Needs.{needs}
 use Rattle.replay.proofs.give.Statement.{statement}
 use Rattle.replay.proofs.give.Tie as tie
@@ -73,14 +73,6 @@ elsewhere-is base s (Fragment at n) h = absurd (miss (0 ∷ 2 ∷ 3 ∷ []) 1 tt
 elsewhere-is base s (Message at n) h = refl
 elsewhere-is base s (Refused e) h = refl
 
-other : (t : TurnReply) (p : Replay) (a : Assembled) (buffer : List ℕ) → (t .on ≡ elsewhereOn a) × ((t .answer ≡ elsewhereBy a) × (t .next ≡ p))
-    → turned t buffer ≡ record { on = elsewhereOn a; answer = elsewhereBy a; next = stateOf p buffer }
-other t p a buffer e =
-    ap (λ (x : Bool). like x (t .answer) (t .next)) (e .0) ∙ ap₂ (like (elsewhereOn a)) (e .1 .0) (e .1 .1)
-  where
-    like : Bool → Replayed → Replay → Turned
-    like x y z = record { on = x; answer = y; next = stateOf z buffer }
-
 -- src/lib.rt:126:9
 read-active-requires : tie.Need-read-active-requires
 read-active-requires c κs = search needs
@@ -118,7 +110,7 @@ returns : tie.Need-returns
 returns c =
     let a = c .before .before .before .before .before .on-fragment .result .answer in
     let e = c .elsewhere .ensures in
-    other (c .elsewhere .result) _ a (c .before .before .before .before .before .on-fragment .last .1 .1 .1 .0) e ∙ elsewhere-is (base (c .before .before .before .before .before)) _ a (c .before .match .keys2) ∙ is (c .before .before .before .before .before) a refl
+    turned-as (c .elsewhere .result) (elsewhereOn a) (elsewhereBy a) _ (c .before .before .before .before .before .on-fragment .last .1 .1 .1 .0) e ∙ elsewhere-is (base (c .before .before .before .before .before)) _ a (c .before .match .keys2) ∙ is (c .before .before .before .before .before) a refl
 
 -- src/lib.rt:139:33
 mul-t18 : tie.Need-mul-t18

@@ -20,7 +20,7 @@ use Rattle.logbuffer.proofs.Signed.{long-by}
 use Rattle.replay.specs.declared.Replay.{Replay}
 use Rattle.replay.specs.declared.TurnReply.{TurnReply}
 use Rattle.replay.specs.Replays.{Turned, stateOf, refusalBy, turned, stops, goesOn, turnSaid, turnOf}
-use Rattle.replay.proofs.Turns.{fragment-one, turn-end, turn-fragment, turn-quiet, turn-padding}
+use Rattle.replay.proofs.Turns.{turned-as, fragment-one, turn-end, turn-fragment, turn-quiet, turn-padding}
 use borrow.Author.Needs.{needs}
 use Rattle.replay.proofs.turn.Statement.{statement}
 use Rattle.replay.proofs.turn.Tie as tie
@@ -58,14 +58,6 @@ answered c x e = ap (turnSaid (st c .args .rec) (log c) (S c)) (sym e ∙ ap (λ
 next-is : (c : tie.After-poll-one) → imageState (c .poll-one .result .polled .next) ≡ pollOne (st c .args .rec) (log c) (S c .image) .next
 next-is c = ap (λ (y : PollReply). imageState (y .next)) (polled c)
 
--- a turn that stops where it is
-halts : (t : TurnReply) (p : Replay) (a : Replayed) (buffer : List ℕ) → (t .on ≡ false) × ((t .answer ≡ a) × (t .next ≡ p)) → turned t buffer ≡ stops (stateOf p buffer) a
-halts t p a buffer e =
-    ap (λ (x : Bool). like x (t .answer) (t .next)) (e .0) ∙ ap₂ (like false) (e .1 .0) (e .1 .1)
-  where
-    like : Bool → Replayed → Replay → Turned
-    like x y z = record { on = x; answer = y; next = stateOf z buffer }
-
 -- src/lib.rt:146:9
 read-active-requires : tie.Need-read-active-requires
 read-active-requires c κs = search needs
@@ -98,7 +90,7 @@ stopped-requires c κs = search needs
 returns : tie.Need-returns
 returns c =
     let told = c .before .before .enum-told .given .1 in
-    halts (c .stopped .result) _ _ (st (c .before .before .before .before .before .before) .args .buffer .now) (c .stopped .ensures)
+    turned-as (c .stopped .result) false _ _ (st (c .before .before .before .before .before .before) .args .buffer .now) (c .stopped .ensures)
     ∙ ap (stops (S (c .before .before .before .before .before .before))) (c .before .refusal .ensures ∙ ap refusalBy told)
     ∙ answered (c .before .before .before .before .before .before) (Refused (c .before .before .enum-told .given .0 .0)) told
 
@@ -109,7 +101,7 @@ stopped-requires-2 c κs = search needs
 -- src/lib.rt:159:9
 returns-2 : tie.Need-returns-2
 returns-2 c =
-    halts (c .stopped2 .result) _ _ (st (c .before .before .before .before .before .before .before) .args .buffer .now) (c .stopped2 .ensures)
+    turned-as (c .stopped2 .result) false _ _ (st (c .before .before .before .before .before .before .before) .args .buffer .now) (c .stopped2 .ensures)
     ∙ turn-end (st (c .before .before .before .before .before .before .before) .args .rec) (log (c .before .before .before .before .before .before .before)) (S (c .before .before .before .before .before .before .before)) (c .before .before .before .answer .given .0 .0) (c .before .before .before .answer .given .0 .1 .0) (omega (arith, term-is (c .before .before .before .before .before .before .before), p-is (c .before .before .before .before .before .before .before), c .before .if1)) ∙ answered (c .before .before .before .before .before .before .before) (Fragments (c .before .before .before .answer .given .0 .0) (c .before .before .before .answer .given .0 .1 .0)) (c .before .before .before .answer .given .1)
 
 -- src/lib.rt:162:56
@@ -144,7 +136,7 @@ stopped-requires-3 c κs = search needs
 -- src/lib.rt:165:9
 returns-4 : tie.Need-returns-4
 returns-4 c =
-    halts (c .stopped3 .result) _ _ (st (c .before .before .before .before .before .before .before .before .before .before .before) .args .buffer .now) (c .stopped3 .ensures)
+    turned-as (c .stopped3 .result) false _ _ (st (c .before .before .before .before .before .before .before .before .before .before .before) .args .buffer .now) (c .stopped3 .ensures)
     ∙ turn-quiet (st (c .before .before .before .before .before .before .before .before .before .before .before) .args .rec) (log (c .before .before .before .before .before .before .before .before .before .before .before)) (S (c .before .before .before .before .before .before .before .before .before .before .before)) (c .before .before .before .before .before .before .before .answer .given .0 .0) (c .before .before .before .before .before .before .before .answer .given .0 .1 .0) (omega (arith, term-is (c .before .before .before .before .before .before .before .before .before .before .before), p-is (c .before .before .before .before .before .before .before .before .before .before .before), c .before .before .before .before .before .if1 .left)) (c .before .before .before .before .if2 .left) (ap (λ (i : Image). long (i .position)) (sym (next-is (c .before .before .before .before .before .before .before .before .before .before .before))) ∙ sym (long-by (c .before .before .before .before .before .before .before .before .before .before .before .poll-one .result .polled .next .position) (c .before .before .long2 .ensures .0) (search needs)) ∙ c .before .if3 .taken ∙ p-is (c .before .before .before .before .before .before .before .before .before .before .before)) ∙ answered (c .before .before .before .before .before .before .before .before .before .before .before) (Fragments (c .before .before .before .before .before .before .before .answer .given .0 .0) (c .before .before .before .before .before .before .before .answer .given .0 .1 .0)) (c .before .before .before .before .before .before .before .answer .given .1)
 
 -- src/lib.rt:143:1
