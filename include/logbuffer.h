@@ -1,0 +1,414 @@
+/* The log buffer for C: an excavation's log as Aeron lays it out, each function proved equal to a definition in crates/model/specs.
+ *
+ *   rt staticlib capi                                             builds target/staticlib/libcapi.a (x86-64)
+ *   cc -I include program.c target/staticlib/libcapi.a            links it; it needs nothing else
+ *
+ * How to call it
+ * - Nothing is kept between calls: the record, an image, an assembler and a replay are values. A call takes one and answers the next
+ *   one, which the caller hands to the next call. All memory is the caller's; nothing is allocated.
+ * - A slice is a pointer and a count of elements. The pointer must be valid for so many elements, and no slice that is written may
+ *   overlap another one of the same call. A bool must hold 0 or 1. Nothing else is asked: any number and any bytes may be handed in.
+ * - `code` is 0, or the number of the refusal below. Where it is not 0 the other values of a reply are 0, and `next` is what the call
+ *   leaves: what it was given, unless the refusal's line says otherwise.
+ *
+ * Refusals, by number (docs/GUIDE.md says what to do about each)
+ *    1  an argument is out of its range               10  message longer than payload limit and message limit
+ *    2  the record or the log breaks its ranges       11  tail offset and need together over 2147483647
+ *    3  the image's position is out of its range      12  tripped in the last term (tail and padding stay)
+ *    4  claim longer than the payload limit           13  appender: the tail has another term id (the tail has moved)
+ *    5  the publication is closed                     14  the header does not show the open claim
+ *    6  term count and id differ; or tripped and      15  new position before the current one or past the term's end
+ *       rotated: call again (tail, padding, rotation stay)
+ *    7  the greatest position is reached (after a     16  new position not a multiple of 32
+ *       trip, tail and padding stay)
+ *    8  back pressure: the limit is reached           17  the first frame is unsound
+ *    9  the same, and not connected                   18  assembler: a 17th session, or fragments longer than their part
+ *
+ * An example
+ *
+ *   static uint8_t log[3 * 65536], buffer[16 * 8192];
+ *   struct logbuffer_record_reply r = logbuffer_open(log, sizeof log, 65536, 1408, 7, 11, 22);
+ *   r = logbuffer_set_publication_limit(r.next, 1 << 20);
+ *   struct logbuffer_offer_reply o = logbuffer_offer(r.next, log, sizeof log, (const uint8_t *)"coin", 4, 0);
+ *   // o.code is 0, o.position 64; the next call takes o.next
+ *   struct logbuffer_replay replay = logbuffer_replay_new(11);
+ *   struct logbuffer_next_reply n = logbuffer_replay_next(replay, o.next, log, sizeof log, buffer, sizeof buffer);
+ *   // n.place is LOGBUFFER_IN_LOG, and log[n.start .. n.start + n.length) is "coin"
+ */
+#ifndef LOGBUFFER_H
+#define LOGBUFFER_H
+
+#include <stdbool.h>
+#include <stddef.h>
+#include <stdint.h>
+
+#ifdef __cplusplus
+extern "C" {
+#endif
+
+/* ---- values */
+
+/* A log's record. A raw tail has a term id in its upper 32 bits and an offset in its lower. */
+struct logbuffer_record {
+    int64_t tails[3];
+    int32_t active_term_count;
+    int32_t initial_term_id;
+    int32_t term_length;
+    int32_t mtu_length;
+    int32_t session_id;
+    int32_t stream_id;
+    int32_t is_connected; /* 1 is yes */
+    int64_t publication_limit;
+    int64_t end_of_stream_position;
+    bool is_closed;
+};
+
+/* An open claim: partition, offset of its frame in the term, frame length (32 more than the body), term id. */
+struct logbuffer_claim {
+    int32_t partition;
+    int32_t offset;
+    int32_t length;
+    int32_t term_id;
+};
+
+/* The 32 bytes of a frame's header as they stand, and the position past the frame. */
+struct logbuffer_header {
+    int32_t frame_length;
+    uint8_t version;
+    uint8_t flags; /* 0x80 begins a message, 0x40 ends it */
+    uint16_t frame_type; /* 0 padding, 1 data */
+    int32_t term_offset;
+    int32_t session_id;
+    int32_t stream_id;
+    int32_t term_id;
+    int64_t reserved_value;
+    int64_t position;
+};
+
+/* A reader: its position in the stream, its session, whether it is closed, and the end-of-stream flag kept at closing. */
+struct logbuffer_image {
+    int64_t position;
+    int32_t session_id;
+    bool is_closed;
+    bool is_eos;
+};
+
+/* An assembler's bookkeeping: sessions entered, their ids, and how many bytes each holds in its part of the lent buffer. */
+struct logbuffer_assembler {
+    size_t count;
+    int32_t ids[16];
+    size_t held[16];
+};
+
+struct logbuffer_replay {
+    struct logbuffer_image image;
+    struct logbuffer_assembler assembler;
+};
+
+/* Where a message lies. */
+enum { LOGBUFFER_NOTHING = 0, LOGBUFFER_IN_LOG = 1, LOGBUFFER_IN_BUFFER = 2 };
+
+/* ---- replies */
+
+struct logbuffer_record_reply {
+    struct logbuffer_record next;
+    int32_t code;
+};
+
+struct logbuffer_position_reply {
+    int32_t code;
+    int64_t position;
+};
+
+struct logbuffer_offer_reply {
+    struct logbuffer_record next;
+    int32_t code;
+    int64_t position;
+};
+
+struct logbuffer_claim_reply {
+    struct logbuffer_record next;
+    int32_t code;
+    int64_t position;
+    struct logbuffer_claim claim;
+};
+
+/* A part of the log: log[start .. start + length). */
+struct logbuffer_span_reply {
+    int32_t code;
+    size_t start;
+    size_t length;
+};
+
+/* An appender's: the offset after the frames, or that the append tripped (the Rust answers -2). */
+struct logbuffer_append_reply {
+    struct logbuffer_record next;
+    int32_t code;
+    bool is_tripped;
+    size_t offset;
+};
+
+struct logbuffer_append_claim_reply {
+    struct logbuffer_record next;
+    int32_t code;
+    bool is_tripped;
+    size_t offset;
+    struct logbuffer_claim claim;
+};
+
+struct logbuffer_header_reply {
+    int32_t code;
+    struct logbuffer_header fields;
+};
+
+/* The offset the read came to, and the fragments read. */
+struct logbuffer_read_reply {
+    int32_t code;
+    size_t offset;
+    size_t fragments;
+};
+
+struct logbuffer_scan_reply {
+    int32_t code;
+    size_t offset;
+};
+
+/* A gap: the term id given, offset and length; or none, with the offset that the walk came to. */
+struct logbuffer_gap_reply {
+    int32_t code;
+    bool is_gap;
+    int32_t term_id;
+    size_t offset;
+    size_t length;
+};
+
+/* padding * 2^32 + available */
+struct logbuffer_availability_reply {
+    int32_t code;
+    int64_t outcome;
+};
+
+/* The fragments read, and the entries written. */
+struct logbuffer_poll_reply {
+    struct logbuffer_image next;
+    int32_t code;
+    size_t fragments;
+    size_t entries;
+};
+
+struct logbuffer_peek_reply {
+    int32_t code;
+    int64_t position;
+    size_t entries;
+};
+
+/* A block's offset in its term, its length, session and term id; four zeros where it is empty. */
+struct logbuffer_block_reply {
+    struct logbuffer_image next;
+    int32_t code;
+    size_t offset;
+    size_t length;
+    int32_t session_id;
+    int32_t term_id;
+};
+
+struct logbuffer_image_reply {
+    struct logbuffer_image next;
+    int32_t code;
+};
+
+struct logbuffer_end_of_stream_reply {
+    int32_t code;
+    bool is_eos;
+};
+
+/* place is LOGBUFFER_NOTHING; LOGBUFFER_IN_LOG, where start is an offset in the frame's term; or LOGBUFFER_IN_BUFFER. */
+struct logbuffer_assembly_reply {
+    struct logbuffer_assembler next;
+    int32_t code;
+    int32_t place;
+    size_t start;
+    size_t length;
+};
+
+/* place is LOGBUFFER_NOTHING at the end; LOGBUFFER_IN_LOG, where start is an index of the whole log; or LOGBUFFER_IN_BUFFER. */
+struct logbuffer_next_reply {
+    struct logbuffer_replay next;
+    int32_t code;
+    int32_t place;
+    size_t start;
+    size_t length;
+};
+
+struct logbuffer_count_reply {
+    int32_t code;
+    size_t messages;
+    size_t bytes;
+};
+
+/* ---- opening, and calls on the record alone */
+
+/* Zeroes the log, three terms, and answers the record of an empty one: limit 0, connected, not closed. Term length: a power of two from
+ * 65,536 to 2^30. Mtu: a multiple of 32 from 64 to 65,504. Initial id from -2147483646 up. Refuses 2, and then writes nothing and answers
+ * a record of zeros. */
+struct logbuffer_record_reply logbuffer_open(uint8_t *log, size_t log_length, int32_t term_length, int32_t mtu_length,
+                                             int32_t initial_term_id, int32_t session_id, int32_t stream_id);
+
+/* How far offers and claims may go: from 0 to 2^62. Refuses 2. */
+struct logbuffer_record_reply logbuffer_set_publication_limit(struct logbuffer_record rec, int64_t limit);
+
+/* Offers, claims and the three numbers below then refuse 5. Refuses 2. */
+struct logbuffer_record_reply logbuffer_close(struct logbuffer_record rec);
+
+/* The next partition's tail becomes (term_id + 1, 0) if its id is term_id - 2, and the count rises by one if it is the one given.
+ * Refuses 1, 2, 12. */
+struct logbuffer_record_reply logbuffer_rotate_log(struct logbuffer_record rec, int32_t count, int32_t term_id);
+
+/* The publisher's position; its limit; what is left up to the limit, below 0 where the position is past it. Each refuses 2, 5. */
+struct logbuffer_position_reply logbuffer_position(struct logbuffer_record rec);
+struct logbuffer_position_reply logbuffer_publication_limit(struct logbuffer_record rec);
+struct logbuffer_position_reply logbuffer_available_window(struct logbuffer_record rec);
+
+/* ---- numbers of tails and positions, which refuse nothing but where said */
+
+/* A value rounded up to a multiple of 32; whether it is a power of two. */
+size_t logbuffer_align(uint32_t value);
+bool logbuffer_is_power_of_two(uint32_t value);
+
+/* Of a raw tail: its term id, and its offset cut to the term length. */
+int32_t logbuffer_term_id(int64_t raw_tail);
+size_t logbuffer_term_offset(int64_t raw_tail, size_t term_length);
+
+/* The partition of a term count, and of a position, given the bits to shift: the trailing zeros of the term length. */
+size_t logbuffer_index_by_term_count(size_t count);
+size_t logbuffer_index_by_position(uint64_t position, uint32_t bits);
+uint32_t logbuffer_position_bits_to_shift(uint32_t term_length);
+
+/* (term_id - initial_term_id) * 2^bits + offset. Refuses 1: more than 30 bits. */
+struct logbuffer_position_reply logbuffer_compute_position(int32_t term_id, uint32_t offset, uint32_t bits, int32_t initial_term_id);
+
+/* ---- writing */
+
+/* Appends a message, in fragments where it is longer than the payload limit (mtu - 32), and answers the position after it. Refuses 1, 2,
+ * 5, 6, 7, 8, 9, 10, 11, 12. After 6 call again: with the term full the log has been rotated. */
+struct logbuffer_offer_reply logbuffer_offer(struct logbuffer_record rec, uint8_t *log, size_t log_length, const uint8_t *message,
+                                             size_t message_length, int64_t reserved_value);
+
+/* Claims a frame for a body of this length, up to the payload limit. Readers stop before it until it is committed or aborted. Refuses 1,
+ * 2, 4, 5, 6, 7, 8, 9, 11, 12. */
+struct logbuffer_claim_reply logbuffer_try_claim(struct logbuffer_record rec, uint8_t *log, size_t log_length, int32_t length);
+
+/* Where the body of an open claim lies in the log, to be written by the caller; and the number alone. Each refuses 1, 2, 14. */
+struct logbuffer_span_reply logbuffer_claim_body(struct logbuffer_record rec, const uint8_t *log, size_t log_length,
+                                                 struct logbuffer_claim claim);
+int32_t logbuffer_claim_body_number(struct logbuffer_record rec, const uint8_t *log, size_t log_length, struct logbuffer_claim claim);
+
+/* Makes an open claim a message; or padding, which readers pass. The answer is the number: 0, 1, 2, 14. */
+int32_t logbuffer_commit(struct logbuffer_record rec, uint8_t *log, size_t log_length, struct logbuffer_claim claim);
+int32_t logbuffer_abort(struct logbuffer_record rec, uint8_t *log, size_t log_length, struct logbuffer_claim claim);
+
+/* The appenders under offer and claim, on a partition (0 to 2) and a term id of the caller's choice. Each refuses 1, 2, 11, 13. */
+struct logbuffer_append_reply logbuffer_append_unfragmented_message(struct logbuffer_record rec, uint8_t *log, size_t log_length,
+                                                                    int32_t partition, const uint8_t *message, size_t message_length,
+                                                                    int64_t reserved_value, int32_t term_id);
+struct logbuffer_append_reply logbuffer_append_fragmented_message(struct logbuffer_record rec, uint8_t *log, size_t log_length,
+                                                                  int32_t partition, const uint8_t *message, size_t message_length,
+                                                                  int64_t reserved_value, int32_t payload_limit, int32_t term_id);
+struct logbuffer_append_claim_reply logbuffer_append_claim(struct logbuffer_record rec, uint8_t *log, size_t log_length,
+                                                           int32_t partition, int32_t length, int32_t term_id);
+
+/* ---- frames of one term: partition 0 to 2, offset a multiple of 32 below the term length */
+
+/* The header at an offset. Refuses 1, 2. */
+struct logbuffer_header_reply logbuffer_header_fields(struct logbuffer_record rec, const uint8_t *log, size_t log_length,
+                                                      int32_t partition, int32_t offset);
+
+/* Hands out (offset, length) of each body as two numbers in entries, at most fragment_limit of them. Refuses 1, 2, 17. */
+struct logbuffer_read_reply logbuffer_read(struct logbuffer_record rec, const uint8_t *log, size_t log_length, int32_t partition,
+                                           int32_t offset, int32_t fragment_limit, int32_t *entries, size_t entries_length);
+
+/* Where an entry's body lies in the log; and the number alone. Any offset and length inside the term. Each refuses 1, 2. */
+struct logbuffer_span_reply logbuffer_view(struct logbuffer_record rec, const uint8_t *log, size_t log_length, int32_t partition,
+                                           int32_t offset, int32_t length);
+int32_t logbuffer_view_number(struct logbuffer_record rec, const uint8_t *log, size_t log_length, int32_t partition, int32_t offset,
+                              int32_t length);
+
+/* The end of the finished frames up to a limit; the gap in them up to a high mark; the bytes available for sending, and the padding
+ * after them. Each refuses 1, 2, 17. */
+struct logbuffer_scan_reply logbuffer_scan(struct logbuffer_record rec, const uint8_t *log, size_t log_length, int32_t partition,
+                                           int32_t offset, int32_t limit);
+struct logbuffer_gap_reply logbuffer_scan_for_gap(struct logbuffer_record rec, const uint8_t *log, size_t log_length, int32_t partition,
+                                                  int32_t term_id, int32_t offset, int32_t high_mark);
+struct logbuffer_availability_reply logbuffer_scan_for_availability(struct logbuffer_record rec, const uint8_t *log, size_t log_length,
+                                                                    int32_t partition, int32_t offset, int32_t maximum);
+
+/* ---- images */
+
+/* A reader at a position. Refuses nothing: each call judges the position. */
+struct logbuffer_image logbuffer_image_new(int64_t position, int32_t session_id);
+
+/* Reads fragments up to the end of the term and moves past them; entries as in logbuffer_read, in the term of the position before the
+ * call. Refuses 1, 2, 3, 17. The second reads nothing at or past a position. The third takes an answer for each fragment: 1 abort, 2
+ * break, 3 commit, 4 continue. */
+struct logbuffer_poll_reply logbuffer_image_poll(struct logbuffer_image image, struct logbuffer_record rec, const uint8_t *log,
+                                                 size_t log_length, int32_t *entries, size_t entries_length, int32_t fragment_limit);
+struct logbuffer_poll_reply logbuffer_image_bounded_poll(struct logbuffer_image image, struct logbuffer_record rec, const uint8_t *log,
+                                                         size_t log_length, int32_t *entries, size_t entries_length,
+                                                         int64_t limit_position, int32_t fragment_limit);
+struct logbuffer_poll_reply logbuffer_image_controlled_poll(struct logbuffer_image image, struct logbuffer_record rec,
+                                                            const uint8_t *log, size_t log_length, int32_t *entries,
+                                                            size_t entries_length, const uint8_t *actions, size_t actions_length,
+                                                            int32_t fragment_limit);
+
+/* Reads from a start at or after the image's position without moving it, one fragment for each action, and answers the position after
+ * the last whole message. Refuses 1, 2, 3, 15, 16, 17. */
+struct logbuffer_peek_reply logbuffer_image_controlled_peek(struct logbuffer_image image, struct logbuffer_record rec,
+                                                            const uint8_t *log, size_t log_length, int32_t *entries,
+                                                            size_t entries_length, const uint8_t *actions, size_t actions_length,
+                                                            int64_t start, int64_t limit_position);
+
+/* Moves past whole frames of at most limit bytes and answers where they lie. Refuses 2, 3, 17. */
+struct logbuffer_block_reply logbuffer_image_block_poll(struct logbuffer_image image, struct logbuffer_record rec, const uint8_t *log,
+                                                        size_t log_length, int32_t limit);
+
+/* Moves within the term. Refuses 2, 3, 15, 16. */
+struct logbuffer_image_reply logbuffer_image_set_position(struct logbuffer_image image, struct logbuffer_record rec, const uint8_t *log,
+                                                          size_t log_length, int64_t new_position);
+
+/* Whether the position is at or past the end of the stream. Refuses 2, 3. */
+struct logbuffer_end_of_stream_reply logbuffer_image_is_end_of_stream(struct logbuffer_image image, struct logbuffer_record rec,
+                                                                      const uint8_t *log, size_t log_length);
+
+/* Closes the image: it then reads nothing and stays. Refuses 2. */
+struct logbuffer_image_reply logbuffer_image_close(struct logbuffer_image image, struct logbuffer_record rec, const uint8_t *log,
+                                                   size_t log_length);
+
+/* ---- messages put together again */
+
+/* An assembler that has entered no session. Its buffer is cut into 16 equal parts, one a session: a part must hold the longest message
+ * that comes in fragments. */
+struct logbuffer_assembler logbuffer_assembler_new(void);
+
+/* Takes the frame at an offset of a partition. An unfragmented message lies in the log, one put together lies in the buffer. Refuses 1,
+ * 2, 17, 18. */
+struct logbuffer_assembly_reply logbuffer_assembler_on_fragment(struct logbuffer_assembler assembler, struct logbuffer_record rec,
+                                                                const uint8_t *log, size_t log_length, uint8_t *buffer,
+                                                                size_t buffer_length, int32_t partition, int32_t offset);
+
+/* A replay from position 0. */
+struct logbuffer_replay logbuffer_replay_new(int32_t session_id);
+
+/* The next message; LOGBUFFER_NOTHING at the end, which is also before the first claim still open. Refuses as polls and the assembler
+ * do: 1, 2, 3, 17, 18. */
+struct logbuffer_next_reply logbuffer_replay_next(struct logbuffer_replay replay, struct logbuffer_record rec, const uint8_t *log,
+                                                  size_t log_length, uint8_t *buffer, size_t buffer_length);
+
+/* A whole replay: how many messages, and how many bytes they have together. Refuses as logbuffer_replay_next. */
+struct logbuffer_count_reply logbuffer_replay_count(struct logbuffer_record rec, const uint8_t *log, size_t log_length, uint8_t *buffer,
+                                                    size_t buffer_length, int32_t session_id);
+
+#ifdef __cplusplus
+}
+#endif
+
+#endif
