@@ -1,0 +1,24 @@
+use mathlib.Core.Path.{_≡_, _∙_}
+use mir.Syntax.{w32}
+use mir.Val.{toZ, ofZ}
+use Rattle.capi.proofs.Handed.{handed1}
+use Rattle.model.specs.LogBufferDescriptor.{termId}
+use borrow.Author.Needs.{needs}
+use Rattle.capi.proofs.descriptor.logbuffer_term_id.Statement.{statement}
+use Rattle.capi.proofs.descriptor.logbuffer_term_id.Tie as tie
+use Rattle.capi.proofs.descriptor.logbuffer_term_id.Reads as reads
+use Rattle.capi.proofs.descriptor.logbuffer_term_id.Lts as lts
+use Rattle.logbuffer.proofs.log_buffer_descriptor.term_id.Reads as term-id-reads
+
+-- src/descriptor.rt:29:5
+term-id-requires : tie.Need-term-id-requires
+term-id-requires c κs = search needs
+
+-- src/descriptor.rt:25:1
+returns : tie.Need-returns
+returns c =
+    let back : toZ w32 (ofZ w32 (c .term-id .result)) ≡ c .term-id .result = search needs in
+    back ∙ c .term-id .ensures ∙ handed1 termId (c .before .fits .raw-tail)
+
+pub logbuffer-term-id-spec : {M : Type 1} → statement M
+logbuffer-term-id-spec = tie.close (tie.spec term-id-requires returns)

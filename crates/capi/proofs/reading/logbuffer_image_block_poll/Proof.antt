@@ -1,0 +1,32 @@
+use mathlib.Core.Path.{ap, _∙_}
+use lib.IntN.{ℤ}
+use Rattle.image.specs.Images.{blockReplyOf, stateOf}
+use Rattle.model.specs.Image.{blockPollOf}
+use Rattle.capi.specs.Replies.{blockReply}
+use Rattle.capi.proofs.Handed.{handed1}
+use borrow.Author.Needs.{needs}
+use Rattle.capi.proofs.reading.logbuffer_image_block_poll.Statement.{statement}
+use Rattle.capi.proofs.reading.logbuffer_image_block_poll.Tie as tie
+use Rattle.capi.proofs.reading.logbuffer_image_block_poll.Reads as reads
+use Rattle.capi.proofs.reading.logbuffer_image_block_poll.Lts as lts
+use Rattle.capi.proofs.replies.block_polled.Reads as block-polled-reads
+use Rattle.image.proofs.Image.block_poll.Reads as block-poll-reads
+
+-- src/reading.rt:222:9
+block-poll-requires : tie.Need-block-poll-requires
+block-poll-requires c κs = search needs
+
+-- src/reading.rt:225:5
+block-polled-requires : tie.Need-block-polled-requires
+block-polled-requires c κs = search needs
+
+-- src/reading.rt:213:1
+returns : tie.Need-returns
+returns c =
+    let s = c .before .before .before .before in
+    let a = s .args in
+    c .block-polled .ensures ∙ ap blockReply (c .before .before .block-poll .ensures) ∙ handed1 (λ (p : ℤ). blockReply (blockReplyOf (blockPollOf (a .rec) (a .log .now) (stateOf (a .image)) p))) (s .fits .limit)
+
+pub logbuffer-image-block-poll-spec : {M : Type 1} → statement M
+logbuffer-image-block-poll-spec =
+    tie.close (tie.spec block-poll-requires block-polled-requires returns)

@@ -1,0 +1,38 @@
+use mathlib.Core.Path.{ap, _∙_}
+use lib.IntN.{ℤ}
+use Rattle.image.specs.Images.{pollReplyOf, stateOf}
+use Rattle.model.specs.Image.{boundedPollOf}
+use Rattle.capi.specs.Replies.{pollReply}
+use Rattle.capi.proofs.Handed.{handed2}
+use borrow.Author.Needs.{needs}
+use Rattle.capi.proofs.reading.logbuffer_image_bounded_poll.Statement.{statement}
+use Rattle.capi.proofs.reading.logbuffer_image_bounded_poll.Tie as tie
+use Rattle.capi.proofs.reading.logbuffer_image_bounded_poll.Reads as reads
+use Rattle.capi.proofs.reading.logbuffer_image_bounded_poll.Lts as lts
+use Rattle.capi.proofs.replies.polled.Reads as polled-reads
+use Rattle.image.proofs.Image.bounded_poll.Reads as bounded-poll-reads
+
+-- src/reading.rt:173:9
+bounded-poll-requires : tie.Need-bounded-poll-requires
+bounded-poll-requires c κs = search needs
+
+-- src/reading.rt:176:5
+polled-requires : tie.Need-polled-requires
+polled-requires c κs = search needs
+
+-- src/reading.rt:161:1
+same-length : tie.Need-same-length
+same-length c = search needs
+
+-- src/reading.rt:161:1
+returns : tie.Need-returns
+returns c =
+    let s = c .before .before .before .before .before .before in
+    let a = s .args in (
+      c .polled .ensures ∙ ap pollReply (c .before .before .before .bounded-poll .ensures .0) ∙ handed2 (λ (p : ℤ) (q : ℤ). pollReply (pollReplyOf (boundedPollOf (a .rec) (a .log .now) (stateOf (a .image)) (a .entries .now) p q))) (s .fits .limit-position) (s .fits .fragment-limit),
+      c .before .before .before .bounded-poll .ensures .1 ∙ handed2 (λ (p : ℤ) (q : ℤ). boundedPollOf (a .rec) (a .log .now) (stateOf (a .image)) (a .entries .now) p q .slots) (s .fits .limit-position) (s .fits .fragment-limit),
+    )
+
+pub logbuffer-image-bounded-poll-spec : {M : Type 1} → statement M
+logbuffer-image-bounded-poll-spec =
+    tie.close (tie.spec bounded-poll-requires polled-requires same-length returns)

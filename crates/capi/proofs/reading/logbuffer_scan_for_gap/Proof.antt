@@ -1,0 +1,31 @@
+use mathlib.Core.Path.{ap, _∙_}
+use lib.IntN.{ℤ}
+use Rattle.model.specs.TermScan.{gapOf}
+use Rattle.capi.specs.Replies.{gapReply}
+use Rattle.capi.proofs.Handed.{handed4}
+use borrow.Author.Needs.{needs}
+use Rattle.capi.proofs.reading.logbuffer_scan_for_gap.Statement.{statement}
+use Rattle.capi.proofs.reading.logbuffer_scan_for_gap.Tie as tie
+use Rattle.capi.proofs.reading.logbuffer_scan_for_gap.Reads as reads
+use Rattle.capi.proofs.reading.logbuffer_scan_for_gap.Lts as lts
+use Rattle.capi.proofs.replies.gap_scanned.Reads as gap-scanned-reads
+use Rattle.logbuffer.proofs.term_scan.scan_for_gap.Reads as scan-for-gap-reads
+
+-- src/reading.rt:115:26
+scan-for-gap-requires : tie.Need-scan-for-gap-requires
+scan-for-gap-requires c κs = search needs
+
+-- src/reading.rt:115:5
+gap-scanned-requires : tie.Need-gap-scanned-requires
+gap-scanned-requires c κs = search needs
+
+-- src/reading.rt:104:1
+returns : tie.Need-returns
+returns c =
+    let s = c .before .before .before in
+    let a = s .args in
+    c .gap-scanned .ensures ∙ ap gapReply (c .before .scan-for-gap .ensures) ∙ handed4 (λ (p : ℤ) (q : ℤ) (r : ℤ) (t : ℤ). gapReply (gapOf (a .rec) (a .log .now) p q r t)) (s .fits .partition) (s .fits .term-id) (s .fits .offset) (s .fits .high-mark)
+
+pub logbuffer-scan-for-gap-spec : {M : Type 1} → statement M
+logbuffer-scan-for-gap-spec =
+    tie.close (tie.spec scan-for-gap-requires gap-scanned-requires returns)

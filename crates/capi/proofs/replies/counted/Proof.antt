@@ -1,0 +1,37 @@
+use mathlib.Core.Path.{_≡_, ap, sym, _∙_}
+use lib.IntN.{ℤ}
+use mir.Syntax.{w32}
+use mir.Val.{toZ, ofZ}
+use Rattle.capi.specs.Replies.{countReply}
+use borrow.Author.Needs.{needs}
+use Rattle.capi.proofs.replies.counted.Statement.{statement}
+use Rattle.capi.proofs.replies.counted.Tie as tie
+use Rattle.capi.proofs.replies.counted.Reads as reads
+use Rattle.capi.proofs.replies.counted.Lts as lts
+use Rattle.logbuffer.proofs.errors.number.Reads as number-reads
+
+-- src/replies.rt:589:25
+enum-known-answer : tie.Need-enum-known-answer
+enum-known-answer c = search needs
+
+-- src/replies.rt:594:26
+enum-known-answer-2 : tie.Need-enum-known-answer-2
+enum-known-answer-2 c = search needs
+
+-- src/replies.rt:595:19
+number-requires : tie.Need-number-requires
+number-requires c κs = search needs
+
+-- src/replies.rt:585:1
+returns : tie.Need-returns
+returns c = ap countReply (sym (c .before .answer .given .1))
+
+-- src/replies.rt:585:1
+returns-2 : tie.Need-returns-2
+returns-2 c =
+    let back : toZ w32 (ofZ w32 (c .number .result)) ≡ c .number .result = search needs in
+    ap (λ (z : ℤ). record { code = z; messages = 0; bytes = 0 }) (back ∙ c .number .ensures) ∙ ap countReply (sym (c .before .before .answer2 .given .1))
+
+pub counted-spec : {M : Type 1} → statement M
+counted-spec =
+    tie.close (tie.spec enum-known-answer enum-known-answer-2 number-requires returns returns-2)

@@ -1,0 +1,33 @@
+use mathlib.Core.Path.{_≡_, ap, _∙_}
+use mir.Syntax.{w32}
+use mir.Val.{toZ, ofZ}
+use Rattle.capi.specs.Replies.{outcomeNumber}
+use borrow.Author.Needs.{needs}
+use Rattle.capi.proofs.writing.logbuffer_abort.Statement.{statement}
+use Rattle.capi.proofs.writing.logbuffer_abort.Tie as tie
+use Rattle.capi.proofs.writing.logbuffer_abort.Reads as reads
+use Rattle.capi.proofs.writing.logbuffer_abort.Lts as lts
+use Rattle.capi.proofs.replies.outcome_code.Reads as outcome-code-reads
+use Rattle.logbuffer.proofs.buffer_claim.abort.Reads as abort-reads
+
+-- src/writing.rt:167:27
+abort-requires : tie.Need-abort-requires
+abort-requires c κs = search needs
+
+-- src/writing.rt:167:5
+outcome-code-requires : tie.Need-outcome-code-requires
+outcome-code-requires c κs = search needs
+
+-- src/writing.rt:162:1
+same-length : tie.Need-same-length
+same-length c = search needs
+
+-- src/writing.rt:162:1
+returns : tie.Need-returns
+returns c =
+    let back : toZ w32 (ofZ w32 (c .outcome-code .result)) ≡ c .outcome-code .result = search needs in
+    (back ∙ c .outcome-code .ensures ∙ ap outcomeNumber (c .before .before .before .abort .ensures .0), c .before .before .before .abort .ensures .1)
+
+pub logbuffer-abort-spec : {M : Type 1} → statement M
+logbuffer-abort-spec =
+    tie.close (tie.spec abort-requires outcome-code-requires same-length returns)

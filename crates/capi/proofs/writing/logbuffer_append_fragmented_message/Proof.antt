@@ -1,0 +1,37 @@
+use mathlib.Core.Path.{ap, _∙_}
+use lib.IntN.{ℤ}
+use Rattle.model.specs.TermAppender.{fragmentedReply, fragmentedBytes}
+use Rattle.capi.specs.Replies.{appendReply}
+use Rattle.capi.proofs.Handed.{handed3, handed4}
+use borrow.Author.Needs.{needs}
+use Rattle.capi.proofs.writing.logbuffer_append_fragmented_message.Statement.{statement}
+use Rattle.capi.proofs.writing.logbuffer_append_fragmented_message.Tie as tie
+use Rattle.capi.proofs.writing.logbuffer_append_fragmented_message.Reads as reads
+use Rattle.capi.proofs.writing.logbuffer_append_fragmented_message.Lts as lts
+use Rattle.capi.proofs.replies.appended.Reads as appended-reads
+use Rattle.logbuffer.proofs.term_appender.append_fragmented_message.Reads as append-fragmented-message-reads
+
+-- src/writing.rt:208:9
+append-fragmented-message-requires : tie.Need-append-fragmented-message-requires
+append-fragmented-message-requires c κs = search needs
+
+-- src/writing.rt:219:5
+appended-requires : tie.Need-appended-requires
+appended-requires c κs = search needs
+
+-- src/writing.rt:195:1
+same-length : tie.Need-same-length
+same-length c = search needs
+
+-- src/writing.rt:195:1
+returns : tie.Need-returns
+returns c =
+    let s = c .before .before .before .before .before .before .before .before in
+    let a = s .args in (
+      c .appended .ensures ∙ ap appendReply (c .before .before .before .before .append-fragmented-message .ensures .0) ∙ handed3 (λ (p : ℤ) (q : ℤ) (r : ℤ). appendReply (fragmentedReply (a .rec) (a .log .now) p (a .message .now) q r)) (s .fits .partition) (s .fits .payload-limit) (s .fits .term-id),
+      c .before .before .before .before .append-fragmented-message .ensures .1 ∙ handed4 (λ (p : ℤ) (q : ℤ) (r : ℤ) (t : ℤ). fragmentedBytes (a .rec) (a .log .now) p (a .message .now) q r t) (s .fits .partition) (s .fits .reserved-value) (s .fits .payload-limit) (s .fits .term-id),
+    )
+
+pub logbuffer-append-fragmented-message-spec : {M : Type 1} → statement M
+logbuffer-append-fragmented-message-spec =
+    tie.close (tie.spec append-fragmented-message-requires appended-requires same-length returns)

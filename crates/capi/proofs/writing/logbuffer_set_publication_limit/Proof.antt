@@ -1,0 +1,34 @@
+use mathlib.Core.Path.{_≡_, ap, _∙_}
+use lib.IntN.{ℤ}
+use mir.Syntax.{w32}
+use mir.Val.{toZ, ofZ}
+use Rattle.model.specs.Publication.{limitOf}
+use Rattle.capi.specs.Replies.{recordReply}
+use Rattle.capi.proofs.Handed.{handed1}
+use borrow.Author.Needs.{needs}
+use Rattle.capi.proofs.writing.logbuffer_set_publication_limit.Statement.{statement}
+use Rattle.capi.proofs.writing.logbuffer_set_publication_limit.Tie as tie
+use Rattle.capi.proofs.writing.logbuffer_set_publication_limit.Reads as reads
+use Rattle.capi.proofs.writing.logbuffer_set_publication_limit.Lts as lts
+use Rattle.capi.proofs.replies.outcome_code.Reads as outcome-code-reads
+use Rattle.publication.proofs.positions.set_publication_limit.Reads as set-publication-limit-reads
+
+-- src/writing.rt:57:9
+set-publication-limit-requires : tie.Need-set-publication-limit-requires
+set-publication-limit-requires c κs = search needs
+
+-- src/writing.rt:62:15
+outcome-code-requires : tie.Need-outcome-code-requires
+outcome-code-requires c κs = search needs
+
+-- src/writing.rt:53:1
+returns : tie.Need-returns
+returns c =
+    let s = c .before .before .before in
+    let a = s .args in
+    let back : toZ w32 (ofZ w32 (c .outcome-code .result)) ≡ c .outcome-code .result = search needs in
+    ap (λ (z : ℤ). record { next = c .before .before .set-publication-limit .result .next; code = z }) (back ∙ c .outcome-code .ensures) ∙ ap recordReply (c .before .before .set-publication-limit .ensures) ∙ handed1 (λ (p : ℤ). recordReply (limitOf (a .rec) p)) (s .fits .limit)
+
+pub logbuffer-set-publication-limit-spec : {M : Type 1} → statement M
+logbuffer-set-publication-limit-spec =
+    tie.close (tie.spec set-publication-limit-requires outcome-code-requires returns)

@@ -1,0 +1,37 @@
+use mathlib.Core.Path.{ap, _∙_}
+use lib.IntN.{ℤ}
+use Rattle.model.specs.Publication.{claimOf, claimBytes}
+use Rattle.capi.specs.Replies.{claimReply}
+use Rattle.capi.proofs.Handed.{handed1}
+use borrow.Author.Needs.{needs}
+use Rattle.capi.proofs.writing.logbuffer_try_claim.Statement.{statement}
+use Rattle.capi.proofs.writing.logbuffer_try_claim.Tie as tie
+use Rattle.capi.proofs.writing.logbuffer_try_claim.Reads as reads
+use Rattle.capi.proofs.writing.logbuffer_try_claim.Lts as lts
+use Rattle.capi.proofs.replies.claimed.Reads as claimed-reads
+use Rattle.publication.proofs.try_claim.Reads as try-claim-reads
+
+-- src/writing.rt:134:9
+try-claim-requires : tie.Need-try-claim-requires
+try-claim-requires c κs = search needs
+
+-- src/writing.rt:137:5
+claimed-requires : tie.Need-claimed-requires
+claimed-requires c κs = search needs
+
+-- src/writing.rt:129:1
+same-length : tie.Need-same-length
+same-length c = search needs
+
+-- src/writing.rt:129:1
+returns : tie.Need-returns
+returns c =
+    let s = c .before .before .before .before .before .before .before in
+    let a = s .args in (
+      c .claimed .ensures ∙ ap claimReply (c .before .before .before .before .try-claim .ensures .0) ∙ handed1 (λ (p : ℤ). claimReply (claimOf (a .rec) (a .log .now) p)) (s .fits .length),
+      c .before .before .before .before .try-claim .ensures .1 ∙ handed1 (λ (p : ℤ). claimBytes (a .rec) (a .log .now) p) (s .fits .length),
+    )
+
+pub logbuffer-try-claim-spec : {M : Type 1} → statement M
+logbuffer-try-claim-spec =
+    tie.close (tie.spec try-claim-requires claimed-requires same-length returns)

@@ -1,0 +1,2 @@
+-- How each answer crosses to C.
+pub mod Replies
