@@ -1,0 +1,73 @@
+/* A log in memory, used from C: opened, written by offers and claims, refused once, and replayed. Build and run it with run.sh; read
+ * include/logbuffer.h next. */
+#include <inttypes.h>
+#include <stdio.h>
+#include <string.h>
+
+#include "logbuffer.h"
+
+enum { TERM = 65536 };
+
+static uint8_t log_bytes[3 * TERM];
+static uint8_t buffer[16 * (TERM / 8)]; /* a part holds the longest message: an eighth of a term */
+
+static void told(const char *call, int32_t code, int64_t position) {
+    if (code == 0) {
+        printf("%s: position %" PRId64 "\n", call, position);
+    } else {
+        printf("%s: refused, %" PRId32 "\n", call, code);
+    }
+}
+
+static struct logbuffer_record offer(struct logbuffer_record rec, const char *call, const uint8_t *message, size_t length) {
+    struct logbuffer_offer_reply o = logbuffer_offer(rec, log_bytes, sizeof log_bytes, message, length, 0);
+    told(call, o.code, o.position);
+    return o.next;
+}
+
+/* Claims room for a text, writes it in place, and commits or aborts it. */
+static struct logbuffer_record claim(struct logbuffer_record rec, const char *call, const char *text, bool keep) {
+    struct logbuffer_claim_reply c = logbuffer_try_claim(rec, log_bytes, sizeof log_bytes, (int32_t)strlen(text));
+    told(call, c.code, c.position);
+    struct logbuffer_span_reply body = logbuffer_claim_body(c.next, log_bytes, sizeof log_bytes, c.claim);
+    memcpy(log_bytes + body.start, text, body.length);
+    int32_t code = keep ? logbuffer_commit(c.next, log_bytes, sizeof log_bytes, c.claim)
+                        : logbuffer_abort(c.next, log_bytes, sizeof log_bytes, c.claim);
+    printf("  %s: %" PRId32 "\n", keep ? "commit" : "abort", code);
+    return c.next;
+}
+
+static void replay(struct logbuffer_record rec) {
+    struct logbuffer_replay at = logbuffer_replay_new(rec.session_id);
+    for (;;) {
+        struct logbuffer_next_reply n =
+            logbuffer_replay_next(at, rec, log_bytes, sizeof log_bytes, buffer, sizeof buffer);
+        if (n.code != 0 || n.place == LOGBUFFER_NOTHING) {
+            printf("replay ends: code %" PRId32 ", position %" PRId64 "\n", n.code, n.next.image.position);
+            return;
+        }
+        const uint8_t *bytes = n.place == LOGBUFFER_IN_LOG ? log_bytes : buffer;
+        int shown = n.length < 24 ? (int)n.length : 24;
+        printf("replay: %zu bytes, \"%.*s\"\n", n.length, shown, (const char *)bytes + n.start);
+        at = n.next;
+    }
+}
+
+int main(void) {
+    struct logbuffer_record_reply r = logbuffer_open(log_bytes, sizeof log_bytes, TERM, 96, 7, 11, 22);
+    printf("open: %" PRId32 "\n", r.code);
+    struct logbuffer_record rec = offer(r.next, "offer before a limit is set", (const uint8_t *)"coin", 4);
+    rec = logbuffer_set_publication_limit(rec, 1 << 20).next;
+    rec = offer(rec, "offer of 4 bytes", (const uint8_t *)"coin", 4);
+    rec = claim(rec, "claim of 8 bytes", "potsherd", true);
+    rec = claim(rec, "claim of 6 bytes", "fibula", false);
+    uint8_t long_message[200];
+    memset(long_message, 'x', sizeof long_message);
+    rec = offer(rec, "offer of 200 bytes, in fragments", long_message, sizeof long_message);
+    rec = logbuffer_close(rec).next;
+    rec = offer(rec, "offer after close", (const uint8_t *)"late", 4);
+    replay(rec);
+    struct logbuffer_count_reply n = logbuffer_replay_count(rec, log_bytes, sizeof log_bytes, buffer, sizeof buffer, 11);
+    printf("count: %zu messages, %zu bytes\n", n.messages, n.bytes);
+    return 0;
+}
