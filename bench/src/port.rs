@@ -1,0 +1,207 @@
+//! The functions of include/logbuffer.h that main.rs measures, and the port's side of each row.
+
+#[repr(C)]
+#[derive(Clone, Copy)]
+pub struct Record {
+    tails: [i64; 3],
+    numbers: [i32; 7],
+    publication_limit: i64,
+    end_of_stream_position: i64,
+    is_closed: bool,
+}
+
+#[repr(C)]
+#[derive(Clone, Copy)]
+pub struct Claim([i32; 4]);
+
+#[repr(C)]
+#[derive(Clone, Copy)]
+pub struct Image {
+    position: i64,
+    session_id: i32,
+    is_closed: bool,
+    is_eos: bool,
+}
+
+#[repr(C)]
+#[derive(Clone, Copy)]
+pub struct Replay {
+    image: Image,
+    count: usize,
+    ids: [i32; 16],
+    held: [usize; 16],
+}
+
+#[repr(C)]
+pub struct RecordReply {
+    next: Record,
+    code: i32,
+}
+
+#[repr(C)]
+pub struct OfferReply {
+    next: Record,
+    code: i32,
+    position: i64,
+}
+
+#[repr(C)]
+pub struct ClaimReply {
+    next: Record,
+    code: i32,
+    position: i64,
+    claim: Claim,
+}
+
+#[repr(C)]
+pub struct PollReply {
+    next: Image,
+    code: i32,
+    fragments: usize,
+    entries: usize,
+}
+
+#[repr(C)]
+pub struct NextReply {
+    next: Replay,
+    code: i32,
+    place: i32,
+    start: usize,
+    length: usize,
+}
+
+#[repr(C)]
+pub struct CountReply {
+    code: i32,
+    messages: usize,
+    bytes: usize,
+}
+
+#[repr(C)]
+pub struct ScanReply {
+    code: i32,
+    offset: usize,
+}
+
+#[repr(C)]
+pub struct GapReply {
+    code: i32,
+    is_gap: bool,
+    term_id: i32,
+    offset: usize,
+    length: usize,
+}
+
+#[repr(C)]
+pub struct AvailabilityReply {
+    code: i32,
+    outcome: i64,
+}
+
+extern "C" {
+    fn logbuffer_open(log: *mut u8, n: usize, term: i32, mtu: i32, initial: i32, session: i32, stream: i32) -> RecordReply;
+    fn logbuffer_set_publication_limit(rec: Record, limit: i64) -> RecordReply;
+    fn logbuffer_offer(rec: Record, log: *mut u8, n: usize, message: *const u8, m: usize, reserved: i64) -> OfferReply;
+    fn logbuffer_try_claim(rec: Record, log: *mut u8, n: usize, length: i32) -> ClaimReply;
+    fn logbuffer_commit(rec: Record, log: *mut u8, n: usize, claim: Claim) -> i32;
+    fn logbuffer_image_new(position: i64, session: i32) -> Image;
+    fn logbuffer_image_poll(image: Image, rec: Record, log: *const u8, n: usize, entries: *mut i32, e: usize, limit: i32) -> PollReply;
+    fn logbuffer_replay_new(session: i32) -> Replay;
+    fn logbuffer_replay_next(replay: Replay, rec: Record, log: *const u8, n: usize, buffer: *mut u8, b: usize) -> NextReply;
+    fn logbuffer_replay_count(rec: Record, log: *const u8, n: usize, buffer: *mut u8, b: usize, session: i32) -> CountReply;
+    fn logbuffer_scan(rec: Record, log: *const u8, n: usize, partition: i32, offset: i32, limit: i32) -> ScanReply;
+    fn logbuffer_scan_for_gap(rec: Record, log: *const u8, n: usize, partition: i32, id: i32, offset: i32, high: i32) -> GapReply;
+    fn logbuffer_scan_for_availability(rec: Record, log: *const u8, n: usize, partition: i32, offset: i32, most: i32) -> AvailabilityReply;
+}
+
+/// A log and its record.
+pub struct Log {
+    pub bytes: Vec<u8>,
+    record: Record,
+}
+
+impl Log {
+    pub fn open(term: i32, mtu: i32) -> Self {
+        let mut bytes = vec![0; 3 * term as usize];
+        let reply = unsafe { logbuffer_open(bytes.as_mut_ptr(), bytes.len(), term, mtu, 7, 11, 22) };
+        let reply = unsafe { logbuffer_set_publication_limit(reply.next, 1 << 62) };
+        assert_eq!(reply.code, 0);
+        Log { bytes, record: reply.next }
+    }
+
+    /// Opens the same memory again.
+    pub fn reopen(&mut self, term: i32, mtu: i32) -> i32 {
+        unsafe { logbuffer_open(self.bytes.as_mut_ptr(), self.bytes.len(), term, mtu, 7, 11, 22) }.code
+    }
+
+    pub fn offer(&mut self, message: &[u8]) -> i64 {
+        let (log, n) = (self.bytes.as_mut_ptr(), self.bytes.len());
+        let reply = unsafe { logbuffer_offer(self.record, log, n, message.as_ptr(), message.len(), 0) };
+        self.record = reply.next;
+        reply.position - reply.code as i64
+    }
+
+    pub fn claim_and_commit(&mut self, length: i32) -> i32 {
+        let (log, n) = (self.bytes.as_mut_ptr(), self.bytes.len());
+        let reply = unsafe { logbuffer_try_claim(self.record, log, n, length) };
+        self.record = reply.next;
+        if reply.code == 0 {
+            return unsafe { logbuffer_commit(self.record, log, n, reply.claim) };
+        }
+        (reply.code as i64 - reply.position) as i32
+    }
+
+    /// Polls all of the log; fragments, and a sum over the entries.
+    pub fn poll_all(&self, entries: &mut [i32], limit: i32) -> (usize, i64) {
+        let (mut image, mut fragments, mut sum) = (unsafe { logbuffer_image_new(0, 11) }, 0, 0);
+        loop {
+            let (log, n) = (self.bytes.as_ptr(), self.bytes.len());
+            let reply = unsafe { logbuffer_image_poll(image, self.record, log, n, entries.as_mut_ptr(), entries.len(), limit) };
+            if reply.code != 0 || reply.fragments == 0 {
+                return (fragments, sum);
+            }
+            sum += entries[..2 * reply.entries].iter().map(|&x| x as i64).sum::<i64>();
+            fragments += reply.fragments;
+            image = reply.next;
+        }
+    }
+
+    /// Replays all of the log message by message: how many, and their bytes.
+    pub fn replay_all(&self, buffer: &mut [u8]) -> (usize, usize) {
+        let (mut replay, mut messages, mut bytes) = (unsafe { logbuffer_replay_new(11) }, 0, 0);
+        loop {
+            let (log, n) = (self.bytes.as_ptr(), self.bytes.len());
+            let reply = unsafe { logbuffer_replay_next(replay, self.record, log, n, buffer.as_mut_ptr(), buffer.len()) };
+            if reply.code != 0 || reply.place == 0 {
+                return (messages, bytes);
+            }
+            messages += 1;
+            bytes += reply.length;
+            std::hint::black_box(reply.start);
+            replay = reply.next;
+        }
+    }
+
+    /// The same in one call.
+    pub fn count_all(&self, buffer: &mut [u8]) -> (usize, usize) {
+        let (log, n) = (self.bytes.as_ptr(), self.bytes.len());
+        let reply = unsafe { logbuffer_replay_count(self.record, log, n, buffer.as_mut_ptr(), buffer.len(), 11) };
+        assert_eq!(reply.code, 0);
+        (reply.messages, reply.bytes)
+    }
+
+    pub fn scan(&self, limit: i32) -> usize {
+        let reply = unsafe { logbuffer_scan(self.record, self.bytes.as_ptr(), self.bytes.len(), 0, 0, limit) };
+        reply.offset + reply.code as usize
+    }
+
+    pub fn scan_for_gap(&self, high_mark: i32) -> usize {
+        let reply = unsafe { logbuffer_scan_for_gap(self.record, self.bytes.as_ptr(), self.bytes.len(), 0, 7, 0, high_mark) };
+        reply.offset + reply.length + reply.code as usize + reply.is_gap as usize + reply.term_id as usize
+    }
+
+    pub fn scan_for_availability(&self, most: i32) -> i64 {
+        let reply = unsafe { logbuffer_scan_for_availability(self.record, self.bytes.as_ptr(), self.bytes.len(), 0, 0, most) };
+        reply.outcome + reply.code as i64
+    }
+}
