@@ -7,6 +7,7 @@ use logbuffer::cast;
 // Where the parts of a vector begin, and how many numbers, fields and ranges it has.
 pub struct Vector {
     pub kind: usize,
+    pub source: usize,
     pub arguments: usize,
     pub results: usize,
     pub result_count: usize,
@@ -96,6 +97,7 @@ pub fn vector_at(input: &[u8], at: usize) -> Vector {
     let payload_length = half(input, plus(at, 4));
     Vector {
         kind: byte(input, at),
+        source: byte(input, plus(at, 8)),
         arguments: arguments,
         results: results,
         result_count: result_count,
