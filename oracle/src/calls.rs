@@ -68,6 +68,10 @@ pub enum Call {
     /// The whole log filled: 0 zeroes, 1 0xEE, any other number seeds random bytes.
     Fill { seed: u64 },
     SetImage { image: usize, value: Image },
+    /// Bookkeeping made by hand, over the buffer that is there.
+    SetAssembler { assembler: Assembler },
+    /// So many bytes of the log are lent from now on, more or fewer than three terms.
+    LendLog { length: usize },
 
     // Writing.
     Offer { message: Vec<u8>, reserved_value: i64 },
@@ -151,7 +155,7 @@ impl Answer {
 }
 
 impl Call {
-    /// The call's name, for tables.
+    /// The call's name, for tables. It writes the whole call first, so it is not for every call of a long run.
     pub fn name(&self) -> String {
         let text = format!("{self:?}");
         text.split([' ', '{']).next().unwrap_or("").to_string()
@@ -159,7 +163,8 @@ impl Call {
 
     /// Made by hand, so that neither side answers anything.
     pub fn is_by_hand(&self) -> bool {
-        matches!(self, Call::SetRecord { .. } | Call::PutBytes { .. } | Call::Fill { .. } | Call::SetImage { .. })
+        let log = matches!(self, Call::SetRecord { .. } | Call::PutBytes { .. } | Call::Fill { .. } | Call::LendLog { .. });
+        log || matches!(self, Call::SetImage { .. } | Call::SetAssembler { .. })
     }
 }
 

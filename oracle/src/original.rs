@@ -252,6 +252,8 @@ impl Original {
             Call::PutBytes { at, bytes } => self.log.terms_mut()[*at..*at + bytes.len()].copy_from_slice(bytes),
             Call::Fill { seed } => fill(self.log.terms_mut(), *seed),
             Call::SetImage { image, value } => self.set_image(*image, *value),
+            // The first is for `set_assembler`, which needs the lent buffer too; the second has no meaning here.
+            Call::SetAssembler { .. } | Call::LendLog { .. } => {}
             Call::Open { term_length, mtu_length, initial_term_id, session_id, stream_id } => {
                 self.open([*term_length, *mtu_length, *initial_term_id, *session_id, *stream_id]);
             }
