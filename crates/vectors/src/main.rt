@@ -28,17 +28,20 @@ mod writing;
 
 use crate::decode::Vector;
 use crate::record::Fields;
+use crate::report::Tally;
 use crate::run::Port;
 use crate::values::Values;
 use logbuffer::fragment_assembler::FragmentAssembler;
 use model::LogRecord;
 use replay::Replay;
 
-// The port's side, the expected record, the place in the file, and of the last vector its kind, its source and what differs (0: nothing).
+// The port's side, the expected record, the place in the file, what agreed so far; and of the last vector its kind, its source and what
+// differs (0: nothing).
 struct Course {
     port: Port,
     want: Fields,
     at: usize,
+    tally: Tally,
     kind: usize,
     source: usize,
     wrong: usize,
@@ -54,6 +57,7 @@ fn start() -> Course {
         },
         want: want,
         at: 1160,
+        tally: report::empty(),
         kind: 0,
         source: 0,
         wrong: 0,
@@ -120,11 +124,13 @@ fn make(
     let port = answered.port;
     let got = answered.values;
     let rec = port.rec;
+    let tally = from.tally;
     let wrong = judge_log(v, judge(v, input, got, rec, want), log, expected);
     Course {
         port: port,
         want: want,
         at: from.at,
+        tally: tally,
         kind: v.kind,
         source: v.source,
         wrong: wrong,
@@ -145,28 +151,50 @@ fn step(
     make(v, input, moved, log, expected, joined, replayed)
 }
 
+// The next vector, unless one has differed.
+fn turn(
+    from: Course,
+    input: &[u8],
+    log: &mut [u8],
+    expected: &mut [u8],
+    joined: &mut [u8],
+    replayed: &mut [u8],
+) -> Course {
+    if from.wrong != 0 {
+        return from;
+    }
+    let mut next = step(from, input, log, expected, joined, replayed);
+    if next.wrong == 0 {
+        let tally = report::agreed(next.tally, next.kind, next.source);
+        next.tally = tally;
+    }
+    next
+}
+
 fn replay_list(
     input: &[u8],
     log: &mut [u8],
     expected: &mut [u8],
     joined: &mut [u8],
     replayed: &mut [u8],
-) {
+) -> Course {
     let n = decode::word(input, 4);
     let mut course = start();
-    let mut tally = report::empty();
     let mut k = 0;
     while k < n {
-        course = step(course, input, log, expected, joined, replayed);
-        if course.wrong != 0 {
-            report::differs(input, k, course.kind, course.wrong);
-            return;
-        }
-        tally = report::agreed(tally, course.kind, course.source);
+        course = turn(course, input, log, expected, joined, replayed);
         k += 1;
     }
-    report::lines(input, tally);
-    report::none_differ();
+    course
+}
+
+fn tell(input: &[u8], end: Course) {
+    report::lines(input, end.tally);
+    if end.wrong == 0 {
+        report::none_differ();
+    } else {
+        report::differs(input, report::count(end.tally), end.kind, end.wrong);
+    }
 }
 
 fn with_memory(input: &[u8]) {
@@ -174,17 +202,16 @@ fn with_memory(input: &[u8]) {
     let mut expected = [0u8; 196608];
     let mut joined = [0u8; 131072];
     let mut replayed = [0u8; 131072];
-    replay_list(
-        input,
-        &mut log,
-        &mut expected,
-        &mut joined,
-        &mut replayed,
-    );
+    let end = replay_list(input, &mut log, &mut expected, &mut joined, &mut replayed);
+    tell(input, end);
+}
+
+fn with_file(file: &mut [u8]) {
+    let n = io::read_full(0, file);
+    with_memory(&file[..n]);
 }
 
 fn main() {
     let mut file = [0u8; 1572864];
-    let n = io::read_full(0, &mut file);
-    with_memory(&file[..n]);
+    with_file(&mut file);
 }

@@ -75,6 +75,12 @@ fn total(counts: [usize; 48]) -> usize {
     sum
 }
 
+// How many agreed in all.
+pub fn count(tally: Tally) -> usize {
+    let all = tally.all;
+    total(all)
+}
+
 pub fn lines(input: &[u8], tally: Tally) {
     let all = tally.all;
     let given = tally.given;
