@@ -39,6 +39,8 @@ compile() { # KIND FLAGS...: the crate and the program into target/KIND
         --cap-lints allow "$target/given/src/lib.rs" --out-dir "$out"
     rustc --edition 2021 --crate-type bin --crate-name observe "$@" -L "$out" --extern aeron_rs \
         "$here/src/observe.rs" --out-dir "$out"
+    rustc --edition 2021 --crate-type bin --crate-name vectors "$@" -L "$out" --extern aeron_rs \
+        "$here/src/vectors.rs" --out-dir "$out"
 }
 compile checked -O -C overflow-checks=on
 compile wrapping -O -C overflow-checks=off

@@ -59,7 +59,13 @@ fn poll(v: Vector, input: &[u8], rec: LogRecord, log: &[u8], entries: &mut [i32]
     polled(reply)
 }
 
-fn bounded_poll(v: Vector, input: &[u8], rec: LogRecord, log: &[u8], entries: &mut [i32]) -> Values {
+fn bounded_poll(
+    v: Vector,
+    input: &[u8],
+    rec: LogRecord,
+    log: &[u8],
+    entries: &mut [i32],
+) -> Values {
     let n = reading::slots(v, input, 4, entries.len());
     let limit = decode::int(v, input, 5);
     let bound = decode::argument(v, input, 6);
@@ -69,7 +75,13 @@ fn bounded_poll(v: Vector, input: &[u8], rec: LogRecord, log: &[u8], entries: &m
 }
 
 // The actions are the payload.
-fn controlled_poll(v: Vector, input: &[u8], rec: LogRecord, log: &[u8], entries: &mut [i32]) -> Values {
+fn controlled_poll(
+    v: Vector,
+    input: &[u8],
+    rec: LogRecord,
+    log: &[u8],
+    entries: &mut [i32],
+) -> Values {
     let n = reading::slots(v, input, 4, entries.len());
     let limit = decode::int(v, input, 5);
     let actions = decode::payload(v, input);
@@ -85,7 +97,13 @@ fn peeked(answer: Peeked) -> Values {
     }
 }
 
-fn controlled_peek(v: Vector, input: &[u8], rec: LogRecord, log: &[u8], entries: &mut [i32]) -> Values {
+fn controlled_peek(
+    v: Vector,
+    input: &[u8],
+    rec: LogRecord,
+    log: &[u8],
+    entries: &mut [i32],
+) -> Values {
     let n = reading::slots(v, input, 4, entries.len());
     let start = decode::argument(v, input, 5);
     let bound = decode::argument(v, input, 6);

@@ -31,7 +31,11 @@ fn put(to: &mut [u8], at: usize, from: &[u8]) {
 fn put_range(input: &[u8], at: usize, to: &mut [u8]) -> usize {
     let length = decode::half(input, decode::plus(at, 4));
     let from = decode::plus(at, 6);
-    put(to, decode::word(input, at), decode::part(input, from, length));
+    put(
+        to,
+        decode::word(input, at),
+        decode::part(input, from, length),
+    );
     decode::plus(from, length)
 }
 

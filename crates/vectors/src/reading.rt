@@ -53,7 +53,12 @@ fn header_fields(v: Vector, input: &[u8], rec: LogRecord, log: &[u8]) -> Values 
 fn term_read(answer: TermRead) -> Values {
     match answer {
         TermRead::Outcome(offset, n) => {
-            values::four(0, values::count(offset), values::count(n), values::UNTOUCHED)
+            values::four(
+                0,
+                values::count(offset),
+                values::count(n),
+                values::UNTOUCHED,
+            )
         }
         TermRead::Refused(e) => values::refused(e),
     }
@@ -72,14 +77,7 @@ fn read_into(v: Vector, input: &[u8], rec: LogRecord, log: &[u8], entries: &mut 
     let partition = decode::int(v, input, 0);
     let offset = decode::int(v, input, 1);
     let limit = decode::int(v, input, 3);
-    term_read(term_reader::read(
-        rec,
-        log,
-        partition,
-        offset,
-        limit,
-        &mut entries[0..n],
-    ))
+    term_read(term_reader::read(rec, log, partition, offset, limit, &mut entries[0..n]))
 }
 
 fn read(v: Vector, input: &[u8], rec: LogRecord, log: &[u8]) -> Values {
@@ -128,9 +126,7 @@ fn scan_for_gap(v: Vector, input: &[u8], rec: LogRecord, log: &[u8]) -> Values {
     let offset = decode::int(v, input, 1);
     let id = decode::int(v, input, 2);
     let high = decode::int(v, input, 3);
-    gap(term_scan::scan_for_gap(
-        rec, log, partition, id, offset, high,
-    ))
+    gap(term_scan::scan_for_gap(rec, log, partition, id, offset, high))
 }
 
 fn scan_for_availability(v: Vector, input: &[u8], rec: LogRecord, log: &[u8]) -> Values {

@@ -56,9 +56,7 @@ fn position(v: Vector, input: &[u8]) -> Values {
     let offset = low(v, input, 1);
     let bits = low(v, input, 2);
     let initial = decode::int(v, input, 3);
-    values::positioned(log_buffer_descriptor::compute_position(
-        id, offset, bits, initial,
-    ))
+    values::positioned(log_buffer_descriptor::compute_position(id, offset, bits, initial))
 }
 
 // Whole numbers of bits.
@@ -68,9 +66,7 @@ fn bits(v: Vector, input: &[u8]) -> Values {
     match kind {
         kinds::ALIGN => values::one(values::count(bit_utils::align(n))),
         kinds::IS_POWER_OF_TWO => values::one(values::truth(bit_utils::is_power_of_two(n))),
-        _ => values::one(values::count(
-            log_buffer_descriptor::position_bits_to_shift(n) as usize,
-        )),
+        _ => values::one(values::count(log_buffer_descriptor::position_bits_to_shift(n) as usize)),
     }
 }
 

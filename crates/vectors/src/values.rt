@@ -14,6 +14,7 @@ pub const UNTOUCHED: i64 = -7;
 
 // Eight numbers, then 64 entries, which begin as UNTOUCHED too.
 pub const ENTRIES: usize = 64;
+
 pub const PLACES: usize = 72;
 
 pub struct Values {

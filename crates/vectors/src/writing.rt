@@ -145,8 +145,14 @@ fn append_unfragmented(v: Vector, input: &[u8], rec: LogRecord, log: &mut [u8]) 
     let partition = decode::int(v, input, 0);
     let reserved = decode::argument(v, input, 1);
     let id = decode::int(v, input, 2);
-    let reply =
-        term_appender::append_unfragmented_message(rec, log, partition, message, reserved, id);
+    let reply = term_appender::append_unfragmented_message(
+        rec,
+        log,
+        partition,
+        message,
+        reserved,
+        id,
+    );
     let next = reply.next;
     let answer = reply.answer;
     Ran {
@@ -161,8 +167,15 @@ fn append_fragmented(v: Vector, input: &[u8], rec: LogRecord, log: &mut [u8]) ->
     let reserved = decode::argument(v, input, 1);
     let id = decode::int(v, input, 2);
     let limit = decode::int(v, input, 3);
-    let reply =
-        term_appender::append_fragmented_message(rec, log, partition, message, reserved, limit, id);
+    let reply = term_appender::append_fragmented_message(
+        rec,
+        log,
+        partition,
+        message,
+        reserved,
+        limit,
+        id,
+    );
     let next = reply.next;
     let answer = reply.answer;
     Ran {
