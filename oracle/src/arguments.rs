@@ -209,7 +209,7 @@ impl Arguments {
         match self.below(12) {
             0 => payload + self.pick(&[-1, 0, 1, 2]),
             1 => self.pick(&[-1, 0, 1, -32, i32::MIN, i32::MAX, payload]),
-            _ => (self.message_length(p) as i32).min(payload + 1),
+            _ => (self.message_length(p) as i32).min(payload),
         }
     }
 

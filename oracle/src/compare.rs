@@ -121,12 +121,24 @@ fn shortest(mut found: Difference) -> Difference {
     found
 }
 
+/// A call as text, a long message cut: the bytes seldom matter, and the seed gives them again.
+fn short(call: &Call) -> String {
+    let text = format!("{call:?}");
+    match (text.find('['), text.find(']')) {
+        (Some(from), Some(to)) if to - from > 200 => {
+            let numbers = text[from..to].matches(',').count() + 1;
+            format!("{}[{numbers} numbers{}", &text[..from], &text[to..])
+        }
+        _ => text,
+    }
+}
+
 fn report(seed: u64, index: u64, found: Difference) {
     println!("a difference: seed {seed}, list {index}, call {}", found.calls.len());
     println!("{}", found.what);
     let found = shortest(found);
     println!("\nthe shortest list found: opened with {:?}", found.start);
-    found.calls.iter().for_each(|call| println!("  {call:?}"));
+    found.calls.iter().for_each(|call| println!("  {}", short(call)));
     println!("{}", found.what);
 }
 

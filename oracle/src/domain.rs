@@ -432,7 +432,7 @@ fn peek(s: &State, position: i64, start: i64, limit_position: i64, actions: &[u8
     }
     let (partition, offset) = place(s, start);
     // The walk stays below the limit position; a frame that starts below it may end past it.
-    let end = (limit_position as i128 - start as i128 + offset as i128).min(s.term_length() as i128) as i64;
+    let end = (limit_position as i128 - start as i128 + offset as i128).clamp(-1, s.term_length() as i128) as i64;
     read(s, &Walk { partition, offset, end, fragments: actions.len() as i64, actions })
 }
 

@@ -168,15 +168,19 @@ impl List {
         Call::Offer { message: self.a.bytes(length), reserved_value: self.a.any_i64() }
     }
 
+    /// Most often a claim whose frame still shows a negative length.
     fn claim(&mut self, p: &Port) -> Claim {
-        let mut claim = match self.claims.is_empty() {
-            true => Claim { partition: 0, offset: 0, length: 32, term_id: p.record.initial_term_id },
-            false => {
-                let latest = if self.a.chance(70) { 2 } else { 8 };
-                let k = self.a.below(self.claims.len().min(latest) as u64);
-                self.claims[k as usize]
-            }
+        let is_open = |c: &&Claim| {
+            let at = c.partition as usize * p.record.term_length.max(0) as usize + c.offset as usize;
+            p.log.get().get(at..at + 4).is_some_and(|word| word == (-c.length).to_le_bytes())
         };
+        let open: Vec<Claim> = self.claims.iter().filter(is_open).copied().collect();
+        let mut claim = Claim { partition: 0, offset: 0, length: 32, term_id: p.record.initial_term_id };
+        if !open.is_empty() && self.a.chance(80) {
+            claim = self.a.pick(&open);
+        } else if !self.claims.is_empty() {
+            claim = self.a.pick(&self.claims);
+        }
         if self.kind == Kind::Damaged && self.a.chance(30) {
             let near = self.a.near();
             match self.a.below(4) {
@@ -321,13 +325,22 @@ impl List {
     }
 
     fn on_fragment(&mut self, p: &Port) -> Call {
-        let (partition, offset) = self.a.place(p);
+        let (mut partition, mut offset) = self.a.place(p);
+        for _ in 0..6 {
+            let is_inside = (0..3).contains(&partition) && (0..p.record.term_length).contains(&offset);
+            if is_inside && self.a.frame_at(p, partition, offset).is_none() {
+                (partition, offset) = self.a.boundary(p);
+            }
+        }
         Call::OnFragment { partition, offset }
     }
 
     /// Frames one after the other, as a poll would hand them on, some with session or flags changed by hand.
     fn fragments(&mut self, p: &Port) -> Call {
         let (partition, mut offset) = self.a.boundary(p);
+        if self.a.frame_at(p, partition, offset).is_none() {
+            return self.on_fragment(p);
+        }
         let first = Call::OnFragment { partition, offset };
         for _ in 0..self.a.below(12) {
             let Some((length, _)) = self.a.frame_at(p, partition, offset) else { break };
