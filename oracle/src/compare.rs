@@ -13,6 +13,7 @@ mod calls;
 mod domain;
 mod lists;
 mod original;
+mod overflows;
 mod port;
 mod world;
 
