@@ -2,7 +2,7 @@
 //!
 //!   compare [--calls N] [--seed S] [--long] [--first]
 //!
-//! N compared calls (200,000); lists are seeded from S (1); --long adds a list at 2^30; --first does not look for a shorter list.
+//! N compared calls (200,000); lists are seeded from S (1); --long adds a list at 2^30 and slices over 2^31; --first does not look for a shorter list.
 //! Prints what was compared, refused and left out, for each kind of call, and `0 differences`, or the first difference with the
 //! shortest list of calls found that shows it, and then ends with 1. Read `world.rs` next, which takes one step.
 
@@ -15,6 +15,7 @@ mod lists;
 mod original;
 mod overflows;
 mod port;
+mod slices;
 mod world;
 
 use std::collections::{BTreeMap, HashMap};
@@ -175,5 +176,14 @@ fn main() {
         index += 1;
     }
     table.print();
+    if is_long {
+        match slices::run() {
+            Ok(count) => println!("{count} calls with slices of 2147483647 and one more, as 01 says"),
+            Err(what) => {
+                println!("a difference: {what}");
+                std::process::exit(1);
+            }
+        }
+    }
     println!("{index} lists from seed {seed}, 0 differences");
 }
