@@ -92,7 +92,7 @@ fn run(mut list: List, table: &mut Table) -> Result<(), Difference> {
             Ok(told) => table.count(calls.last().expect("just pushed"), told),
             Err(what) => return Err(Difference { start, calls, what }),
         }
-        list.note(calls.last().expect("just pushed"), &world.answered);
+        list.note(calls.last().expect("just pushed"), &world.answered, &world.port);
     }
     world.whole_log().map_err(|what| Difference { start, calls, what })
 }

@@ -161,7 +161,7 @@ impl World {
                 self.original.set_assembler(&self.port.assembler, self.port.buffer.get());
             }
             // A replay may have moved before the frame that it refuses; 01 leaves that open.
-            Call::ReplayNext => {
+            Call::ReplayNext if number >= 17 => {
                 let replay = self.port.replay;
                 self.original.set_replay(replay.image, &replay.assembler, self.port.replay_buffer.get());
             }
