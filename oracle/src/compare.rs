@@ -2,7 +2,8 @@
 //!
 //!   compare [--calls N] [--seed S] [--long] [--first]
 //!
-//! N compared calls (200,000); lists are seeded from S (1); --long adds a list at 2^30 and slices over 2^31; --first does not look for a shorter list.
+//! N compared calls (200,000); lists are seeded from S (1); --long adds a list at 2^30 and slices over 2147483647; --first does not
+//! look for a shorter list.
 //! Prints what was compared, refused and left out, for each kind of call, and `0 differences`, or the first difference with the
 //! shortest list of calls found that shows it, and then ends with 1. Read `world.rs` next, which takes one step.
 

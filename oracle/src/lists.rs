@@ -82,7 +82,7 @@ const DAMAGE: [(u32, Make); 6] = [
     (6, |l, p| l.damaged_log(p)),
     (14, |l, p| l.damaged_image(p)),
     (6, |l, p| l.damaged_assembler(p)),
-    (4, |l, p| Call::Open { term_length: l.a.broken_term(p), mtu_length: l.a.mtu(), initial_term_id: l.a.initial(), session_id: 1, stream_id: 2 }),
+    (4, |l, p| l.damaged_opening(p)),
 ];
 
 impl List {
@@ -483,6 +483,12 @@ impl List {
         }
         self.queue.push_back(Call::LendLog { length: whole });
         Call::LendLog { length }
+    }
+
+    fn damaged_opening(&mut self, p: &Port) -> Call {
+        let mtu_length = if self.a.chance(70) { self.a.mtu() } else { self.a.pick(&[0, 32, 63, 65, 65_505, 65_536, i32::MIN]) };
+        let initial_term_id = if self.a.chance(80) { self.a.initial() } else { self.a.edge_i32() };
+        Call::Open { term_length: self.a.broken_term(p), mtu_length, initial_term_id, session_id: 1, stream_id: 2 }
     }
 
     fn damaged_image(&mut self, p: &Port) -> Call {
