@@ -1,16 +1,18 @@
 //! Single arguments for the lists of `lists.rs`: small numbers most often, and the edges of every range.
 
-use crate::calls::{Call, Record, IMAGES};
+use crate::calls::{Call, Image, Record, IMAGES};
 use crate::port::Port;
 
 /// A seeded source of numbers.
 pub struct Arguments {
     state: u64,
+    /// Partition and offset of the latest frames written.
+    pub recent: Vec<(i32, i32)>,
 }
 
 impl Arguments {
     pub fn new(seed: u64) -> Self {
-        Arguments { state: seed }
+        Arguments { state: seed, recent: Vec::new() }
     }
 
     /// splitmix64
@@ -120,9 +122,24 @@ impl Arguments {
         self.below(IMAGES as u64) as usize
     }
 
+    /// Most often one that stands before a frame.
+    pub fn reading_image(&mut self, p: &Port) -> usize {
+        let term = p.record.term_length.max(1) as i64;
+        let mut image = self.image();
+        for _ in 0..3 {
+            let Image { position, is_closed, .. } = p.images[image];
+            let (partition, offset) = ((position / term).rem_euclid(3) as i32, position.rem_euclid(term) as i32);
+            if !is_closed && self.frame_at(p, partition, offset).is_some() {
+                break;
+            }
+            image = self.image();
+        }
+        image
+    }
+
     /// A lent buffer: 16 parts and a rest.
     pub fn buffer(&mut self) -> usize {
-        let part = self.pick(&[0, 1, 8, 64, 100, 500, 1024, 4096, 8192, 8192, 16_384]);
+        let part = self.pick(&[0, 1, 8, 64, 100, 500, 1024, 4096, 8192, 8192, 8192, 16_384, 16_384]);
         16 * part + self.below(16) as usize
     }
 
@@ -139,6 +156,12 @@ impl Arguments {
     /// The start of a frame, or of the free bytes after the last one.
     pub fn boundary(&mut self, p: &Port) -> (i32, i32) {
         let r = &p.record;
+        if !self.recent.is_empty() && self.chance(60) {
+            let recent = std::mem::take(&mut self.recent);
+            let (partition, offset) = self.pick(&recent);
+            self.recent = recent;
+            return (partition, offset.min(r.term_length.saturating_sub(32)).max(0));
+        }
         let active = (r.active_term_count.max(0) % 3) as i32;
         let partition = if self.chance(60) { active } else { self.below(3) as i32 };
         let tail = (r.tails[partition as usize] as u32).min(r.term_length.max(0) as u32) as i32;
@@ -209,7 +232,7 @@ impl Arguments {
         match self.below(12) {
             0 => payload + self.pick(&[-1, 0, 1, 2]),
             1 => self.pick(&[-1, 0, 1, -32, i32::MIN, i32::MAX, payload]),
-            _ => (self.message_length(p) as i32).min(payload + 1),
+            _ => (self.message_length(p) as i32).min(payload),
         }
     }
 

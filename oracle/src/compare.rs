@@ -1,7 +1,9 @@
 //! The differential runs: random lists of calls on the port and on the given Rust, everything compared after every call.
 //!
-//!   compare [--calls N] [--seed S] [--long]     N compared calls (200,000); lists are seeded from S (1); --long adds a list at 2^30
+//!   compare [--calls N] [--seed S] [--long] [--first]
 //!
+//! N compared calls (200,000); lists are seeded from S (1); --long adds a list at 2^30 and slices over 2147483647; --first does not
+//! look for a shorter list.
 //! Prints what was compared, refused and left out, for each kind of call, and `0 differences`, or the first difference with the
 //! shortest list of calls found that shows it, and then ends with 1. Read `world.rs` next, which takes one step.
 
@@ -12,7 +14,9 @@ mod calls;
 mod domain;
 mod lists;
 mod original;
+mod overflows;
 mod port;
+mod slices;
 mod world;
 
 use std::collections::{BTreeMap, HashMap};
@@ -89,7 +93,7 @@ fn run(mut list: List, table: &mut Table) -> Result<(), Difference> {
             Ok(told) => table.count(calls.last().expect("just pushed"), told),
             Err(what) => return Err(Difference { start, calls, what }),
         }
-        list.note(calls.last().expect("just pushed"), &world.answered);
+        list.note(calls.last().expect("just pushed"), &world.answered, &world.port);
     }
     world.whole_log().map_err(|what| Difference { start, calls, what })
 }
@@ -121,25 +125,41 @@ fn shortest(mut found: Difference) -> Difference {
     found
 }
 
-fn report(seed: u64, index: u64, found: Difference) {
+/// A call as text, a long message cut: the bytes seldom matter, and the seed gives them again.
+fn short(call: &Call) -> String {
+    let text = format!("{call:?}");
+    match (text.find('['), text.find(']')) {
+        (Some(from), Some(to)) if to - from > 200 => {
+            let numbers = text[from..to].matches(',').count() + 1;
+            format!("{}[{numbers} numbers{}", &text[..from], &text[to..])
+        }
+        _ => text,
+    }
+}
+
+fn report(seed: u64, index: u64, found: Difference, is_first: bool) {
     println!("a difference: seed {seed}, list {index}, call {}", found.calls.len());
-    println!("{}", found.what);
+    println!("{}\n{}", found.calls.last().map(short).unwrap_or_default(), found.what);
+    if is_first {
+        return;
+    }
     let found = shortest(found);
     println!("\nthe shortest list found: opened with {:?}", found.start);
-    found.calls.iter().for_each(|call| println!("  {call:?}"));
+    found.calls.iter().for_each(|call| println!("  {}", short(call)));
     println!("{}", found.what);
 }
 
 fn main() {
     let mut arguments = std::env::args().skip(1);
-    let (mut calls, mut seed, mut is_long) = (200_000, 1, false);
+    let (mut calls, mut seed, mut is_long, mut is_first) = (200_000, 1, false, false);
     while let Some(argument) = arguments.next() {
         let mut number = || arguments.next().and_then(|text| text.parse().ok()).expect("a number after the option");
         match argument.as_str() {
             "--calls" => calls = number(),
             "--seed" => seed = number(),
             "--long" => is_long = true,
-            _ => panic!("compare [--calls N] [--seed S] [--long]"),
+            "--first" => is_first = true,
+            _ => panic!("compare [--calls N] [--seed S] [--long] [--first]"),
         }
     }
     // Panics of the Rust are caught and told; their messages would fill the screen.
@@ -151,11 +171,20 @@ fn main() {
         let list = if is_long && index == 0 { List::largest(of) } else { List::new(of, is_long) };
         if let Err(found) = run(list, &mut table) {
             table.print();
-            report(seed, index, found);
+            report(seed, index, found, is_first);
             std::process::exit(1);
         }
         index += 1;
     }
     table.print();
+    if is_long {
+        match slices::run() {
+            Ok(count) => println!("{count} calls with slices of 2147483647 and one more, as 01 says"),
+            Err(what) => {
+                println!("a difference: {what}");
+                std::process::exit(1);
+            }
+        }
+    }
     println!("{index} lists from seed {seed}, 0 differences");
 }

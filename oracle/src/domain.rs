@@ -1,8 +1,9 @@
 //! The domain of the differential runs, judged from document 01's text alone: whether a call on a state is inside it, and else the
 //! number that 01 gives. Rows 4 to 10, 13, 15 and 16 are inside, so of them only their place in the order matters here.
-//! `assemblies.rs` has the assembler's rows; `compare.rs` uses both.
+//! `assemblies.rs` has the assembler's rows, `overflows.rs` the sums that overflow; `world.rs` uses the three.
 
 use crate::assemblies;
+use crate::overflows::overflows;
 use crate::calls::{Assembler, Call, Claim, Image, Record};
 
 /// What a call is judged on.
@@ -22,6 +23,8 @@ pub enum Verdict {
     Refused(i32),
     /// Not refused, and outside: a peek without bytes, or a `bounded_poll` far below the position. Nothing is read.
     Empty,
+    /// Let through, but a sum of the Rust overflows.
+    Overflows,
     /// Stopped by an unsound frame at this index of the log, which is not the first frame met.
     Stopped(usize),
 }
@@ -432,7 +435,7 @@ fn peek(s: &State, position: i64, start: i64, limit_position: i64, actions: &[u8
     }
     let (partition, offset) = place(s, start);
     // The walk stays below the limit position; a frame that starts below it may end past it.
-    let end = (limit_position as i128 - start as i128 + offset as i128).min(s.term_length() as i128) as i64;
+    let end = (limit_position as i128 - start as i128 + offset as i128).clamp(-1, s.term_length() as i128) as i64;
     read(s, &Walk { partition, offset, end, fragments: actions.len() as i64, actions })
 }
 
@@ -446,7 +449,10 @@ fn numbers(call: &Call) -> Verdict {
 
 pub fn judge(call: &Call, s: &State) -> Verdict {
     let step = on_record(call, s).or_else(|| writing(call, s)).or_else(|| frames(call, s)).or_else(|| images(call, s));
-    step.or_else(|| assemblies::judge(call, s)).unwrap_or_else(|| numbers(call))
+    match step.or_else(|| assemblies::judge(call, s)).unwrap_or_else(|| numbers(call)) {
+        Inside | Stopped(_) if overflows(call, s) => Verdict::Overflows,
+        verdict => verdict,
+    }
 }
 
 impl State<'_> {

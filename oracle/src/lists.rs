@@ -23,12 +23,13 @@ pub struct List {
     pub a: Arguments,
     queue: VecDeque<Call>,
     claims: Vec<Claim>,
+    tails: [i64; 3],
 }
 
 type Make = fn(&mut List, &Port) -> Call;
 
 /// Each call with its weight in a list.
-const WEIGHTS: [(u32, Make); 42] = [
+const WEIGHTS: [(u32, Make); 43] = [
     (200, |l, p| l.offer(p)),
     (70, |l, p| Call::TryClaim { length: l.a.claim_length(p) }),
     (40, |l, p| Call::WriteBody { claim: l.claim(p), first: l.a.below(256) as u8 }),
@@ -49,7 +50,7 @@ const WEIGHTS: [(u32, Make); 42] = [
     (45, |l, p| l.scan(p)),
     (60, |l, p| l.scan_for_gap(p)),
     (60, |l, p| l.scan_for_availability(p)),
-    (40, |l, p| l.image_new(p)),
+    (75, |l, p| l.image_new(p)),
     (80, |l, p| l.poll(p)),
     (60, |l, p| l.bounded_poll(p)),
     (60, |l, p| l.controlled_poll(p)),
@@ -59,10 +60,11 @@ const WEIGHTS: [(u32, Make); 42] = [
     (20, |l, _| Call::IsEndOfStream { image: l.a.image() }),
     (6, |l, _| Call::ImageClose { image: l.a.image() }),
     (10, |l, _| Call::AssemblerNew { buffer: l.a.buffer() }),
-    (60, |l, p| l.on_fragment(p)),
-    (25, |l, p| l.fragments(p)),
+    (45, |l, p| l.on_fragment(p)),
+    (40, |l, p| l.fragments(p)),
     (7, |l, _| Call::ReplayNew { session_id: l.a.session(), buffer: l.a.buffer() }),
-    (50, |_, _| Call::ReplayNext),
+    (40, |_, _| Call::ReplayNext),
+    (4, |l, _| l.replay()),
     (4, |l, _| Call::ReplayCount { session_id: l.a.session(), buffer: l.a.buffer() }),
     (50, |l, _| l.a.number()),
     (25, |l, p| l.retouch(p)),
@@ -80,7 +82,7 @@ const DAMAGE: [(u32, Make); 6] = [
     (6, |l, p| l.damaged_log(p)),
     (14, |l, p| l.damaged_image(p)),
     (6, |l, p| l.damaged_assembler(p)),
-    (4, |l, p| Call::Open { term_length: l.a.broken_term(p), mtu_length: l.a.mtu(), initial_term_id: l.a.initial(), session_id: 1, stream_id: 2 }),
+    (4, |l, p| l.damaged_opening(p)),
 ];
 
 impl List {
@@ -101,7 +103,7 @@ impl List {
             session_id: a.session(),
             stream_id: a.any_i32(),
         };
-        let mut list = List { kind, start, length, a, queue: VecDeque::new(), claims: Vec::new() };
+        let mut list = List { kind, start, length, a, queue: VecDeque::new(), claims: Vec::new(), tails: [0; 3] };
         list.begin();
         list
     }
@@ -112,6 +114,10 @@ impl List {
         list.kind = Kind::Limits;
         list.start.term_length = 1 << 30;
         list.length = 400;
+        // Only here a term's eighth is over the greatest message limit.
+        for length in [16_777_216, 16_777_217] {
+            list.queue.push_back(Call::Offer { message: list.a.bytes(length), reserved_value: 5 });
+        }
         list
     }
 
@@ -129,6 +135,7 @@ impl List {
     }
 
     pub fn next(&mut self, port: &Port) -> Call {
+        self.tails = port.record.tails;
         if let Some(call) = self.queue.pop_front() {
             return call;
         }
@@ -148,8 +155,15 @@ impl List {
         make(self, port)
     }
 
-    /// Keeps the claims that the port answered, the last eight, committed ones too.
-    pub fn note(&mut self, call: &Call, values: &[i64; 10]) {
+    /// Keeps the claims that the port answered, the last eight, committed ones too, and where the last frames were written.
+    pub fn note(&mut self, call: &Call, values: &[i64; 10], port: &Port) {
+        for k in 0..3 {
+            let (old, new) = (self.tails[k], port.record.tails[k]);
+            if old != new && old >> 32 == new >> 32 && !call.is_by_hand() {
+                self.a.recent.insert(0, (k as i32, (old as u32).min(i32::MAX as u32) as i32 & !31));
+                self.a.recent.truncate(12);
+            }
+        }
         let four = match call {
             Call::TryClaim { .. } => &values[1..5],
             Call::AppendClaim { .. } => &values[2..6],
@@ -168,15 +182,19 @@ impl List {
         Call::Offer { message: self.a.bytes(length), reserved_value: self.a.any_i64() }
     }
 
+    /// Most often a claim whose frame still shows a negative length.
     fn claim(&mut self, p: &Port) -> Claim {
-        let mut claim = match self.claims.is_empty() {
-            true => Claim { partition: 0, offset: 0, length: 32, term_id: p.record.initial_term_id },
-            false => {
-                let latest = if self.a.chance(70) { 2 } else { 8 };
-                let k = self.a.below(self.claims.len().min(latest) as u64);
-                self.claims[k as usize]
-            }
+        let is_open = |c: &&Claim| {
+            let at = c.partition as usize * p.record.term_length.max(0) as usize + c.offset as usize;
+            p.log.get().get(at..at + 4).is_some_and(|word| word == (-c.length).to_le_bytes())
         };
+        let open: Vec<Claim> = self.claims.iter().filter(is_open).copied().collect();
+        let mut claim = Claim { partition: 0, offset: 0, length: 32, term_id: p.record.initial_term_id };
+        if !open.is_empty() && self.a.chance(80) {
+            claim = self.a.pick(&open);
+        } else if !self.claims.is_empty() {
+            claim = self.a.pick(&self.claims);
+        }
         if self.kind == Kind::Damaged && self.a.chance(30) {
             let near = self.a.near();
             match self.a.below(4) {
@@ -277,25 +295,25 @@ impl List {
         Call::ImageNew { image: self.a.image(), position: self.a.image_position(p), session_id: self.a.session() }
     }
 
-    fn poll(&mut self, _: &Port) -> Call {
+    fn poll(&mut self, p: &Port) -> Call {
         let fragment_limit = self.a.fragment_limit();
-        Call::Poll { image: self.a.image(), entries: self.a.entries(fragment_limit), fragment_limit }
+        Call::Poll { image: self.a.reading_image(p), entries: self.a.entries(fragment_limit), fragment_limit }
     }
 
     fn bounded_poll(&mut self, p: &Port) -> Call {
-        let (image, fragment_limit) = (self.a.image(), self.a.fragment_limit());
+        let (image, fragment_limit) = (self.a.reading_image(p), self.a.fragment_limit());
         let limit_position = self.a.limit_position(p, p.images[image].position);
         Call::BoundedPoll { image, entries: self.a.entries(fragment_limit), limit_position, fragment_limit }
     }
 
-    fn controlled_poll(&mut self, _: &Port) -> Call {
+    fn controlled_poll(&mut self, p: &Port) -> Call {
         let fragment_limit = self.a.fragment_limit();
         let actions = self.a.actions(fragment_limit);
-        Call::ControlledPoll { image: self.a.image(), entries: self.a.entries(fragment_limit), actions, fragment_limit }
+        Call::ControlledPoll { image: self.a.reading_image(p), entries: self.a.entries(fragment_limit), actions, fragment_limit }
     }
 
     fn controlled_peek(&mut self, p: &Port) -> Call {
-        let image = self.a.image();
+        let image = self.a.reading_image(p);
         let count = self.a.pick(&[0, 1, 1, 2, 3, 4, 8, 20]);
         let actions = self.a.actions(count);
         let start = self.a.new_position(p, image);
@@ -306,7 +324,7 @@ impl List {
     }
 
     fn block_poll(&mut self, p: &Port) -> Call {
-        let image = self.a.image();
+        let image = self.a.reading_image(p);
         let limit = match self.a.below(4) {
             0 => self.a.pick(&[0, -1, 1, 31, 32, 33, 64, 96, 4096, 65_536, i32::MAX, i32::MIN]),
             1 => p.record.term_length,
@@ -321,13 +339,30 @@ impl List {
     }
 
     fn on_fragment(&mut self, p: &Port) -> Call {
-        let (partition, offset) = self.a.place(p);
+        let (mut partition, mut offset) = self.a.place(p);
+        for _ in 0..6 {
+            let is_inside = (0..3).contains(&partition) && (0..p.record.term_length).contains(&offset);
+            if is_inside && self.a.frame_at(p, partition, offset).is_none() {
+                (partition, offset) = self.a.boundary(p);
+            }
+        }
         Call::OnFragment { partition, offset }
     }
 
     /// Frames one after the other, as a poll would hand them on, some with session or flags changed by hand.
     fn fragments(&mut self, p: &Port) -> Call {
-        let (partition, mut offset) = self.a.boundary(p);
+        let (mut partition, mut offset) = self.a.boundary(p);
+        // Better a frame that begins a fragmented message.
+        for _ in 0..8 {
+            let at = partition as usize * p.record.term_length.max(0) as usize + offset as usize;
+            if p.log.get().get(at + 5).is_some_and(|flags| flags & 0xc0 == 0x80) {
+                break;
+            }
+            (partition, offset) = self.a.boundary(p);
+        }
+        if self.a.frame_at(p, partition, offset).is_none() {
+            return self.on_fragment(p);
+        }
         let first = Call::OnFragment { partition, offset };
         for _ in 0..self.a.below(12) {
             let Some((length, _)) = self.a.frame_at(p, partition, offset) else { break };
@@ -342,6 +377,12 @@ impl List {
             self.queue.push_back(Call::OnFragment { partition, offset });
         }
         first
+    }
+
+    /// Message by message, most often to the end.
+    fn replay(&mut self) -> Call {
+        (0..self.a.below(40)).for_each(|_| self.queue.push_back(Call::ReplayNext));
+        Call::ReplayNew { session_id: self.a.session(), buffer: self.a.buffer() }
     }
 
     fn retouch(&mut self, p: &Port) -> Call {
@@ -442,6 +483,12 @@ impl List {
         }
         self.queue.push_back(Call::LendLog { length: whole });
         Call::LendLog { length }
+    }
+
+    fn damaged_opening(&mut self, p: &Port) -> Call {
+        let mtu_length = if self.a.chance(70) { self.a.mtu() } else { self.a.pick(&[0, 32, 63, 65, 65_505, 65_536, i32::MIN]) };
+        let initial_term_id = if self.a.chance(80) { self.a.initial() } else { self.a.edge_i32() };
+        Call::Open { term_length: self.a.broken_term(p), mtu_length, initial_term_id, session_id: 1, stream_id: 2 }
     }
 
     fn damaged_image(&mut self, p: &Port) -> Call {

@@ -362,8 +362,11 @@ impl Port {
         })
     }
 
-    /// Lends entries that end in a margin of their own.
+    /// Lends entries that end in a margin of their own. Of very many only the number counts: they are zeros, and not answered.
     fn with_entries(&mut self, entries: usize, run: impl FnOnce(*mut i32, usize) -> Answer) -> Answer {
+        if entries > 1 << 28 {
+            return run(vec![0; entries].as_mut_ptr(), entries);
+        }
         let mut lent = vec![UNWRITTEN; entries + 8];
         let mut answer = run(lent.as_mut_ptr(), entries);
         self.strayed |= lent[entries..].iter().any(|number| *number != UNWRITTEN);
