@@ -11,6 +11,7 @@
 #   given/            the crate's sources: the given files, their sums checked, and the stand-ins
 #   observe           the rows of observe.rs, overflow checks on
 #   observe-wrapping  the same without overflow checks, as a release build of the original has them
+#   vectors           writes the file of vectors of vectors.rs, overflow checks on
 #   compare           the differential runs of compare.rs, overflow checks on
 set -eu
 here=$(cd "$(dirname "$0")" && pwd)
@@ -44,14 +45,15 @@ compile() { # KIND FLAGS...: the crate and the program into target/KIND
         --cap-lints allow "$target/given/src/lib.rs" --out-dir "$out"
     rustc --edition 2021 --crate-type bin --crate-name observe "$@" -L "$out" --extern aeron_rs \
         "$here/src/observe.rs" --out-dir "$out"
-    rustc --edition 2021 --crate-type bin --crate-name vectors "$@" -L "$out" --extern aeron_rs \
-        "$here/src/vectors.rs" --out-dir "$out"
 }
 compile checked -O -C overflow-checks=on
 compile wrapping -O -C overflow-checks=off
 ln -sf checked/observe "$target/observe"
 ln -sf wrapping/observe "$target/observe-wrapping"
-echo "built: $target/observe, $target/observe-wrapping"
+rustc --edition 2021 --crate-type bin --crate-name vectors -O -C overflow-checks=on -L "$target/checked" --extern aeron_rs \
+    "$here/src/vectors.rs" --out-dir "$target/checked"
+ln -sf checked/vectors "$target/vectors"
+echo "built: $target/observe, $target/observe-wrapping, $target/vectors"
 
 [ -f "$archive" ] || { echo "no $archive: compare is not built"; exit 0; }
 archive=$(cd "$(dirname "$archive")" && pwd)/$(basename "$archive")

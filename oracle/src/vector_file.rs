@@ -102,10 +102,6 @@ impl File {
         File { vectors: Vec::new(), count: 0, fields: [0; 13], log: vec![0; LOG] }
     }
 
-    pub fn len(&self) -> usize {
-        self.vectors.len()
-    }
-
     pub fn count(&self) -> u32 {
         self.count
     }

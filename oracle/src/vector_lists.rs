@@ -5,11 +5,8 @@ use crate::calls::{Call, Claim, Image, Record, IMAGES};
 use crate::vector_file::{LOG, TERM};
 use crate::{claim_of, replay, Recorder};
 
-const LISTS: u64 = 60;
+const LISTS: u64 = 100;
 const CALLS: usize = 75;
-
-/// The file stays below this length.
-const MOST_BYTES: usize = 1_400_000;
 
 struct List<'a> {
     w: &'a mut Recorder,
@@ -74,9 +71,6 @@ pub fn run(w: &mut Recorder) {
         if seed % 3 == 0 {
             let session_id = w.record().session_id;
             replay(w, session_id);
-        }
-        if w.file_length() > MOST_BYTES {
-            break;
         }
     }
 }
