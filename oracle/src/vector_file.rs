@@ -185,7 +185,8 @@ impl Told {
 
     fn payload(&self) -> Vec<u8> {
         match &self.call {
-            Call::Offer { message, .. } | Call::AppendUnfragmented { message, .. } | Call::AppendFragmented { message, .. } => message.clone(),
+            Call::Offer { message, .. } | Call::AppendUnfragmented { message, .. } => message.clone(),
+            Call::AppendFragmented { message, .. } => message.clone(),
             Call::ControlledPoll { actions, .. } | Call::ControlledPeek { actions, .. } => actions.clone(),
             Call::WriteBody { claim, first } => body_bytes(*first, (claim.length - 32).max(0) as usize),
             Call::View { .. } | Call::OnFragment { .. } | Call::ReplayNext => self.answer.bytes.clone(),

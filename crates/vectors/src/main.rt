@@ -1,10 +1,10 @@
-// A list of calls with the answers that the given Rust gave, made again on the port. oracle/src/vectors.rs writes the list, the file `stdin` here;
-// so the gate compares with the Rust and needs none. Read run.rt next: the call of each kind.
+// A list of calls with the answers that the given Rust gave, made again on the port, so that the gate compares with the Rust and needs
+// none. oracle/src/vectors.rs writes the list, the file `stdin` of this crate. Read run.rt next: the call of each kind.
 //
 // The port's log and record stand beside the expected ones. A vector carries what the call must change: the fields of the record by their
-// place, and ranges of the log's bytes. They are put over the expected ones, the call is made, and then its answer, all thirteen fields of the
-// record and, after a call that can write, all 196,608 bytes of the log must be the expected ones. At the first that is not, the program says
-// which, and ends.
+// place, and ranges of the log's bytes. They are put over the expected ones, the call is made, and then its answer, all thirteen fields of
+// the record and, after a call that can write, all 196,608 bytes of the log must be the expected ones. At the first that is not, the
+// program says which, and ends.
 //
 // The file, all numbers little-endian:
 //   4 bytes "LBV1"; how many vectors, 4 bytes; 48 names of kinds, 24 bytes each: the length, then the name; then the vectors.
