@@ -1,4 +1,5 @@
-// The assembler and the replay. Each has a lent buffer of its own, which nothing else touches between its calls.
+// The assembler and the replay. Each has a buffer of its own in `rest`, behind the expected log, which nothing else touches between its
+// calls: the assembler's begins at 196,608, the replay's at 327,680.
 //
 // An answer is its number, where the message lies (0 there is none, 1 in the log, 2 in the lent buffer), its first place in the log, its
 // length, and whether its bytes are the payload.
@@ -83,23 +84,30 @@ fn on_fragment(
     }
 }
 
+fn fresh(number: i64) -> Joined {
+    Joined {
+        assembler: FragmentAssembler::new(),
+        values: values::one(number),
+    }
+}
+
 pub fn assemble(
     v: Vector,
     input: &[u8],
     assembler: FragmentAssembler,
     rec: LogRecord,
     log: &[u8],
-    buffer: &mut [u8],
+    rest: &mut [u8],
 ) -> Joined {
     let kind = v.kind;
     if kind == kinds::NEW_ASSEMBLER {
-        return Joined {
-            assembler: FragmentAssembler::new(),
-            values: values::one(0),
-        };
+        return fresh(0);
     }
-    let n = reading::slots(v, input, 2, buffer.len());
-    on_fragment(v, input, assembler, rec, log, &mut buffer[0..n])
+    if rest.len() < 458752 {
+        return fresh(1);
+    }
+    let n = reading::slots(v, input, 2, 131072);
+    on_fragment(v, input, assembler, rec, log, &mut rest[196608..196608 + n])
 }
 
 fn replayed(v: Vector, input: &[u8], log: &[u8], buffer: &[u8], answer: Replayed) -> Values {
@@ -145,7 +153,7 @@ fn count(v: Vector, input: &[u8], rec: LogRecord, log: &[u8], buffer: &mut [u8])
     }
 }
 
-pub fn step(
+fn advance(
     v: Vector,
     input: &[u8],
     replay: Replay,
@@ -154,15 +162,36 @@ pub fn step(
     buffer: &mut [u8],
 ) -> Stepped {
     let kind = v.kind;
-    match kind {
-        kinds::NEW_REPLAY => Stepped {
-            replay: Replay::new(decode::int(v, input, 0)),
-            values: values::one(0),
-        },
-        kinds::REPLAY_NEXT => next(v, input, replay, rec, log, buffer),
-        _ => Stepped {
-            replay: replay,
-            values: count(v, input, rec, log, buffer),
-        },
+    if kind == kinds::REPLAY_NEXT {
+        return next(v, input, replay, rec, log, buffer);
     }
+    Stepped {
+        replay: replay,
+        values: count(v, input, rec, log, buffer),
+    }
+}
+
+fn started(number: i64, session: i32) -> Stepped {
+    Stepped {
+        replay: Replay::new(session),
+        values: values::one(number),
+    }
+}
+
+pub fn step(
+    v: Vector,
+    input: &[u8],
+    replay: Replay,
+    rec: LogRecord,
+    log: &[u8],
+    rest: &mut [u8],
+) -> Stepped {
+    let kind = v.kind;
+    if kind == kinds::NEW_REPLAY {
+        return started(0, decode::int(v, input, 0));
+    }
+    if rest.len() < 458752 {
+        return started(1, 0);
+    }
+    advance(v, input, replay, rec, log, &mut rest[327680..458752])
 }

@@ -35,15 +35,14 @@ use logbuffer::fragment_assembler::FragmentAssembler;
 use model::LogRecord;
 use replay::Replay;
 
-// The port's side, the expected record, the place in the file, what agreed so far; and of the last vector its kind, its source and what
-// differs (0: nothing).
+// The port's side, the expected record, the place in the file, what agreed so far; and of the last vector its kind and what differs
+// (0: nothing).
 struct Course {
     port: Port,
     want: Fields,
     at: usize,
     tally: Tally,
     kind: usize,
-    source: usize,
     wrong: usize,
 }
 
@@ -59,17 +58,16 @@ fn start() -> Course {
         at: 1160,
         tally: report::empty(),
         kind: 0,
-        source: 0,
         wrong: 0,
     }
 }
 
 // An accepted opening zeroes the log.
-fn expect_opening(v: Vector, input: &[u8], expected: &mut [u8]) {
+fn expect_opening(v: Vector, input: &[u8], rest: &mut [u8]) {
     let kind = v.kind;
     if kind == kinds::OPEN_LOG {
         if values::result(v, input, 0) == 0 {
-            patch::zero(expected);
+            patch::zero(rest, 196608);
         }
     }
 }
@@ -82,10 +80,10 @@ fn put_by_hand(v: Vector, input: &[u8], log: &mut [u8]) {
 }
 
 // The expected log after the call; what is written by hand goes into the port's too. Answers the place behind the vector.
-fn prepare(v: Vector, input: &[u8], log: &mut [u8], expected: &mut [u8]) -> usize {
-    expect_opening(v, input, expected);
+fn prepare(v: Vector, input: &[u8], log: &mut [u8], rest: &mut [u8]) -> usize {
+    expect_opening(v, input, rest);
     put_by_hand(v, input, log);
-    patch::put_ranges(v, input, expected)
+    patch::put_ranges(v, input, rest)
 }
 
 fn judge(v: Vector, input: &[u8], got: Values, rec: LogRecord, want: Fields) -> usize {
@@ -99,90 +97,63 @@ fn judge(v: Vector, input: &[u8], got: Values, rec: LogRecord, want: Fields) -> 
 }
 
 // All of the log, after a call that can write it.
-fn judge_log(v: Vector, wrong: usize, log: &[u8], expected: &[u8]) -> usize {
+fn judge_log(v: Vector, wrong: usize, log: &[u8], rest: &[u8]) -> usize {
     if wrong != 0 {
         return wrong;
     }
     if !run::writes(v) {
         return 0;
     }
-    if check::same(log, expected) { 0 } else { 3 }
+    if check::same(log, decode::part(rest, 0, 196608)) {
+        0
+    } else {
+        3
+    }
+}
+
+fn counted(tally: Tally, v: Vector, wrong: usize) -> Tally {
+    if wrong != 0 {
+        return tally;
+    }
+    report::agreed(tally, v.kind, v.source)
 }
 
 // The call, made and judged.
-fn make(
-    v: Vector,
-    input: &[u8],
-    from: Course,
-    log: &mut [u8],
-    expected: &[u8],
-    joined: &mut [u8],
-    replayed: &mut [u8],
-) -> Course {
+fn make(v: Vector, input: &[u8], from: Course, log: &mut [u8], rest: &mut [u8]) -> Course {
     let want = record::changed(v, input, from.want);
-    let answered = run::run(v, input, from.port, want, log, joined, replayed);
+    let answered = run::run(v, input, from.port, want, log, rest);
     let port = answered.port;
     let got = answered.values;
     let rec = port.rec;
-    let tally = from.tally;
-    let wrong = judge_log(v, judge(v, input, got, rec, want), log, expected);
+    let wrong = judge_log(v, judge(v, input, got, rec, want), log, rest);
+    let tally = counted(from.tally, v, wrong);
     Course {
         port: port,
         want: want,
         at: from.at,
         tally: tally,
         kind: v.kind,
-        source: v.source,
         wrong: wrong,
     }
 }
 
-fn step(
-    from: Course,
-    input: &[u8],
-    log: &mut [u8],
-    expected: &mut [u8],
-    joined: &mut [u8],
-    replayed: &mut [u8],
-) -> Course {
-    let v = decode::vector_at(input, from.at);
-    let mut moved = from;
-    moved.at = prepare(v, input, log, expected);
-    make(v, input, moved, log, expected, joined, replayed)
-}
-
 // The next vector, unless one has differed.
-fn turn(
-    from: Course,
-    input: &[u8],
-    log: &mut [u8],
-    expected: &mut [u8],
-    joined: &mut [u8],
-    replayed: &mut [u8],
-) -> Course {
+fn step(from: Course, input: &[u8], log: &mut [u8], rest: &mut [u8]) -> Course {
     if from.wrong != 0 {
         return from;
     }
-    let mut next = step(from, input, log, expected, joined, replayed);
-    if next.wrong == 0 {
-        let tally = report::agreed(next.tally, next.kind, next.source);
-        next.tally = tally;
-    }
-    next
+    let v = decode::vector_at(input, from.at);
+    let mut moved = from;
+    moved.at = prepare(v, input, log, rest);
+    make(v, input, moved, log, rest)
 }
 
-fn replay_list(
-    input: &[u8],
-    log: &mut [u8],
-    expected: &mut [u8],
-    joined: &mut [u8],
-    replayed: &mut [u8],
-) -> Course {
+fn replay_list(input: &[u8], log: &mut [u8], rest: &mut [u8]) -> Course {
     let n = decode::word(input, 4);
     let mut course = start();
     let mut k = 0;
     while k < n {
-        course = turn(course, input, log, expected, joined, replayed);
+        course = step(course, input, log, rest);
         k += 1;
     }
     course
@@ -197,12 +168,11 @@ fn tell(input: &[u8], end: Course) {
     }
 }
 
+// The port's log, and in one piece the rest: the expected log, the assembler's buffer and the replay's.
 fn with_memory(input: &[u8]) {
     let mut log = [0u8; 196608];
-    let mut expected = [0u8; 196608];
-    let mut joined = [0u8; 131072];
-    let mut replayed = [0u8; 131072];
-    let end = replay_list(input, &mut log, &mut expected, &mut joined, &mut replayed);
+    let mut rest = [0u8; 458752];
+    let end = replay_list(input, &mut log, &mut rest);
     tell(input, end);
 }
 

@@ -51,9 +51,11 @@ pub fn put_ranges(v: Vector, input: &[u8], to: &mut [u8]) -> usize {
     at
 }
 
-pub fn zero(to: &mut [u8]) {
+// The first bytes, so many of them.
+pub fn zero(to: &mut [u8], count: usize) {
+    let n = least(count, to.len());
     let mut k = 0;
-    while k < to.len() {
+    while k < n {
         to[k] = 0;
         k += 1;
     }

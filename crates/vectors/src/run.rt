@@ -91,23 +91,16 @@ fn of_record(v: Vector, input: &[u8], port: Port) -> Answered {
     same_port(port, recorded::ask(v, rec))
 }
 
-fn of_messages(
-    v: Vector,
-    input: &[u8],
-    port: Port,
-    log: &[u8],
-    joined: &mut [u8],
-    replayed: &mut [u8],
-) -> Answered {
+fn of_messages(v: Vector, input: &[u8], port: Port, log: &[u8], rest: &mut [u8]) -> Answered {
     let rec = port.rec;
     let assembler = port.assembler;
     let replay = port.replay;
     let kind = v.kind;
     if kind <= kinds::ON_FRAGMENT {
-        let got = joining::assemble(v, input, assembler, rec, log, joined);
+        let got = joining::assemble(v, input, assembler, rec, log, rest);
         return with_assembler(port, got);
     }
-    with_replay(port, joining::step(v, input, replay, rec, log, replayed))
+    with_replay(port, joining::step(v, input, replay, rec, log, rest))
 }
 
 // The calls that write nothing into the log.
@@ -151,15 +144,14 @@ pub fn run(
     port: Port,
     want: Fields,
     log: &mut [u8],
-    joined: &mut [u8],
-    replayed: &mut [u8],
+    rest: &mut [u8],
 ) -> Answered {
     let rec = port.rec;
     if writes(v) {
         return with_record(port, writing::run(v, input, rec, log));
     }
     if puts_together(v) {
-        return of_messages(v, input, port, log, joined, replayed);
+        return of_messages(v, input, port, log, rest);
     }
     of_log(v, input, port, want, log)
 }

@@ -1,4 +1,4 @@
--- A store keeps the length.
+-- The slice has n bytes; a store keeps the length.
 use mathlib.Core.Path.{_≡_}
 use lib.ListN.{length, length-set}
 use borrow.Author.Needs.{needs}
@@ -7,10 +7,13 @@ use Rattle.vectors.proofs.patch.zero.Statement.{statement}
 use Rattle.vectors.proofs.patch.zero.Tie as tie
 
 abbrev Inv-loop : tie.InvT-loop
-Inv-loop to₀ k₀ to k = (length to ≡ length to₀) × (k ≤ length to₀)
+Inv-loop to₀ count n k₀ to k = (length to ≡ length to₀) × ((n ≤ length to₀) × (k ≤ n))
 
 abbrev μ-loop : tie.MeasureT-loop
-μ-loop to₀ k₀ to k = length to₀ - k
+μ-loop to₀ count n k₀ to k = n - k
+
+least-requires : tie.Need-least-requires Inv-loop μ-loop
+least-requires c κs = search needs
 
 loop-holds : tie.Need-loop-holds Inv-loop μ-loop
 loop-holds c = search needs
@@ -25,7 +28,7 @@ loop-less : tie.Need-loop-less Inv-loop μ-loop
 loop-less c = search needs
 
 loop-again : tie.Need-loop-again Inv-loop μ-loop
-loop-again c = search needs
+loop-again c = (search needs, (search needs, search needs))
 
 same-length : tie.Need-same-length Inv-loop μ-loop
 same-length c = search needs
@@ -39,6 +42,7 @@ zero-spec =
     (tie.spec
     Inv-loop
     μ-loop
+    least-requires
     loop-holds
     slice-write-to
     add-k
