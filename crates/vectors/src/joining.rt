@@ -3,7 +3,6 @@
 //
 // An answer is its number, where the message lies (0 there is none, 1 in the log, 2 in the lent buffer), its first place in the log, its
 // length, and whether its bytes are the payload.
-ghost use Prim.Native.Nat.{_≤_};
 use crate::decode;
 use crate::decode::Vector;
 use crate::kinds;

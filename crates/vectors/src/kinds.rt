@@ -94,5 +94,3 @@ pub const COMPUTE_POSITION: usize = 42;
 pub const SET_FIELDS: usize = 43;
 
 pub const PUT_BYTES: usize = 44;
-
-pub const KINDS: usize = 45;

@@ -1,6 +1,5 @@
-// What a call answered, as numbers in a row: those that it has, and UNTOUCHED in every place after them. A vector's results are compared with
-// the whole row, so that a number too many shows too.
-ghost use Prim.Native.Nat.{_<_};
+// What a call answered, as numbers in a row: those that it has, and UNTOUCHED in every place after them. A vector's results are compared
+// with the whole row, so that a number too many shows too.
 use crate::decode;
 use crate::decode::Vector;
 use logbuffer::cast;
@@ -12,11 +11,7 @@ use model::Positioned;
 
 pub const UNTOUCHED: i64 = -7;
 
-// Eight numbers, then 64 entries, which begin as UNTOUCHED too.
-pub const ENTRIES: usize = 64;
-
-pub const PLACES: usize = 72;
-
+// Eight numbers, then 64 entries, which begin as UNTOUCHED too. A call with more numbers and no entries goes on into their places.
 pub struct Values {
     pub row: [i64; 72],
 }
