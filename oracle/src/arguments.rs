@@ -204,7 +204,8 @@ impl Arguments {
         let partition = (r.active_term_count.max(0) % 3) as usize;
         let rest = (r.term_length as i64 - (r.tails[partition] as u32 as i64)).max(0);
         let near = self.pick(&[-1, 0, 1]);
-        let length = match self.below(16) {
+        let length = match self.below(17) {
+            16 => rest + near,
             0..=4 => self.below(130) as i64,
             5 => payload + near,
             6 => 2 * payload + near,
@@ -269,10 +270,12 @@ impl Arguments {
 
     pub fn limit(&mut self, p: &Port) -> i64 {
         let position = p.record.active_term_count as i64 * p.record.term_length as i64;
+        let tail = p.record.tails[(p.record.active_term_count.max(0) % 3) as usize] & 0xffff_ffff;
         match self.below(20) {
             0 => self.pick(&[-1, 0, 1, 1 << 62, (1 << 62) + 1, i64::MAX, i64::MIN]),
             1..=4 => position + self.below(p.record.term_length.max(1) as u64) as i64,
             5 => position,
+            6 | 7 => position + tail + self.pick(&[-1, 0, 1, 32]),
             _ => 1 << 62,
         }
     }
@@ -365,7 +368,15 @@ impl Arguments {
 
     pub fn limit_position(&mut self, p: &Port, position: i64) -> i64 {
         let far = self.pick(&[1 << 31, (1 << 31) + 1, (1 << 31) - 1, (1 << 31) + 32, 1 << 32]);
-        match self.below(16) {
+        let term = p.record.term_length.max(1) as i64;
+        let (partition, offset) = ((position / term).rem_euclid(3) as i32, position.rem_euclid(term) as i32);
+        // The end of one of the next frames.
+        let mut end = offset;
+        for _ in 0..1 + self.below(3) {
+            end += self.frame_at(p, partition, end).map_or(0, |(length, _)| length);
+        }
+        match self.below(20) {
+            16..=19 => position.saturating_add((end - offset) as i64 + self.pick(&[0, 0, -1, 1])),
             0 => self.pick(&[i64::MIN, i64::MAX, 0, -1]),
             1 => position.saturating_sub(far),
             2 => position.saturating_add(far),
@@ -460,7 +471,7 @@ impl Arguments {
         let value = match self.below(4) {
             0 => 1 << self.below(32),
             1 => (1u64 << self.below(32)).wrapping_add(self.any_u64() % 3).wrapping_sub(1) as u32,
-            2 => self.below(100_000) as u32,
+            2 => self.below(100_000) as u32 / self.pick(&[1, 1000, 100_000]),
             _ => self.any_u64() as u32,
         };
         match self.below(8) {

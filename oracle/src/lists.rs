@@ -423,7 +423,8 @@ impl List {
         let mut record = p.record;
         match self.a.below(6) {
             0 | 1 => record.is_connected = self.a.pick(&[0, 1, 1, 2, -1]),
-            2 | 3 => record.end_of_stream_position = self.a.image_position(p),
+            2 => record.end_of_stream_position = self.a.image_position(p),
+            3 => record.end_of_stream_position = self.a.pick(&p.images).position.saturating_add(self.a.pick(&[0, 0, -1, 1])),
             4 => record.end_of_stream_position = i64::MAX,
             _ => (record.session_id, record.stream_id) = (self.a.session(), self.a.any_i32()),
         }
