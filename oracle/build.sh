@@ -1,16 +1,22 @@
 #!/bin/sh
 # Builds the given Rust, unchanged, with the stand-ins of this folder.
 #
-#   build.sh [FOLDER]     FOLDER holds the given sources (src/publication.rs and so on);
-#                         default: ../shared/docs/src beside the project's root.
+#   build.sh [FOLDER [ARCHIVE]]   FOLDER holds the given sources (src/publication.rs and so on);
+#                                 default: ../shared/docs/src beside the project's root.
+#                                 ARCHIVE is the port for C; default: target/staticlib/libcapi.a of the project.
+#                                 Without it everything is built but compare.
+#   UNCHECKED=1 build.sh ..       leaves the sums out, for given files changed on purpose
 #
-# Needs only rustc (1.80 or later; the given files themselves need 1.79). Leaves in target/:
+# Needs only rustc (1.82 or later; the given files themselves need 1.79) and a linker. Leaves in target/:
 #   given/            the crate's sources: the given files, their sums checked, and the stand-ins
 #   observe           the rows of observe.rs, overflow checks on
 #   observe-wrapping  the same without overflow checks, as a release build of the original has them
+#   vectors           writes the file of vectors of vectors.rs, overflow checks on
+#   compare           the differential runs of compare.rs, overflow checks on
 set -eu
 here=$(cd "$(dirname "$0")" && pwd)
 given=${1:-$here/../../shared/docs/src}
+archive=${2:-$here/../target/staticlib/libcapi.a}
 target=$here/target
 
 [ -f "$given/src/publication.rs" ] || { echo "build.sh: no given sources in $given" >&2; exit 1; }
@@ -28,7 +34,7 @@ done
     cp "$here/stand-ins/$file" "$target/given/$file"
 done
 cp "$here/src/harness.rs" "$target/given/src/harness.rs"
-(cd "$target/given" && sha256sum --quiet --check "$here/given.sha256")
+[ -n "${UNCHECKED:-}" ] || (cd "$target/given" && sha256sum --quiet --check "$here/given.sha256")
 
 compile() { # KIND FLAGS...: the crate and the program into target/KIND
     out=$target/$1
@@ -44,4 +50,14 @@ compile checked -O -C overflow-checks=on
 compile wrapping -O -C overflow-checks=off
 ln -sf checked/observe "$target/observe"
 ln -sf wrapping/observe "$target/observe-wrapping"
-echo "built: $target/observe, $target/observe-wrapping"
+rustc --edition 2021 --crate-type bin --crate-name vectors -O -C overflow-checks=on -L "$target/checked" --extern aeron_rs \
+    "$here/src/vectors.rs" --out-dir "$target/checked"
+ln -sf checked/vectors "$target/vectors"
+echo "built: $target/observe, $target/observe-wrapping, $target/vectors"
+
+[ -f "$archive" ] || { echo "no $archive: compare is not built"; exit 0; }
+archive=$(cd "$(dirname "$archive")" && pwd)/$(basename "$archive")
+rustc --edition 2021 --crate-type bin --crate-name compare -O -C overflow-checks=on -L "$target/checked" --extern aeron_rs \
+    -C link-arg="$archive" "$here/src/compare.rs" --out-dir "$target/checked"
+ln -sf checked/compare "$target/compare"
+echo "built: $target/compare"

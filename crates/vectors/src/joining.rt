@@ -1,0 +1,196 @@
+// The assembler and the replay. Each has a buffer of its own in `rest`, behind the expected log, which nothing else touches between its
+// calls: the assembler's begins at 196,608, the replay's at 327,680.
+//
+// An answer is its number, where the message lies (0 there is none, 1 in the log, 2 in the lent buffer), its first place in the log, its
+// length, and whether its bytes are the payload.
+use crate::decode;
+use crate::decode::Vector;
+use crate::kinds;
+use crate::reading;
+use crate::values;
+use crate::values::Values;
+use logbuffer::fragment_assembler::FragmentAssembler;
+use model::Assembled;
+use model::LogRecord;
+use model::Replayed;
+use replay::Counted;
+use replay::Replay;
+
+pub struct Joined {
+    pub assembler: FragmentAssembler,
+    pub values: Values,
+}
+
+pub struct Stepped {
+    pub replay: Replay,
+    pub values: Values,
+}
+
+// The first index of a partition, in terms of 65,536 bytes.
+fn base(partition: usize) -> usize {
+    if partition > 2 {
+        return 0;
+    }
+    partition * 65536
+}
+
+fn message(place: i64, start: usize, n: usize, same: bool) -> Values {
+    values::more(
+        values::four(0, place, values::count(start), values::count(n)),
+        values::truth(same),
+        values::UNTOUCHED,
+        values::UNTOUCHED,
+        values::UNTOUCHED,
+    )
+}
+
+fn none() -> Values {
+    values::two(0, 0)
+}
+
+fn assembled(v: Vector, input: &[u8], log: &[u8], buffer: &[u8], answer: Assembled) -> Values {
+    let payload = decode::payload(v, input);
+    match answer {
+        Assembled::Nothing => none(),
+        Assembled::Fragment(at, n) => {
+            let from = decode::plus(base(decode::size(v, input, 0)), at);
+            message(1, at, n, check::same(decode::part(log, from, n), payload))
+        }
+        Assembled::Message(at, n) => {
+            message(2, 0, n, check::same(decode::part(buffer, at, n), payload))
+        }
+        Assembled::Refused(e) => values::refused(e),
+    }
+}
+
+// The third argument says how much of the buffer is lent.
+fn on_fragment(
+    v: Vector,
+    input: &[u8],
+    assembler: FragmentAssembler,
+    rec: LogRecord,
+    log: &[u8],
+    buffer: &mut [u8],
+) -> Joined {
+    let partition = decode::int(v, input, 0);
+    let offset = decode::int(v, input, 1);
+    let reply = assembler.on_fragment(rec, log, buffer, partition, offset);
+    let next = reply.next;
+    let answer = reply.answer;
+    Joined {
+        assembler: next,
+        values: assembled(v, input, log, buffer, answer),
+    }
+}
+
+fn fresh(number: i64) -> Joined {
+    Joined {
+        assembler: FragmentAssembler::new(),
+        values: values::one(number),
+    }
+}
+
+pub fn assemble(
+    v: Vector,
+    input: &[u8],
+    assembler: FragmentAssembler,
+    rec: LogRecord,
+    log: &[u8],
+    rest: &mut [u8],
+) -> Joined {
+    let kind = v.kind;
+    if kind == kinds::NEW_ASSEMBLER {
+        return fresh(0);
+    }
+    if rest.len() < 458752 {
+        return fresh(1);
+    }
+    let n = reading::slots(v, input, 2, 131072);
+    on_fragment(v, input, assembler, rec, log, &mut rest[196608..196608 + n])
+}
+
+fn replayed(v: Vector, input: &[u8], log: &[u8], buffer: &[u8], answer: Replayed) -> Values {
+    let payload = decode::payload(v, input);
+    match answer {
+        Replayed::End => none(),
+        Replayed::InLog(from, n) => {
+            message(1, from, n, check::same(decode::part(log, from, n), payload))
+        }
+        Replayed::InBuffer(from, n) => {
+            message(2, 0, n, check::same(decode::part(buffer, from, n), payload))
+        }
+        Replayed::Refused(e) => values::refused(e),
+    }
+}
+
+fn next(
+    v: Vector,
+    input: &[u8],
+    replay: Replay,
+    rec: LogRecord,
+    log: &[u8],
+    buffer: &mut [u8],
+) -> Stepped {
+    let reply = replay.next(rec, log, buffer);
+    let after = reply.next;
+    let answer = reply.answer;
+    Stepped {
+        replay: after,
+        values: replayed(v, input, log, buffer, answer),
+    }
+}
+
+fn count(v: Vector, input: &[u8], rec: LogRecord, log: &[u8], buffer: &mut [u8]) -> Values {
+    match replay::count(rec, log, buffer, decode::int(v, input, 0)) {
+        Counted::Counts(messages, bytes) => values::four(
+            0,
+            values::count(messages),
+            values::count(bytes),
+            values::UNTOUCHED,
+        ),
+        Counted::Refused(e) => values::refused(e),
+    }
+}
+
+fn advance(
+    v: Vector,
+    input: &[u8],
+    replay: Replay,
+    rec: LogRecord,
+    log: &[u8],
+    buffer: &mut [u8],
+) -> Stepped {
+    let kind = v.kind;
+    if kind == kinds::REPLAY_NEXT {
+        return next(v, input, replay, rec, log, buffer);
+    }
+    Stepped {
+        replay: replay,
+        values: count(v, input, rec, log, buffer),
+    }
+}
+
+fn started(number: i64, session: i32) -> Stepped {
+    Stepped {
+        replay: Replay::new(session),
+        values: values::one(number),
+    }
+}
+
+pub fn step(
+    v: Vector,
+    input: &[u8],
+    replay: Replay,
+    rec: LogRecord,
+    log: &[u8],
+    rest: &mut [u8],
+) -> Stepped {
+    let kind = v.kind;
+    if kind == kinds::NEW_REPLAY {
+        return started(0, decode::int(v, input, 0));
+    }
+    if rest.len() < 458752 {
+        return started(1, 0);
+    }
+    advance(v, input, replay, rec, log, &mut rest[327680..458752])
+}
