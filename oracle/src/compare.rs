@@ -31,6 +31,7 @@ use world::{Start, Told, World};
 struct Table {
     rows: HashMap<Discriminant<Call>, (String, BTreeMap<Told, u64>)>,
     compared: u64,
+    known: u64,
 }
 
 impl Table {
@@ -38,6 +39,7 @@ impl Table {
         let row = self.rows.entry(discriminant(call)).or_insert_with(|| (call.name(), BTreeMap::new()));
         *row.1.entry(told).or_insert(0) += 1;
         self.compared += matches!(told, Told::Compared(_)) as u64;
+        self.known += (told == Told::Known) as u64;
     }
 
     fn print(&self) {
@@ -187,5 +189,6 @@ fn main() {
             }
         }
     }
-    println!("{index} lists from seed {seed}, 0 differences");
+    let known = if table.known > 0 { format!(" besides the known one, met {} times", table.known) } else { String::new() };
+    println!("{index} lists from seed {seed}, 0 differences{known}");
 }
