@@ -66,20 +66,21 @@ fn on_fragment(s: &State, partition: i32, offset: i32) -> Verdict {
     }
 }
 
-/// A replay polls one fragment at a time into its assembler, up to three terms; `whole` goes on after a message.
+/// A replay polls one fragment at a time into its assembler and gives nothing from three terms on, where it still polls first (D-44);
+/// `whole` goes on after a message.
 fn replay(s: &State, image: &Image, assembler: &Assembler, buffer: usize, whole: bool) -> Verdict {
     if let Some(verdict) = s.replayable(image) {
         return verdict;
     }
     let (mut at, mut assembler) = (image.position, *assembler);
-    while at < 3 * s.term() {
-        let (partition, offset) = (at / s.term(), at % s.term());
+    loop {
+        let (partition, offset) = (at / s.term() % 3, at % s.term());
         let (length, is_padding, is_sound) = s.frame(partition, offset);
-        if length <= 0 {
-            break;
-        }
-        if !is_sound {
+        if length > 0 && !is_sound {
             return Verdict::Refused(17);
+        }
+        if length <= 0 || at >= 3 * s.term() {
+            return Verdict::Inside;
         }
         at += align(length);
         if is_padding {
@@ -92,10 +93,9 @@ fn replay(s: &State, image: &Image, assembler: &Assembler, buffer: usize, whole:
         }
         assembler = step.next;
         if !whole && (step.is_delivered || flags & 0xc0 == 0xc0) {
-            break;
+            return Verdict::Inside;
         }
     }
-    Verdict::Inside
 }
 
 pub fn judge(call: &Call, s: &State) -> Option<Verdict> {

@@ -65,7 +65,6 @@ fn cells(tolds: &BTreeMap<Told, u64>) -> [String; 5] {
             Told::Stopped => texts[1].push(n.to_string()),
             Told::Refused(number) => texts[2].push(format!("{number}: {n}")),
             Told::Empty => texts[2].push(format!("empty: {n}")),
-            Told::Known => texts[3].push(format!("known: {n}")),
             Told::Overflowed => texts[3].push(format!("overflow: {n}")),
             Told::ByHand => texts[3].push(format!("by hand: {n}")),
         }

@@ -32,8 +32,6 @@ pub enum Told {
     Refused(i32),
     /// Outside: a peek without bytes, or a `bounded_poll` far below its position; the port read nothing.
     Empty,
-    /// A difference that README.md names, told apart so that the runs go on.
-    Known,
     /// Left out: a sum of the Rust overflowed, or a number does not fit its i32 or i64.
     Overflowed,
     ByHand,
@@ -111,22 +109,10 @@ impl World {
     fn inside(&mut self, call: &Call, answer: &Answer) -> Result<Told, String> {
         match self.original.call(call) {
             Outcome::Answered(given) if given == *answer => Ok(Told::Compared(answer.code)),
-            Outcome::Answered(given) if self.is_known(call, answer, &given) => Ok(Told::Known),
             Outcome::Answered(given) => Err(format!("answers differ: port {answer:?}, Rust {given:?}")),
             Outcome::Overflowed => Err(format!("an overflow in the Rust that was not foreseen; port {answer:?}")),
             Outcome::Panicked(text) => Err(format!("the Rust panicked inside the domain: {text}; port {answer:?}")),
         }
-    }
-
-    /// A replay that has read three terms and stands before an unsound first frame of partition 0: its poll is refused 17, and so
-    /// it answers, where D-44 says that it ends there, whatever lies there. 01 and the Rust do not speak of it.
-    fn is_known(&self, call: &Call, answer: &Answer, given: &Answer) -> bool {
-        let (position, term) = (self.port.replay.image.position, self.port.record.term_length as i64);
-        let (is_past, place) = (position >= 3 * term, (position / term % 3, position % term));
-        *call == Call::ReplayNext
-            && (answer, given) == (&Answer::refusal(17), &Answer::default())
-            && is_past
-            && !self.state().frame(place.0, place.1).2
     }
 
     /// Left out; the Rust is run all the same, to see that it does overflow.
