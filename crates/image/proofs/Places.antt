@@ -16,7 +16,8 @@ use Rattle.model.specs.LogBufferDescriptor.{sound, partitionOf}
 use Rattle.model.specs.TermReader.{Walked, walkOf, framesBy, goodWalk, goodEntries}
 use Rattle.model.proofs.Sound.{sound-true, term-32}
 use Rattle.model.proofs.PlaceLaws.{part-in}
-use Rattle.model.proofs.ReaderLaws.{and-true, good-walk-by}
+use Rattle.model.proofs.ReaderLaws.{good-walk-by}
+use Rattle.model.proofs.Both.{and-true}
 
 pub record At (v : Reading) (n p : ℕ) : Type 0 where
   pub some : 0 < v .term

@@ -14,7 +14,7 @@ use Rattle.model.specs.declared.ReadVerdict.the-variants.{Read, Closed, Refuse}
 use Rattle.model.specs.Bytes.{long}
 use Rattle.model.specs.LogBufferDescriptor.{sound, greatest}
 use Rattle.model.specs.Image.{Image as State, refuseIf, goodPosition, readable, reachable, unsoundAt, pollVerdict}
-use Rattle.model.proofs.ReaderLaws.{and-true}
+use Rattle.model.proofs.Both.{and-true}
 
 -- a verdict, and where it lets the call go on, what follows it
 abbrev pub after : ReadVerdict → ReadVerdict → ReadVerdict

@@ -23,7 +23,8 @@ use Rattle.model.specs.FrameDescriptor.{align, unsoundLength, flagsAt, begins, 
 use Rattle.model.specs.LogBufferDescriptor.{reading, sound, goodPartition, goodOffset}
 use Rattle.model.specs.FragmentAssembler.{Sessions, Assembly, entered, placeOf, joining, sessionsBy, bufferBy, assembledBy, joinedAt, goodFrame, goodAssembly, assembleVerdict, assembleBy, assembleOf}
 use Rattle.model.proofs.Choice.{cond-true, cond-false, cond-case}
-use Rattle.model.proofs.ReaderLaws.{and-true, and-not, and-then}
+use Rattle.model.proofs.ReaderLaws.{and-not, and-then}
+use Rattle.model.proofs.Both.{and-true, or-false, test}
 use Rattle.model.proofs.ReadLaws.{and-and}
 use Rattle.model.proofs.PlaceLaws.{placed}
 use Rattle.logbuffer.proofs.Sessions.{Begun, More}
@@ -32,14 +33,6 @@ use Rattle.logbuffer.proofs.Sessions.{Begun, More}
 pub record Framed (log : List ℕ) (at : ℕ) : Type 0 where
   pub header : 32 ≤ u32 (drop at log)
   pub whole : at + u32 (drop at log) ≤ length log
-
-or-false : (a b : Bool) → (a || b) ≡ false → (a ≡ false) × (b ≡ false)
-or-false true b h = absurd (let x : _≡_ {A = ℕ} 0 1 = cc in omega arith)
-or-false false b h = (refl, h)
-
-test : {X : Type 0} (b : Bool) → (b ≡ true → X) → (b ≡ false → X) → X
-test true f g = f refl
-test false f g = g refl
 
 no-pass : {e : Error} → Pass ≡ Refuse e → ⊥
 no-pass h = let x : _≡_ {A = ℕ} 0 1 = cc in omega arith

@@ -16,7 +16,8 @@ use Rattle.model.specs.FrameDescriptor.{begins, ends}
 use Rattle.model.specs.declared.Joining.{Joining}
 use Rattle.model.specs.declared.Joining.the-variants.{Through, Ignore, Full, TooLong, Join, Complete}
 use Rattle.model.specs.FragmentAssembler.{Sessions, entered, placeIn, placeOf, holding, joining}
-use Rattle.model.proofs.Choice.{cond-true, cond-false, both-true, split}
+use Rattle.model.proofs.Choice.{cond-true, cond-false, split}
+use Rattle.model.proofs.Both.{both-true}
 
 -- part k of 16 lies in the buffer
 pub part-in : (k part n : ℕ) → part ≡ n / 16 → k < 16 → k * part + part ≤ n

@@ -24,6 +24,7 @@ use Rattle.model.specs.LogBufferDescriptor.{biased, readingOf, sound, So
 use Rattle.model.specs.TermAppender.{fragment, written, cut, need, claimed, course, movedBy, bytesBy, replyBy, goodMessage, goodFragments, unfragmentedCourse, fragmentedCourse, unfragmentedReply, unfragmentedBytes, fragmentedReply, fragmentedBytes, claimAppendedBy, claimAppendReply, claimAppendBytes}
 use Rattle.model.proofs.Cut.{need-one, cut-one}
 use Rattle.model.proofs.Sound.{sound-true}
+use Rattle.model.proofs.Both.{and-true}
 
 -- ---- the ladder
 
@@ -95,12 +96,8 @@ base-in k t h = let l : k * t ≤ 2 * t = mul-le-mul-right t h in omega arith
 
 -- ---- the arguments
 
-and-both : (a b : Bool) → (a && b) ≡ true → (a ≡ true) × (b ≡ true)
-and-both true b h = (refl, h)
-and-both false b h = absurd (let x : _≡_ {A = ℕ} 0 1 = cc in omega arith)
-
 pub message-true : (k m : ℕ) → goodMessage k m ≡ true → (k ≤ 2) × (m ≤ 2147483647)
-message-true k m h = let b = and-both (leb k 2) _ h in (leb-true _ _ (b .0), leb-true _ _ (b .1))
+message-true k m h = let b = and-true (leb k 2) _ h in (leb-true _ _ (b .0), leb-true _ _ (b .1))
 
 pub record Fragments (k m p : ℕ) : Type 0 where
   pub part : k ≤ 2
@@ -112,11 +109,11 @@ pub record Fragments (k m p : ℕ) : Type 0 where
 
 pub fragments-true : (k m p : ℕ) → goodFragments k m p ≡ true → Fragments k m p
 fragments-true k m p h =
-    let a = and-both (goodMessage k m) _ h in
+    let a = and-true (goodMessage k m) _ h in
     let b = message-true k m (a .0) in
-    let d = and-both (leb 1 m) _ (a .1) in
-    let e = and-both (leb 32 p) _ (d .1) in
-    let f = and-both (leb p 2147483647) _ (e .1) in
+    let d = and-true (leb 1 m) _ (a .1) in
+    let e = and-true (leb 32 p) _ (d .1) in
+    let f = and-true (leb p 2147483647) _ (e .1) in
     record { part = b .0; whole = b .1; some = leb-true _ _ (d .0); low = leb-true _ _ (e .0); high = leb-true _ _ (f .0); multiple = eqb-true _ _ (f .1) }
 
 fragments-good : (k m p : ℕ) → k ≤ 2 → m ≤ 2147483647 → 1 ≤ m → 32 ≤ p → p ≤ 2147483647 → p % 32 ≡ 0 → goodFragments k m p ≡ true

@@ -24,6 +24,7 @@ use Rattle.model.specs.Parts.{locatedBy}
 use Rattle.model.specs.BufferClaim.{claimStart, goodClaim, matches, claimCheck, bodyStart, bodyEnd, locateOf, outcomeOf, commitOf, changedBy, commitBytes, abortBytes}
 use Rattle.model.proofs.Sound.{sound-true}
 use Rattle.model.proofs.Append.{base-in}
+use Rattle.model.proofs.Both.{and-true}
 
 -- ---- the ladder, for a record that reads as v
 
@@ -58,10 +59,6 @@ module _ (r : LogRecord) (log : List ℕ) (c : Claim) (v : Reading) (ev : v ≡ 
 
 -- ---- what good arguments say
 
-and-both : (a b : Bool) → (a && b) ≡ true → (a ≡ true) × (b ≡ true)
-and-both true b h = (refl, h)
-and-both false b h = absurd (let x : _≡_ {A = ℕ} 0 1 = cc in omega arith)
-
 pub record GoodClaim (v : Reading) (c : Claim) : Type 0 where
   pub part : word (c .partition) ≤ 2
   pub multiple : word (c .offset) % 32 ≡ 0
@@ -71,10 +68,10 @@ pub record GoodClaim (v : Reading) (c : Claim) : Type 0 where
 pub good-claim-true : (v : Reading) (c : Claim) → goodClaim v c ≡ true → GoodClaim v c
 unfolding goodClaim
 good-claim-true v c h =
-    let p1 = and-both (leb (word (c .partition)) 2) _ h in
-    let p2 = and-both (eqb (word (c .offset) % 32) 0) _ (p1 .1) in
-    let p3 = and-both (leb 32 (word (c .length))) _ (p2 .1) in
-    let p4 = and-both (leb (word (c .offset) + align (word (c .length))) (v .term)) _ (p3 .1) in
+    let p1 = and-true (leb (word (c .partition)) 2) _ h in
+    let p2 = and-true (eqb (word (c .offset) % 32) 0) _ (p1 .1) in
+    let p3 = and-true (leb 32 (word (c .length))) _ (p2 .1) in
+    let p4 = and-true (leb (word (c .offset) + align (word (c .length))) (v .term)) _ (p3 .1) in
     record { part = leb-true _ _ (p1 .0); multiple = eqb-true _ _ (p2 .0); low = leb-true _ _ (p3 .0); inside = leb-true _ _ (p4 .0) }
 
 -- the frame, with its slack, lies in the log

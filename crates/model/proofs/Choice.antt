@@ -47,14 +47,6 @@ le-case P a b x y f g = split a b (λ h. subst P (sym (le-yes a b x y h)) (f h))
 pub eq-case {ℓ κ} : {X : Type ℓ} (P : X → Type κ) (a b : ℕ) (x y : X) → (a ≡ b → P x) → (¬ (a ≡ b) → P y) → P (cond (eqb a b) x y)
 eq-case P a b x y f g = same? a b (λ h. subst P (sym (eq-yes a b x y h)) (f h)) (λ h. subst P (sym (eq-no a b x y h)) (g h))
 
--- both of two tests
-pub and-true : (a b : Bool) → (a && b) ≡ true → (a ≡ true) × (b ≡ true)
-and-true true b h = (refl, h)
-and-true false b h = absurd (let x : _≡_ {A = ℕ} 0 1 = cc in omega arith)
-
-pub both-true : {a b : Bool} → a ≡ true → b ≡ true → (a && b) ≡ true
-both-true {a} {b} h k = ap (λ (t : Bool). t && b) h ∙ k
-
 -- by cases on two tests that are one
 pub cond-both {ℓ κ μ} : {X : Type ℓ} {Y : Type κ} (P : X → Y → Type μ) (a b : Bool) (x y : X) (x′ y′ : Y) → a ≡ b
     → (b ≡ true → P x x′) → (b ≡ false → P y y′) → P (cond a x y) (cond b x′ y′)

@@ -28,7 +28,8 @@ use Rattle.model.specs.BufferClaim.{claimStart, goodClaim, matches, clai
 use Rattle.model.specs.History.{Call, offer, claim, fill, commit, abort, Answer, outcome, World, Step, filled, step, Shape, shapeOf, State, open·, committed, aborted, Extent, message, claimed·, padding, sizeAll, startOf, edit, overlay, written·, turned, afterDone, tell, learn}
 use Rattle.model.specs.Demand.{EndAt}
 use Rattle.model.specs.Corollaries.{rare, UsualOutcome, Usual}
-use Rattle.model.proofs.Choice.{cond-case, and-true}
+use Rattle.model.proofs.Choice.{cond-case}
+use Rattle.model.proofs.Both.{and-true}
 use Rattle.model.proofs.Cells.{Cell, cell, stored, flen, fsize, enc, bytes, sizes, length-bytes, bytes-append, sizes-append}
 use Rattle.model.proofs.Walking.{Small, Fits, norm, u32-enc}
 use Rattle.model.proofs.OneSession.{frames, flat}

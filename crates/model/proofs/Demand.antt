@@ -26,7 +26,8 @@ use Rattle.model.specs.History.{Call, offer, claim, fill, commit, abort,
 use Rattle.model.specs.Demand as Demand
 use Rattle.model.specs.Demand.{EndAt, Ends, Replayed, GivesAll, opened, shape, history, Upheld, Demand3}
 use Rattle.model.specs.Corollaries.{Rising, Usual, AllUsual}
-use Rattle.model.proofs.Choice.{cond-true, both-true, and-true}
+use Rattle.model.proofs.Choice.{cond-true}
+use Rattle.model.proofs.Both.{both-true, and-true}
 use Rattle.model.proofs.RawTail.{raw-id, raw-offset}
 use Rattle.model.proofs.Sound.{sound-true}
 use Rattle.model.proofs.Cells.{bytes, sizes}

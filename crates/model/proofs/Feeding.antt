@@ -27,7 +27,8 @@ use Rattle.model.specs.TermReader.{numbers, laid}
 use Rattle.model.specs.FragmentAssembler.{Sessions, partLength, joining, sessionsBy, bufferBy, assembledBy, goodFrame, assembleVerdict, Assembly, joined, assembleBy, assembleOf}
 use Rattle.model.specs.Replay.{Replaying, handedOut, after, feed, feedAll}
 use Rattle.model.specs.History.{Shape, shapeOf, State, open·, committed, aborted}
-use Rattle.model.proofs.Choice.{cond-true, cond-false, both-true}
+use Rattle.model.proofs.Choice.{cond-true, cond-false}
+use Rattle.model.proofs.Both.{both-true}
 use Rattle.model.proofs.Fields.{u32-low}
 use Rattle.model.proofs.Cells.{Cell, cell, stored, typ, head, flen, fsize, solidAt, solid, enc, bytes, sizes, length-enc, flen-ge, fsize-ge, fsize-32}
 use Rattle.model.proofs.Walking.{Small, AllSmall, Clear, entsOf, u32-enc, drop-next}

@@ -9,7 +9,7 @@ use Rattle.model.specs.declared.Reading.{Reading}
 use Rattle.model.specs.LogBufferDescriptor.{sound, Sound, goodPartition, goodOffset, withinTerm}
 use Rattle.model.proofs.Sound.{sound-true, term-32}
 use Rattle.model.proofs.Append.{base-in}
-use Rattle.model.proofs.ReaderLaws.{and-true}
+use Rattle.model.proofs.Both.{and-true}
 
 pub record Placed (v : Reading) (n k at : ℕ) : Type 0 where
   pub partition : k ≤ 2

@@ -26,7 +26,8 @@ use Rattle.model.specs.LogBufferDescriptor.{reading, sound, goodPartitio
 use Rattle.model.specs.TermReader.{Walked, still, over, handed, handedBy, goodWalk, nextAction, restActions, walk, walkOf, firstUnsound, natural, goodEntries, framesBy, framesOf, framesEntries, readVerdict, readBy, readOf, readEntries, entriesBy}
 use Rattle.model.proofs.FrameLaws.{Lies, lies}
 use Rattle.model.proofs.PlaceLaws.{Placed, placed}
-use Rattle.model.proofs.ReaderLaws.{and-true, good-walk-by, frames-by}
+use Rattle.model.proofs.ReaderLaws.{good-walk-by, frames-by}
+use Rattle.model.proofs.Both.{and-true}
 
 -- ---- how far a walk goes: not past the term
 

@@ -14,10 +14,7 @@ use Rattle.model.specs.declared.Error.the-variants.{IllegalArgument, Uns
 use Rattle.model.specs.declared.Verdict.the-variants.{Pass, Refuse}
 use Rattle.model.proofs.WalkLoop.{Came, walkBy}
 use Rattle.model.specs.TermReader.{walk, firstUnsound, goodWalk, framesVerdict, framesBy, framesOf, framesEntries, entriesBy}
-
-pub and-true : (a b : Bool) → (a && b) ≡ true → (a ≡ true) × (b ≡ true)
-and-true true b h = (refl, h)
-and-true false b h = absurd (let x : _≡_ {A = ℕ} 0 1 = cc in omega arith)
+use Rattle.model.proofs.Both.{and-true}
 
 -- two tests and a third
 pub and-not : (a b c : Bool) → (a && b) ≡ false → false ≡ (a && (b && c))
@@ -29,9 +26,6 @@ pub and-then : (a b c : Bool) → (a && b) ≡ true → c ≡ (a && (b && c))
 and-then true true c h = refl
 and-then true false c h = absurd (let x : _≡_ {A = ℕ} 0 1 = cc in omega arith)
 and-then false b c h = absurd (let x : _≡_ {A = ℕ} 0 1 = cc in omega arith)
-
-pub and-both : (a b : Bool) → a ≡ true → b ≡ true → (a && b) ≡ true
-and-both a b e f = cc
 
 -- what no fact allows is false
 pub never : (b : Bool) → (b ≡ true → ⊥) → false ≡ b

@@ -34,7 +34,8 @@ use Rattle.model.specs.Replay.{Replaying, handedOut, after, feed, feedAl
 use Rattle.model.specs.History.{Shape, shapeOf, World, State, open·, committed, aborted}
 use Rattle.model.specs.Demand.{Allowed, Replayed, GivesAll}
 use Rattle.model.proofs.Sound.{term-32}
-use Rattle.model.proofs.Choice.{cond-true, cond-false, both-true, split, same?, eq-yes, eq-no}
+use Rattle.model.proofs.Choice.{cond-true, cond-false, split, same?, eq-yes, eq-no}
+use Rattle.model.proofs.Both.{both-true}
 use Rattle.model.proofs.Cells.{Cell, cell, flen, fsize, enc, bytes, sizes, length-bytes, bytes-append, sizes-append, flen-ge, fsize-ge, sizes-32}
 use Rattle.model.proofs.Walking.{Small, AllSmall, norm, Fits, Clear, seen, entsOf, Goes, goes, Stuck, moves, see-here, see-end, few}
 use Rattle.model.proofs.OneSession.{fragsOf, Asm, empty, takes-in, takes-append, takes-lost, takes-grow}

@@ -12,10 +12,7 @@ use Rattle.model.specs.declared.LogRecord.{LogRecord}
 use Rattle.model.specs.declared.Reading.{Reading}
 use Rattle.model.specs.LogBufferDescriptor.{readingOf, soundRecord, sound, Sound}
 use Rattle.model.proofs.Power.{power, shift-low}
-
-and-true : (a b : Bool) → (a && b) ≡ true → (a ≡ true) × (b ≡ true)
-and-true true b h = (refl, h)
-and-true false b h = absurd (let x : _≡_ {A = ℕ} 0 1 = cc in omega arith)
+use Rattle.model.proofs.Both.{and-true}
 
 pub sound-true : (v : Reading) (n : ℕ) → sound v n ≡ true → Sound v n
 unfolding sound soundRecord

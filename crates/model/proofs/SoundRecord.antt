@@ -18,13 +18,13 @@ pub unsound-length : (v : Reading) (n : ℕ) → soundRecord v ≡ false → fal
 unfolding sound
 unsound-length v n h = simp h
 
-and-true : (b : Bool) → (b && true) ≡ b
-and-true true = refl
-and-true false = refl
+and-yes : (b : Bool) → (b && true) ≡ b
+and-yes true = refl
+and-yes false = refl
 
 pub sound-whole : (v : Reading) → sound v (3 * v .term) ≡ soundRecord v
 unfolding sound
-sound-whole v = ap (λ (t : Bool). soundRecord v && t) (eq-eqb (3 * v .term) (3 * v .term) refl) ∙ and-true (soundRecord v)
+sound-whole v = ap (λ (t : Bool). soundRecord v && t) (eq-eqb (3 * v .term) (3 * v .term) refl) ∙ and-yes (soundRecord v)
 
 pub sound-record-true : (v : Reading) → soundRecord v ≡ true → Sound v (3 * v .term)
 sound-record-true v h = sound-true v (3 * v .term) (sound-whole v ∙ h)

@@ -20,7 +20,7 @@ use Rattle.model.specs.Parts.{locatedBy}
 use Rattle.model.specs.LogBufferDescriptor.{reading, sound, Sound, goodPartition, withinTerm}
 use Rattle.model.specs.TermReader.{goodView, viewVerdict, viewOf}
 use Rattle.model.proofs.Sound.{sound-true}
-use Rattle.model.proofs.ReaderLaws.{and-true}
+use Rattle.model.proofs.Both.{and-true}
 use Rattle.model.proofs.PlaceLaws.{part-in}
 
 -- a view of n bytes from an offset of a partition lies in the log

@@ -16,7 +16,7 @@ use Rattle.model.specs.declared.Error.the-variants.{UnsoundFrame}
 use Rattle.model.specs.Bytes.{long}
 use Rattle.model.specs.TermReader.{natural, goodEntries}
 use Rattle.model.specs.Image.{refuseIf, walkAt, peekedBy, slotsBy}
-use Rattle.model.proofs.ReaderLaws.{and-true}
+use Rattle.model.proofs.Both.{and-true}
 use Rattle.model.proofs.Sound.{sound-true}
 use Rattle.logbuffer.proofs.Signed.{long-by}
 use Rattle.image.specs.Images.{stateOf}

@@ -4,7 +4,7 @@ use native.Mathlib.Omega.{arith}
 use mir.Facts.{toZ-ofZ}
 use lib.ListN.{length}
 use Rattle.model.specs.TermReader.{natural, goodEntries}
-use Rattle.model.proofs.ReaderLaws.{and-true}
+use Rattle.model.proofs.Both.{and-true}
 use Rattle.image.specs.Images.{stateOf, pollReplyOf}
 use Rattle.image.proofs.Polls.{as-controlled}
 use borrow.Author.Needs.{needs}

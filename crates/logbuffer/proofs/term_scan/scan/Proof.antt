@@ -12,7 +12,7 @@ use Rattle.model.specs.Bytes.{word}
 use Rattle.model.specs.LogBufferDescriptor.{sound, goodPartition, goodOffset, withinTerm}
 use Rattle.model.specs.TermReader.{natural}
 use Rattle.model.proofs.PlaceLaws.{Placed, placed}
-use Rattle.model.proofs.ReaderLaws.{and-true}
+use Rattle.model.proofs.Both.{and-true}
 use Rattle.model.proofs.ReadLaws.{and-and}
 use Rattle.model.proofs.ScanRows.{scan-argument, scan-record, scan-goes}
 use Rattle.logbuffer.proofs.Signed.{word-by}

@@ -15,7 +15,7 @@ use Rattle.model.specs.declared.Reading.{Reading}
 use Rattle.model.specs.Bytes.{word}
 use Rattle.model.specs.LogBufferDescriptor.{sound, goodPartition, goodOffset, withinTerm}
 use Rattle.model.proofs.PlaceLaws.{Placed, placed}
-use Rattle.model.proofs.ReaderLaws.{and-true}
+use Rattle.model.proofs.Both.{and-true}
 use Rattle.model.proofs.ReadLaws.{and-and}
 use Rattle.model.specs.TermScan.{gapOf}
 use Rattle.model.proofs.ScanRows.{gap-argument, gap-record, gap-goes}
