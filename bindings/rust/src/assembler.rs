@@ -35,9 +35,10 @@ impl Assembler {
         Assembler::with_part_length(log.max_message_length())
     }
 
-    /// An assembler that holds messages in fragments of at most so many bytes, for each of 16 sessions.
+    /// An assembler that holds messages in fragments of at most so many bytes, for each of 16 sessions. One of more than 134,217,727
+    /// bytes refuses every fragment with [`Error::IllegalArgument`].
     pub fn with_part_length(part_length: usize) -> Assembler {
-        Assembler { sessions: sys::assembler_new(), buffer: vec![0; 16 * part_length] }
+        Assembler { sessions: sys::assembler_new(), buffer: vec![0; part_length.saturating_mul(16)] }
     }
 
     /// Takes the next fragment of a log and answers the message that it ends, if it ends one. Refuses [`Error::AssemblyFull`] for a 17th

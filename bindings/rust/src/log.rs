@@ -72,17 +72,36 @@ impl Log {
         Ok(Log { record, bytes })
     }
 
-    /// The record and the bytes, to be kept.
+    /// The record and the bytes, to be kept for [`from_parts`](Log::from_parts).
+    ///
+    /// ```
+    /// let (record, bytes) = logbuffer::Log::builder().open()?.into_parts();
+    /// assert_eq!(bytes.len(), 3 * record.term_length as usize);
+    /// # Ok::<(), logbuffer::Error>(())
+    /// ```
     pub fn into_parts(self) -> (Record, Vec<u8>) {
         (self.record, self.bytes)
     }
 
     /// The record as the last call left it.
+    ///
+    /// ```
+    /// let log = logbuffer::Log::open(65_536, 96, 7, 11, 22)?;
+    /// assert_eq!(log.record().tails, [7 << 32, 5 << 32, 6 << 32]);
+    /// # Ok::<(), logbuffer::Error>(())
+    /// ```
     pub fn record(&self) -> &Record {
         &self.record
     }
 
     /// The three terms, one after another.
+    ///
+    /// ```
+    /// let mut log = logbuffer::Log::builder().open()?;
+    /// log.offer(b"coin")?;
+    /// assert_eq!(&log.as_bytes()[32..36], b"coin"); // behind the header
+    /// # Ok::<(), logbuffer::Error>(())
+    /// ```
     pub fn as_bytes(&self) -> &[u8] {
         &self.bytes
     }
@@ -124,6 +143,11 @@ impl Log {
     }
 
     /// Whether the publication is closed.
+    ///
+    /// ```
+    /// assert!(!logbuffer::Log::builder().open()?.is_closed());
+    /// # Ok::<(), logbuffer::Error>(())
+    /// ```
     pub fn is_closed(&self) -> bool {
         self.record.is_closed
     }
@@ -275,6 +299,14 @@ impl Log {
 
     /// A reader at a position that an offer, claim or reader answered, or at 0. Any position is taken; its calls refuse one that is out
     /// of range.
+    ///
+    /// ```
+    /// let mut log = logbuffer::Log::builder().open()?;
+    /// let after = log.offer(b"coin")?;
+    /// log.offer(b"pin")?;
+    /// assert_eq!(log.poller(after).poll(&log, 10, |fragment| assert_eq!(fragment.body, b"pin"))?, 1);
+    /// # Ok::<(), logbuffer::Error>(())
+    /// ```
     pub fn poller(&self, position: i64) -> Poller {
         Poller::new(position, self.record.session_id)
     }

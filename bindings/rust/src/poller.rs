@@ -8,6 +8,17 @@ use crate::{Error, Log};
 
 /// A frame's body that a reader came by, and its header. A message longer than the payload limit comes in several:
 /// [`Assembler`](crate::Assembler) puts them together.
+///
+/// ```
+/// let mut log = logbuffer::Log::builder().session_id(11).open()?;
+/// log.offer_with_reserved_value(b"coin", 1_926)?;
+/// let mut poller = log.poller(0);
+/// let fragment = poller.fragments(&log).next().unwrap()?;
+/// assert_eq!((fragment.position, fragment.body), (64, &b"coin"[..]));
+/// assert_eq!((fragment.header.session_id, fragment.header.reserved_value), (11, 1_926));
+/// assert!(fragment.is_begin() && fragment.is_end());
+/// # Ok::<(), logbuffer::Error>(())
+/// ```
 #[derive(Clone, Copy, Debug, PartialEq, Eq)]
 #[non_exhaustive]
 pub struct Fragment<'a> {
@@ -99,6 +110,17 @@ impl Poller {
 
     /// Reads at most `limit` fragments, never past the end of a term, moves past them, and then hands them out in order. Answers how
     /// many; 0 may also mean that padding was passed, and then the position has moved.
+    ///
+    /// ```
+    /// let mut log = logbuffer::Log::builder().open()?;
+    /// log.offer(b"coin")?;
+    /// log.offer(b"pin")?;
+    /// let mut poller = log.poller(0);
+    /// assert_eq!(poller.poll(&log, 1, |fragment| assert_eq!(fragment.body, b"coin"))?, 1);
+    /// assert_eq!(poller.poll(&log, 1, |fragment| assert_eq!(fragment.body, b"pin"))?, 1);
+    /// assert_eq!(poller.poll(&log, 1, |_| ())?, 0);
+    /// # Ok::<(), logbuffer::Error>(())
+    /// ```
     pub fn poll<'a>(&mut self, log: &'a Log, limit: usize, handler: impl FnMut(Fragment<'a>)) -> Result<usize, Error> {
         self.bounded_poll(log, i64::MAX, limit, handler)
     }
@@ -247,6 +269,17 @@ impl Poller {
     }
 
     /// Whether the position is at or past the record's end-of-stream position.
+    ///
+    /// ```
+    /// use logbuffer::Log;
+    ///
+    /// let (mut record, bytes) = Log::builder().open()?.into_parts();
+    /// record.end_of_stream_position = 64;
+    /// let log = Log::from_parts(record, bytes)?;
+    /// assert!(!log.poller(32).is_end_of_stream(&log)?);
+    /// assert!(log.poller(64).is_end_of_stream(&log)?);
+    /// # Ok::<(), logbuffer::Error>(())
+    /// ```
     pub fn is_end_of_stream(&self, log: &Log) -> Result<bool, Error> {
         let reply = sys::image_is_end_of_stream(self.image, log.record, &log.bytes);
         Error::check(reply.code).map(|()| reply.is_eos)

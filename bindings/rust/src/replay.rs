@@ -82,6 +82,13 @@ impl std::iter::FusedIterator for Replay<'_> {}
 
 impl Log {
     /// The log's messages from the start. [`Replay`] says how far they go.
+    ///
+    /// ```
+    /// let mut log = logbuffer::Log::builder().open()?;
+    /// log.offer(b"coin")?;
+    /// assert_eq!(log.replay().collect::<Vec<_>>(), [Ok(b"coin".to_vec())]);
+    /// # Ok::<(), logbuffer::Error>(())
+    /// ```
     pub fn replay(&self) -> Replay<'_> {
         let replay = sys::replay_new(self.record.session_id);
         Replay { log: self, replay, buffer: self.assembly_buffer(), is_ended: false }
@@ -104,12 +111,22 @@ impl Log {
     }
 
     /// The longest body of one frame: mtu - 32.
+    ///
+    /// ```
+    /// assert_eq!(logbuffer::Log::builder().mtu_length(96).open()?.max_payload_length(), 64);
+    /// # Ok::<(), logbuffer::Error>(())
+    /// ```
     pub fn max_payload_length(&self) -> usize {
         self.record.mtu_length as usize - 32
     }
 
     /// The longest message in fragments: an eighth of a term, at most 16 MiB. A message of one frame may be longer, up to
     /// [`max_payload_length`](Log::max_payload_length).
+    ///
+    /// ```
+    /// assert_eq!(logbuffer::Log::builder().term_length(65_536).open()?.max_message_length(), 8_192);
+    /// # Ok::<(), logbuffer::Error>(())
+    /// ```
     pub fn max_message_length(&self) -> usize {
         (self.record.term_length as usize / 8).min(16 << 20)
     }
