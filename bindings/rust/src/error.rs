@@ -24,11 +24,19 @@ macro_rules! refusals {
             pub const ALL: [Error; 18] = [$(Error::$name),*];
 
             /// What the refusal is given for, in one line.
+            ///
+            /// ```
+            /// assert_eq!(logbuffer::Error::BackPressured.cause(), "the publication limit is reached");
+            /// ```
             pub fn cause(self) -> &'static str {
                 match self { $(Error::$name => $cause,)* }
             }
 
             /// What the call has left, if anything, and what to do next, in one line.
+            ///
+            /// ```
+            /// assert_eq!(logbuffer::Error::NewPositionNotAligned.remedy(), "set the position of a frame");
+            /// ```
             pub fn remedy(self) -> &'static str {
                 match self { $(Error::$name => $remedy,)* }
             }

@@ -343,9 +343,9 @@ impl Log {
         sys::position(Record { is_closed: false, ..self.record }).position
     }
 
-    /// As many frames as a term can have.
-    pub(crate) fn frames_of_a_term(&self) -> usize {
-        self.record.term_length as usize / 32
+    /// How many bytes were written after a position.
+    pub(crate) fn written_after(&self, position: i64) -> usize {
+        self.publisher_position().saturating_sub(position).max(0) as usize
     }
 }
 

@@ -20,7 +20,6 @@ use crate::{Error, Log};
 /// # Ok::<(), logbuffer::Error>(())
 /// ```
 #[derive(Clone, Copy, Debug, PartialEq, Eq)]
-#[non_exhaustive]
 pub struct Fragment<'a> {
     /// The position past the frame.
     pub position: i64,
@@ -210,7 +209,7 @@ impl Poller {
         handler: impl FnMut(Fragment<'a>) -> Action,
     ) -> Result<i64, Error> {
         let limit_position = limit_position.min(log.publisher_position());
-        let onward = vec![Action::Continue as u8; self.reserve(log, limit)];
+        let onward = vec![Action::Continue as u8; self.reserve(log, start, limit)];
         let image = self.image;
         let peek = |entries: &mut [i32], actions: &[u8]| {
             let reply = sys::image_controlled_peek(image, log.record, &log.bytes, entries, actions, start, limit_position);
@@ -236,8 +235,7 @@ impl Poller {
     /// # Ok::<(), logbuffer::Error>(())
     /// ```
     pub fn block_poll<'a>(&mut self, log: &'a Log, limit: usize) -> Result<Option<Block<'a>>, Error> {
-        let written = log.publisher_position().saturating_sub(self.image.position).max(0);
-        let limit = limit.min(i32::MAX as usize).min(written as usize) as i32;
+        let limit = limit.min(i32::MAX as usize).min(log.written_after(self.image.position)) as i32;
         let partition = log.partition_of(self.image.position);
         let reply = sys::image_block_poll(self.image, log.record, &log.bytes, limit);
         Error::check(reply.code)?;
@@ -325,14 +323,16 @@ impl Poller {
     /// A bounded poll that leaves the reader where it is: the image that it answers, and how many entries it wrote.
     fn look(&mut self, log: &Log, limit_position: i64, limit: usize) -> Result<(Image, usize), Error> {
         let limit_position = limit_position.min(log.publisher_position());
-        let limit = self.reserve(log, limit) as i32;
+        let limit = self.reserve(log, self.image.position, limit) as i32;
         let reply = sys::image_bounded_poll(self.image, log.record, &log.bytes, &mut self.entries, limit_position, limit);
         Error::check(reply.code).map(|()| (reply.next, reply.entries))
     }
 
-    /// Makes room for as many entries as a limit asks for, or as a term has frames if that is fewer: no call reads on past a term.
-    fn reserve(&mut self, log: &Log, limit: usize) -> usize {
-        let limit = limit.min(log.frames_of_a_term());
+    /// Makes room for as many entries as a limit asks for, or as frames can lie between a position and the publisher's, or in a term, if
+    /// those are fewer: no call reads more.
+    fn reserve(&mut self, log: &Log, position: i64, limit: usize) -> usize {
+        let written = log.written_after(position).min(log.record.term_length as usize);
+        let limit = limit.min(written.div_ceil(32));
         if self.entries.len() < 2 * limit {
             self.entries.resize(2 * limit, 0);
         }

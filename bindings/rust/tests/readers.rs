@@ -3,7 +3,7 @@
 mod common;
 
 use common::{log, made, raw_tail, Random, TERM};
-use logbuffer::{Action, Assembler, Error, Log};
+use logbuffer::{Action, Assembler, Availability, Error, Log};
 
 /// An offer made again where the term was full.
 fn append(log: &mut Log, message: &[u8]) -> i64 {
@@ -46,9 +46,16 @@ fn no_call_reads_what_an_older_term_left() {
     assert_eq!(poller.controlled_poll(&log, 10, |_| Action::Continue), Ok(0));
     assert_eq!(poller.controlled_peek(&log, end, i64::MAX, 10, |_| Action::Continue), Ok(end));
     assert_eq!(poller.block_poll(&log, 1_000), Ok(None));
-    log.close().unwrap();
-    assert_eq!(poller.fragments(&log).count(), 0);
     assert_eq!(poller.position(), end);
+
+    let after = log.offer(&[1; 64]).unwrap(); // old frames begin where it ends
+    log.close().unwrap();
+    assert_eq!(poller.controlled_peek(&log, end, i64::MAX, 10, |_| Action::Continue), Ok(after));
+    assert_eq!(poller.clone().controlled_poll(&log, 10, |_| Action::Continue), Ok(1));
+    assert_eq!(poller.clone().block_poll(&log, 1_000).unwrap().unwrap().bytes.len(), 96);
+    assert_eq!(poller.clone().fragments(&log).count(), 1);
+    assert_eq!(poller.poll(&log, 10, |_| ()), Ok(1));
+    assert_eq!(poller.position(), after);
 }
 
 #[test]
@@ -74,6 +81,12 @@ fn padding_is_passed() {
     assert_eq!(poller.fragments(&log).map(|fragment| fragment.unwrap().position).collect::<Vec<_>>(), [65_632]);
     let block = log.poller(65_472).block_poll(&log, 1).unwrap().unwrap();
     assert_eq!((block.term_offset, block.bytes.len(), block.session_id, block.term_id), (65_472, 64, 11, 7));
+}
+
+#[test]
+fn availability_parts_frames_and_padding() {
+    let log = made(|_, bytes| bytes[0] = 96).unwrap(); // a frame of type 0
+    assert_eq!(log.scan_for_availability(0, 0, 64), Ok(Availability { available: 32, padding: 64 }));
 }
 
 #[test]

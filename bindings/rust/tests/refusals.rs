@@ -146,6 +146,7 @@ fn exceeds_max_message_length_10() {
     let mut log = log();
     assert_eq!(log.offer(&[1; 8_193]), Err(Error::ExceedsMaxMessageLength));
     assert_eq!(log.offer(&[1; 8_192]), Ok(12_288));
+    assert_eq!(log.replay().next(), Some(Ok(vec![1; 8_192])));
 }
 
 #[test]
@@ -204,6 +205,7 @@ fn new_position_out_of_range_15_and_not_aligned_16() {
     assert_eq!(peek(32), Err(Error::NewPositionOutOfRange));
     assert_eq!(peek(72), Err(Error::NewPositionNotAligned));
     assert_eq!(poller.position(), 64);
+    assert_eq!(log.poller(0).controlled_peek(&log, 65_568, i64::MAX, 0, |_| Action::Continue), Err(Error::NewPositionOutOfRange));
 }
 
 #[test]
