@@ -68,7 +68,7 @@ impl OpenClaim {
 }
 
 impl<'a> Claim<'a> {
-    /// Refuses 14 for the claim of another publication too: its header could look the same.
+    /// Refuses 14 for the claim of another session or stream too: its header could look the same.
     pub(crate) fn new(log: &'a mut Log, open: OpenClaim) -> Result<Claim<'a>, Error> {
         if (open.session_id, open.stream_id) != (log.record.session_id, log.record.stream_id) {
             return Err(Error::ClaimMismatch);

@@ -254,7 +254,8 @@ impl Log {
     }
 
     /// Takes up a claim that was laid by with [`Claim::into_open`]. Refuses [`Error::ClaimMismatch`] if it was committed or aborted
-    /// since, or is of another log.
+    /// since, or is of a log with another session or stream. Logs that share both are told apart only where no claim of the same length
+    /// is open at the same place, so give each log a session of its own.
     ///
     /// ```
     /// let mut log = logbuffer::Log::builder().open()?;

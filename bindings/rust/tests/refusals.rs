@@ -174,7 +174,7 @@ fn claim_mismatch_14() {
     let mut other = Log::open(TERM, 96, 7, 12, 22).unwrap();
     other.set_publication_limit(1 << 40).unwrap();
     let same_place = other.try_claim(10).unwrap().into_open();
-    assert_eq!(other.commit(open.clone()), Err(Error::ClaimMismatch)); // of another log
+    assert_eq!(other.commit(open.clone()), Err(Error::ClaimMismatch)); // of another session
     assert_eq!(other.commit(same_place), Ok(64));
 
     assert_eq!(log.commit(open.clone()), Ok(64));
