@@ -1,0 +1,84 @@
+//! Two devices of an excavation sync into one log: the trench offers its finds, the tent writes its own in place. A reader follows and
+//! lets them go on, and a replay shows what came in. `cargo run --example sync`; what it prints stands in sync.txt.
+
+use logbuffer::{Assembler, Error, Log, OpenClaim, Poller};
+
+/// An offer, made again where the term was full.
+fn append(log: &mut Log, message: &[u8]) -> Result<i64, Error> {
+    match log.offer(message) {
+        Err(Error::AdminAction) => log.offer(message),
+        answer => answer,
+    }
+}
+
+/// Asks for a block of ten find numbers. No two requests are answered the same position, so the block is nobody else's.
+fn request_block(log: &mut Log, device: &str) -> Result<i64, Error> {
+    let position = append(log, format!("{device} asks for a block").as_bytes())?;
+    let first = position / 32 * 10;
+    println!("{device}: request at {position}, finds {first} to {}", first + 9);
+    Ok(first)
+}
+
+/// Writes a find in place and leaves it open: the photograph is still missing.
+fn claim_find(log: &mut Log, text: &str) -> Result<OpenClaim, Error> {
+    let mut claim = log.try_claim(text.len())?;
+    claim.copy_from_slice(text.as_bytes());
+    println!("tent: claim up to {}", claim.position());
+    Ok(claim.into_open())
+}
+
+fn show(log: &Log, title: &str) -> Result<(), Error> {
+    println!("{title}:");
+    let mut replay = log.replay();
+    while let Some(message) = replay.next_message() {
+        println!("  {}", String::from_utf8_lossy(message?));
+    }
+    Ok(())
+}
+
+/// Reads on to the end, and lets writers go two terms past it.
+fn follow(log: &mut Log, poller: &mut Poller, assembler: &mut Assembler) -> Result<usize, Error> {
+    let mut messages = 0;
+    for fragment in poller.fragments(log) {
+        messages += usize::from(assembler.on_fragment(log, &fragment?)?.is_some());
+    }
+    log.set_publication_limit(poller.position() + 2 * i64::from(log.record().term_length))?;
+    Ok(messages)
+}
+
+fn sync(log: &mut Log) -> Result<(), Error> {
+    let trench = request_block(log, "trench")?;
+    let tent = request_block(log, "tent")?;
+    append(log, format!("{trench}: coin").as_bytes())?;
+    let pin = claim_find(log, &format!("{tent}: pin"))?;
+    let slip = claim_find(log, &format!("{}: written by mistake", tent + 1))?;
+    let sherds = format!("{}: sherds of one pot, rim and base among them, and a handle that may be of another", trench + 1);
+    append(log, sherds.as_bytes())?; // longer than a frame's 64 bytes
+    show(log, "replay with two claims open")?;
+    log.abort(slip)?;
+    log.commit(pin)?;
+    show(log, "replay after commit and abort")
+}
+
+fn main() -> Result<(), Error> {
+    let mut log = Log::builder().term_length(65_536).mtu_length(96).session_id(11).stream_id(22).open()?;
+    sync(&mut log)?;
+
+    let (mut poller, mut assembler) = (log.poller(0), Assembler::new(&log));
+    let mut read = 0;
+    for n in 0..10_000 {
+        let message = format!("reading {n}");
+        if let Err(error) = append(&mut log, message.as_bytes()) {
+            assert_eq!(error, Error::BackPressured);
+            println!("trench: pressed back at {}", log.position()?);
+            read += follow(&mut log, &mut poller, &mut assembler)?;
+            append(&mut log, message.as_bytes())?;
+        }
+    }
+    read += follow(&mut log, &mut poller, &mut assembler)?;
+    println!("reader: {read} messages up to {}", poller.position());
+
+    log.close()?;
+    println!("after closing: {}", append(&mut log, b"too late").unwrap_err());
+    Ok(())
+}

@@ -1,0 +1,151 @@
+//! Claims: a frame that is written in place and then committed or aborted. Read poller.rs next.
+
+use crate::sys::{self, Record};
+use crate::{Error, Log};
+use std::ops::{Deref, DerefMut, Range};
+
+/// A claimed frame, as the bytes of its body. Made by [`Log::try_claim`].
+///
+/// Readers stop before the frame until [`commit`](Claim::commit) makes it a message or [`abort`](Claim::abort) makes it padding.
+/// **Dropping a claim does neither**: the frame stays open, and every reader stops before it for good. To let go of the log and
+/// finish later, lay the claim by with [`into_open`](Claim::into_open).
+///
+/// A body holds what lay there before, zeros in a term that was never written.
+///
+/// ```
+/// use logbuffer::Log;
+///
+/// let mut log = Log::builder().open()?;
+/// let mut claim = log.try_claim(8)?;
+/// claim[..4].copy_from_slice(b"coin");
+/// claim[4..].copy_from_slice(&1_926u32.to_le_bytes());
+/// claim.commit()?;
+///
+/// drop(log.try_claim(8)?); // stays open
+/// log.offer(b"behind it")?;
+/// assert_eq!(log.count()?.messages, 1);
+/// # Ok::<(), logbuffer::Error>(())
+/// ```
+#[derive(Debug)]
+#[must_use = "a claim that is dropped stays open, and readers stop before it"]
+pub struct Claim<'a> {
+    log: &'a mut Log,
+    body: Range<usize>,
+    open: OpenClaim,
+}
+
+/// A claim laid by, which borrows nothing. [`Log::commit`], [`Log::abort`] and [`Log::resume`] take it; a copy of it that comes second
+/// is refused [`Error::ClaimMismatch`].
+///
+/// ```
+/// let mut log = logbuffer::Log::builder().open()?;
+/// let first = log.try_claim(4)?.into_open();
+/// let second = log.try_claim(4)?.into_open();
+/// log.commit(second)?; // readers still stop before the first
+/// assert_eq!(log.count()?.messages, 0);
+/// log.commit(first)?;
+/// assert_eq!(log.count()?.messages, 2);
+/// # Ok::<(), logbuffer::Error>(())
+/// ```
+#[derive(Clone, Debug, PartialEq, Eq)]
+#[must_use = "an open claim that is dropped stays open, and readers stop before it"]
+pub struct OpenClaim {
+    claim: sys::Claim,
+    position: i64,
+    session_id: i32,
+    stream_id: i32,
+}
+
+impl OpenClaim {
+    pub(crate) fn new(claim: sys::Claim, position: i64, record: &Record) -> OpenClaim {
+        OpenClaim { claim, position, session_id: record.session_id, stream_id: record.stream_id }
+    }
+
+    /// The position after the claimed frame.
+    pub fn position(&self) -> i64 {
+        self.position
+    }
+}
+
+impl<'a> Claim<'a> {
+    /// Refuses 14 for the claim of another session or stream too: its header could look the same.
+    pub(crate) fn new(log: &'a mut Log, open: OpenClaim) -> Result<Claim<'a>, Error> {
+        if (open.session_id, open.stream_id) != (log.record.session_id, log.record.stream_id) {
+            return Err(Error::ClaimMismatch);
+        }
+        let span = sys::claim_body(log.record, &log.bytes, open.claim);
+        match span.code {
+            // Out of its range in this log, though its own log answered it: it is of another log.
+            1 => Err(Error::ClaimMismatch),
+            code => Error::check(code).map(|()| Claim { log, body: span.start..span.start + span.length, open }),
+        }
+    }
+
+    /// The position after the claimed frame.
+    ///
+    /// ```
+    /// let mut log = logbuffer::Log::builder().open()?;
+    /// let claim = log.try_claim(4)?;
+    /// assert_eq!(claim.position(), 64);
+    /// claim.abort()?;
+    /// # Ok::<(), logbuffer::Error>(())
+    /// ```
+    pub fn position(&self) -> i64 {
+        self.open.position
+    }
+
+    /// Makes the frame a message and answers the position after it. A claim that was not committed before is never refused.
+    ///
+    /// ```
+    /// let mut log = logbuffer::Log::builder().open()?;
+    /// assert_eq!(log.try_claim(4)?.commit(), Ok(64));
+    /// assert_eq!(log.replay().next(), Some(Ok(vec![0; 4])));
+    /// # Ok::<(), logbuffer::Error>(())
+    /// ```
+    pub fn commit(self) -> Result<i64, Error> {
+        Error::check(sys::commit(self.log.record, &mut self.log.bytes, self.open.claim))?;
+        Ok(self.open.position)
+    }
+
+    /// Makes the frame padding, which readers pass.
+    ///
+    /// ```
+    /// let mut log = logbuffer::Log::builder().open()?;
+    /// log.try_claim(4)?.abort()?;
+    /// assert_eq!(log.replay().next(), None);
+    /// # Ok::<(), logbuffer::Error>(())
+    /// ```
+    pub fn abort(self) -> Result<(), Error> {
+        Error::check(sys::abort(self.log.record, &mut self.log.bytes, self.open.claim))
+    }
+
+    /// Lays the claim by, with what was written so far, and lets go of the log.
+    ///
+    /// ```
+    /// let mut log = logbuffer::Log::builder().open()?;
+    /// let mut claim = log.try_claim(4)?;
+    /// claim.copy_from_slice(b"coin");
+    /// let open = claim.into_open();
+    /// log.offer(b"behind it")?;
+    /// assert_eq!(log.commit(open), Ok(64));
+    /// # Ok::<(), logbuffer::Error>(())
+    /// ```
+    pub fn into_open(self) -> OpenClaim {
+        self.open
+    }
+}
+
+/// The body.
+impl Deref for Claim<'_> {
+    type Target = [u8];
+
+    fn deref(&self) -> &[u8] {
+        &self.log.bytes[self.body.clone()]
+    }
+}
+
+impl DerefMut for Claim<'_> {
+    fn deref_mut(&mut self) -> &mut [u8] {
+        &mut self.log.bytes[self.body.clone()]
+    }
+}

@@ -1,0 +1,151 @@
+//! The 18 refusals, in the words of docs/ERRORS.md. Read log.rs next.
+
+use std::fmt;
+
+macro_rules! refusals {
+    ($($number:literal $name:ident $cause:literal $remedy:literal)*) => {
+        /// Why a call was refused. Unless the remedy says that something stays, a refused call has changed nothing.
+        ///
+        /// ```
+        /// use logbuffer::Error;
+        ///
+        /// let error = Error::from_number(5).unwrap();
+        /// assert_eq!(error, Error::PublicationClosed);
+        /// assert_eq!(error.to_string(), "the publication is closed: stop writing; reading, commits and aborts still work");
+        /// ```
+        #[derive(Clone, Copy, Debug, PartialEq, Eq, Hash, PartialOrd, Ord)]
+        #[repr(i32)]
+        pub enum Error {
+            $(#[doc = concat!("No. ", $number, ": ", $cause, ". Next: ", $remedy, ".")] $name = $number,)*
+        }
+
+        impl Error {
+            /// Every refusal, by number.
+            pub const ALL: [Error; 18] = [$(Error::$name),*];
+
+            /// What the refusal is given for, in one line.
+            ///
+            /// ```
+            /// assert_eq!(logbuffer::Error::BackPressured.cause(), "the publication limit is reached");
+            /// ```
+            pub fn cause(self) -> &'static str {
+                match self { $(Error::$name => $cause,)* }
+            }
+
+            /// What the call has left, if anything, and what to do next, in one line.
+            ///
+            /// ```
+            /// assert_eq!(logbuffer::Error::NewPositionNotAligned.remedy(), "set the position of a frame");
+            /// ```
+            pub fn remedy(self) -> &'static str {
+                match self { $(Error::$name => $remedy,)* }
+            }
+        }
+    };
+}
+
+#[rustfmt::skip]
+refusals! {
+    1 IllegalArgument
+        "an argument is out of its range"
+        "a mistake of the caller: look the range up in the call's description and mend the argument"
+    2 IllegalRecord
+        "the record or the log breaks its ranges"
+        "the record is not one that the last call answered, or the slice is not three terms long: go back to the last good record"
+    3 PositionOutOfRange
+        "the image's position is negative, over the greatest, or not a multiple of 32"
+        "make a new image at a position that a reader answered"
+    4 ExceedsMaxPayloadLength
+        "claim longer than the payload limit, mtu - 32"
+        "offer the message instead, which cuts it into fragments"
+    5 PublicationClosed
+        "the publication is closed"
+        "stop writing; reading, commits and aborts still work"
+    6 AdminAction
+        "the term was full and the log has been rotated, or count and term id differ"
+        "tail, padding and rotation stay: make the same call again; if it refuses 6 forever, the record was damaged"
+    7 MaxPositionExceeded
+        "the greatest position is reached"
+        "after a trip tail and padding stay: the stream is at its end, so open a new log with a new session"
+    8 BackPressured
+        "the publication limit is reached"
+        "wait until readers have moved on, raise the limit, make the call again"
+    9 NotConnected
+        "the publication limit is reached and nobody is connected"
+        "wait for a connection, then as for 8"
+    10 ExceedsMaxMessageLength
+        "message longer than the payload limit and than the message limit"
+        "cut the message up, or open a log with longer terms: the limit is an eighth of a term, at most 16 MiB"
+    11 TailOverflow
+        "tail offset and need together over 2147483647"
+        "too many calls went on after the term was full: rotate the log, or go back to the last good record"
+    12 LastTerm
+        "the term is full and there is no next one"
+        "tail and padding stay: the stream is at its end, so open a new log with a new session"
+    13 ActionPossiblyDelayed
+        "the tail's term id is not the one given to the appender"
+        "the tail has moved: read the term id again from the record that was answered"
+    14 ClaimMismatch
+        "the frame's header does not show this open claim"
+        "it was committed or aborted before, or is of another log: drop the claim"
+    15 NewPositionOutOfRange
+        "the new position is before the current one or past the term's end"
+        "set a position between the two"
+    16 NewPositionNotAligned
+        "the new position is not a multiple of 32"
+        "set the position of a frame"
+    17 UnsoundFrame
+        "the first frame has a length of 1 to 31 or ends past its term"
+        "the log was damaged at the reader's position: what lies before is good, go on in the next term"
+    18 AssemblyFull
+        "begin frame of a 17th session, or fragments longer together than their part of the buffer"
+        "the session stays entered, emptied: lend a buffer of 16 times the longest message, or a fresh assembler"
+}
+
+impl Error {
+    /// The refusal's number, 1 to 18.
+    ///
+    /// ```
+    /// assert_eq!(logbuffer::Error::BackPressured.number(), 8);
+    /// ```
+    pub fn number(self) -> i32 {
+        self as i32
+    }
+
+    /// The refusal of a number; none for any but 1 to 18.
+    ///
+    /// ```
+    /// use logbuffer::Error;
+    /// assert_eq!(Error::from_number(18), Some(Error::AssemblyFull));
+    /// assert_eq!(Error::from_number(0), None);
+    /// ```
+    pub fn from_number(number: i32) -> Option<Error> {
+        let index = usize::try_from(number).ok()?.checked_sub(1)?;
+        Error::ALL.get(index).copied()
+    }
+
+    /// The answer to a code of the C face, in which 0 is none.
+    pub(crate) fn check(code: i32) -> Result<(), Error> {
+        match code {
+            0 => Ok(()),
+            _ => Err(Error::from_number(code).expect("the C face answers 0 to 18")),
+        }
+    }
+}
+
+impl fmt::Display for Error {
+    fn fmt(&self, f: &mut fmt::Formatter<'_>) -> fmt::Result {
+        write!(f, "{}: {}", self.cause(), self.remedy())
+    }
+}
+
+impl std::error::Error for Error {}
+
+impl TryFrom<i32> for Error {
+    /// The number that is no refusal's.
+    type Error = i32;
+
+    fn try_from(number: i32) -> Result<Error, i32> {
+        Error::from_number(number).ok_or(number)
+    }
+}

@@ -1,0 +1,62 @@
+//! Tests that the structs of sys.rs lie in memory as a C compiler for x86-64 lays out those of include/logbuffer.h.
+
+use crate::sys::*;
+use std::mem::{offset_of, size_of};
+
+#[test]
+fn values_have_the_sizes_of_c() {
+    assert_eq!(size_of::<Record>(), 80);
+    assert_eq!(size_of::<Claim>(), 16);
+    assert_eq!(size_of::<Header>(), 40);
+    assert_eq!(size_of::<Image>(), 16);
+    assert_eq!(size_of::<Assembler>(), 200);
+    assert_eq!(size_of::<Replay>(), 216);
+}
+
+#[test]
+fn fields_of_values_have_the_offsets_of_c() {
+    assert_eq!(offset_of!(Record, active_term_count), 24);
+    assert_eq!(offset_of!(Record, is_connected), 48);
+    assert_eq!(offset_of!(Record, publication_limit), 56);
+    assert_eq!(offset_of!(Record, end_of_stream_position), 64);
+    assert_eq!(offset_of!(Record, is_closed), 72);
+    assert_eq!([offset_of!(Header, flags), offset_of!(Header, frame_type), offset_of!(Header, term_offset)], [5, 6, 8]);
+    assert_eq!([offset_of!(Header, reserved_value), offset_of!(Header, position)], [24, 32]);
+    assert_eq!([offset_of!(Image, session_id), offset_of!(Image, is_closed), offset_of!(Image, is_eos)], [8, 12, 13]);
+    assert_eq!([offset_of!(Assembler, ids), offset_of!(Assembler, held), offset_of!(Replay, assembler)], [8, 72, 16]);
+}
+
+#[test]
+fn replies_have_the_sizes_of_c() {
+    assert_eq!(size_of::<RecordReply>(), 88);
+    assert_eq!(size_of::<PositionReply>(), 16);
+    assert_eq!(size_of::<OfferReply>(), 96);
+    assert_eq!(size_of::<ClaimReply>(), 112);
+    assert_eq!(size_of::<SpanReply>(), 24);
+    assert_eq!(size_of::<AppendReply>(), 96);
+    assert_eq!(size_of::<AppendClaimReply>(), 112);
+    assert_eq!(size_of::<HeaderReply>(), 48);
+    assert_eq!(size_of::<ReadReply>(), 24);
+    assert_eq!(size_of::<ScanReply>(), 16);
+    assert_eq!(size_of::<GapReply>(), 32);
+    assert_eq!(size_of::<AvailabilityReply>(), 16);
+    assert_eq!(size_of::<PollReply>(), 40);
+    assert_eq!(size_of::<PeekReply>(), 24);
+    assert_eq!(size_of::<BlockReply>(), 48);
+    assert_eq!(size_of::<ImageReply>(), 24);
+    assert_eq!(size_of::<EndOfStreamReply>(), 8);
+    assert_eq!(size_of::<AssemblyReply>(), 224);
+    assert_eq!(size_of::<NextReply>(), 240);
+    assert_eq!(size_of::<CountReply>(), 24);
+}
+
+#[test]
+fn fields_of_replies_have_the_offsets_of_c() {
+    assert_eq!([offset_of!(RecordReply, code), offset_of!(OfferReply, position)], [80, 88]);
+    assert_eq!([offset_of!(ClaimReply, position), offset_of!(ClaimReply, claim)], [88, 96]);
+    assert_eq!([offset_of!(AppendClaimReply, is_tripped), offset_of!(AppendClaimReply, offset)], [84, 88]);
+    assert_eq!(offset_of!(AppendClaimReply, claim), 96);
+    assert_eq!([offset_of!(GapReply, is_gap), offset_of!(GapReply, term_id), offset_of!(GapReply, offset)], [4, 8, 16]);
+    assert_eq!([offset_of!(BlockReply, offset), offset_of!(BlockReply, session_id)], [24, 40]);
+    assert_eq!([offset_of!(NextReply, code), offset_of!(NextReply, place), offset_of!(NextReply, start)], [216, 220, 224]);
+}

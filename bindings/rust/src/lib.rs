@@ -1,0 +1,57 @@
+//! A log buffer as Aeron lays it out: writers append messages to a log of three terms, readers poll or replay it, and every answer is
+//! that of a function proved equal to a definition. This crate owns the memory and calls those functions through the C face.
+//!
+//! ```
+//! use logbuffer::{Error, Log};
+//!
+//! # fn main() -> Result<(), Error> {
+//! let mut log = Log::builder().mtu_length(96).open()?;
+//! assert_eq!(log.offer(b"a coin")?, 64); // the position after the message
+//!
+//! let mut claim = log.try_claim(5)?; // written in place
+//! claim.copy_from_slice(b"a pin");
+//! claim.commit()?;
+//!
+//! let messages: Result<Vec<_>, _> = log.replay().collect();
+//! assert_eq!(messages?, [b"a coin".to_vec(), b"a pin".to_vec()]);
+//! # Ok(())
+//! # }
+//! ```
+//!
+//! - [`Log`]: opening, offers, claims, limit, close, scans, replay.
+//! - [`Claim`] and [`OpenClaim`]: a frame to be written in place.
+//! - [`Poller`]: a reader at a position. [`Assembler`]: messages out of fragments. [`Replay`]: both, from the start.
+//! - [`Error`]: the 18 refusals, with cause and remedy. An offer or claim refused with [`Error::AdminAction`] is to be made again.
+//!
+//! A [`Log`] is `Send` and `Sync`: writing takes `&mut`, so threads that write share it behind a lock.
+//!
+//! A log keeps three terms and what is older is overwritten. [`Builder`] sets a publication limit of two terms, at which writers are
+//! pressed back before that happens; raise it as readers move on.
+
+#![deny(unsafe_code)]
+#![deny(missing_docs)]
+
+mod assembler;
+mod builder;
+mod claim;
+pub mod descriptor;
+mod error;
+mod log;
+mod poller;
+mod replay;
+mod scan;
+#[allow(unsafe_code)]
+mod sys;
+
+#[cfg(test)]
+mod layout;
+
+pub use assembler::Assembler;
+pub use builder::Builder;
+pub use claim::{Claim, OpenClaim};
+pub use error::Error;
+pub use log::Log;
+pub use poller::{Action, Block, Fragment, Fragments, Poller};
+pub use replay::{Count, Replay};
+pub use scan::{Availability, GapScan};
+pub use sys::{Header, Record};

@@ -1,0 +1,358 @@
+//! A log and its memory: opening, offers, claims, limit, close, positions. Read claim.rs and poller.rs next.
+
+use crate::claim::{Claim, OpenClaim};
+use crate::sys::{self, Header, Record};
+use crate::{Builder, Error, Poller};
+use std::fmt;
+
+/// A log of three terms, with the record that says how far it was written.
+///
+/// ```
+/// use logbuffer::{Error, Log};
+///
+/// let mut log = Log::open(65_536, 96, 7, 11, 22)?;
+/// assert_eq!(log.offer(b"coin"), Err(Error::BackPressured)); // a fresh log has limit 0
+/// log.set_publication_limit(1 << 20)?;
+/// assert_eq!(log.offer(b"coin"), Ok(64));
+/// # Ok::<(), Error>(())
+/// ```
+#[derive(Clone)]
+pub struct Log {
+    // Sound, and bytes are three terms: opening or `from_parts` judged both, and every call keeps them so.
+    pub(crate) record: Record,
+    pub(crate) bytes: Vec<u8>,
+}
+
+impl Log {
+    /// Opens an empty log with publication limit 0. Refuses a number out of its range ([`Builder`] has the ranges) with
+    /// [`Error::IllegalRecord`].
+    ///
+    /// ```
+    /// use logbuffer::{Error, Log};
+    /// assert_eq!(Log::open(65_537, 96, 7, 11, 22).err(), Some(Error::IllegalRecord));
+    /// ```
+    pub fn open(term_length: i32, mtu_length: i32, initial_term_id: i32, session_id: i32, stream_id: i32) -> Result<Log, Error> {
+        // No memory is taken for a term length that is going to be refused.
+        let is_in_range = (65_536..=1 << 30).contains(&term_length) && sys::is_power_of_two(term_length as u32);
+        let mut bytes = vec![0; if is_in_range { 3 * term_length as usize } else { 0 }];
+        let reply = sys::open(&mut bytes, term_length, mtu_length, initial_term_id, session_id, stream_id);
+        Error::check(reply.code)?;
+        Ok(Log { record: reply.next, bytes })
+    }
+
+    /// A log with defaults for whatever is not said.
+    ///
+    /// ```
+    /// let log = logbuffer::Log::builder().open()?;
+    /// assert_eq!(log.as_bytes().len(), 3 << 20);
+    /// # Ok::<(), logbuffer::Error>(())
+    /// ```
+    pub fn builder() -> Builder {
+        Builder::new()
+    }
+
+    /// A log that was kept, of what [`into_parts`](Log::into_parts) gave or [`record`](Log::record) and [`as_bytes`](Log::as_bytes)
+    /// showed. Refuses a record out of its ranges, or bytes that are not three terms, with [`Error::IllegalRecord`]. The frames are
+    /// not judged: readers do that.
+    ///
+    /// ```
+    /// use logbuffer::{Error, Log};
+    ///
+    /// let mut log = Log::builder().open()?;
+    /// log.offer(b"coin")?;
+    /// let (record, bytes) = log.into_parts();
+    /// assert_eq!(Log::from_parts(record, vec![0; 5]).err(), Some(Error::IllegalRecord));
+    /// let log = Log::from_parts(record, bytes)?;
+    /// assert_eq!(log.position(), Ok(64));
+    /// # Ok::<(), Error>(())
+    /// ```
+    pub fn from_parts(record: Record, bytes: Vec<u8>) -> Result<Log, Error> {
+        // A scan with limit 0 judges record and log and looks at no frame. Its only other refusal, 1, is for a term length below 1.
+        Error::check(sys::scan(record, &bytes, 0, 0, 0).code).map_err(|_| Error::IllegalRecord)?;
+        Ok(Log { record, bytes })
+    }
+
+    /// The record and the bytes, to be kept for [`from_parts`](Log::from_parts).
+    ///
+    /// ```
+    /// let (record, bytes) = logbuffer::Log::builder().open()?.into_parts();
+    /// assert_eq!(bytes.len(), 3 * record.term_length as usize);
+    /// # Ok::<(), logbuffer::Error>(())
+    /// ```
+    pub fn into_parts(self) -> (Record, Vec<u8>) {
+        (self.record, self.bytes)
+    }
+
+    /// The record as the last call left it.
+    ///
+    /// ```
+    /// let log = logbuffer::Log::open(65_536, 96, 7, 11, 22)?;
+    /// assert_eq!(log.record().tails, [7 << 32, 5 << 32, 6 << 32]);
+    /// # Ok::<(), logbuffer::Error>(())
+    /// ```
+    pub fn record(&self) -> &Record {
+        &self.record
+    }
+
+    /// The three terms, one after another.
+    ///
+    /// ```
+    /// let mut log = logbuffer::Log::builder().open()?;
+    /// log.offer(b"coin")?;
+    /// assert_eq!(&log.as_bytes()[32..36], b"coin"); // behind the header
+    /// # Ok::<(), logbuffer::Error>(())
+    /// ```
+    pub fn as_bytes(&self) -> &[u8] {
+        &self.bytes
+    }
+
+    /// Lets writers go up to a position from 0 to 2^62; any other is refused with [`Error::IllegalRecord`]. A limit may also be set
+    /// lower, and after a close.
+    ///
+    /// ```
+    /// use logbuffer::{Error, Log};
+    ///
+    /// let mut log = Log::builder().publication_limit(64).open()?;
+    /// assert_eq!(log.offer(&[1; 100]), Ok(160)); // begins below the limit
+    /// assert_eq!(log.offer(&[2; 100]), Err(Error::BackPressured));
+    /// log.set_publication_limit(65_536)?;
+    /// assert_eq!(log.offer(&[2; 100]), Ok(320));
+    /// # Ok::<(), Error>(())
+    /// ```
+    pub fn set_publication_limit(&mut self, limit: i64) -> Result<(), Error> {
+        let reply = sys::set_publication_limit(self.record, limit);
+        self.record = reply.next;
+        Error::check(reply.code)
+    }
+
+    /// Closes the publication: offers, claims and the three positions below refuse [`Error::PublicationClosed`] from then on. Reading,
+    /// commits and aborts still work. Closing again changes nothing.
+    ///
+    /// ```
+    /// use logbuffer::{Error, Log};
+    ///
+    /// let mut log = Log::builder().open()?;
+    /// log.close()?;
+    /// assert_eq!(log.offer(b"coin"), Err(Error::PublicationClosed));
+    /// # Ok::<(), Error>(())
+    /// ```
+    pub fn close(&mut self) -> Result<(), Error> {
+        let reply = sys::close(self.record);
+        self.record = reply.next;
+        Error::check(reply.code)
+    }
+
+    /// Whether the publication is closed.
+    ///
+    /// ```
+    /// assert!(!logbuffer::Log::builder().open()?.is_closed());
+    /// # Ok::<(), logbuffer::Error>(())
+    /// ```
+    pub fn is_closed(&self) -> bool {
+        self.record.is_closed
+    }
+
+    /// The publisher's position: where the next frame goes.
+    ///
+    /// ```
+    /// let mut log = logbuffer::Log::builder().open()?;
+    /// log.offer(b"coin")?;
+    /// assert_eq!(log.position(), Ok(64));
+    /// # Ok::<(), logbuffer::Error>(())
+    /// ```
+    pub fn position(&self) -> Result<i64, Error> {
+        let reply = sys::position(self.record);
+        Error::check(reply.code).map(|()| reply.position)
+    }
+
+    /// The limit set last.
+    ///
+    /// ```
+    /// assert_eq!(logbuffer::Log::builder().publication_limit(96).open()?.publication_limit(), Ok(96));
+    /// # Ok::<(), logbuffer::Error>(())
+    /// ```
+    pub fn publication_limit(&self) -> Result<i64, Error> {
+        let reply = sys::publication_limit(self.record);
+        Error::check(reply.code).map(|()| reply.position)
+    }
+
+    /// What is left up to the limit; below 0 where the position is past it.
+    ///
+    /// ```
+    /// let mut log = logbuffer::Log::builder().publication_limit(96).open()?;
+    /// log.offer(&[0; 100])?;
+    /// assert_eq!(log.available_window(), Ok(-64));
+    /// # Ok::<(), logbuffer::Error>(())
+    /// ```
+    pub fn available_window(&self) -> Result<i64, Error> {
+        let reply = sys::available_window(self.record);
+        Error::check(reply.code).map(|()| reply.position)
+    }
+
+    /// Appends a message, in fragments where it is longer than the payload limit (mtu - 32), and answers the position after it. No two
+    /// accepted calls are answered the same position.
+    ///
+    /// Refuses [`PublicationClosed`](Error::PublicationClosed), [`AdminAction`](Error::AdminAction) where the term was full (make the
+    /// call again), [`BackPressured`](Error::BackPressured) or [`NotConnected`](Error::NotConnected) at the limit,
+    /// [`ExceedsMaxMessageLength`](Error::ExceedsMaxMessageLength), at the very end of a stream
+    /// [`MaxPositionExceeded`](Error::MaxPositionExceeded) or [`LastTerm`](Error::LastTerm), in a record made by hand
+    /// [`TailOverflow`](Error::TailOverflow), and a message over 2147483647 bytes as [`IllegalArgument`](Error::IllegalArgument).
+    ///
+    /// ```
+    /// use logbuffer::{Error, Log};
+    ///
+    /// fn append(log: &mut Log, message: &[u8]) -> Result<i64, Error> {
+    ///     match log.offer(message) {
+    ///         Err(Error::AdminAction) => log.offer(message), // the next term is empty
+    ///         answer => answer,
+    ///     }
+    /// }
+    ///
+    /// let mut log = Log::builder().term_length(65_536).open()?;
+    /// for _ in 0..100 {
+    ///     append(&mut log, &[7; 1_000])?;
+    /// }
+    /// assert_eq!(log.count()?.messages, 100);
+    /// # Ok::<(), Error>(())
+    /// ```
+    pub fn offer(&mut self, message: &[u8]) -> Result<i64, Error> {
+        self.offer_with_reserved_value(message, 0)
+    }
+
+    /// The same, with a number of the writer's in the header of every frame.
+    ///
+    /// ```
+    /// let mut log = logbuffer::Log::builder().open()?;
+    /// log.offer_with_reserved_value(b"coin", 1_926)?;
+    /// assert_eq!(log.header_at(0, 0)?.reserved_value, 1_926);
+    /// # Ok::<(), logbuffer::Error>(())
+    /// ```
+    pub fn offer_with_reserved_value(&mut self, message: &[u8], reserved_value: i64) -> Result<i64, Error> {
+        let reply = sys::offer(self.record, &mut self.bytes, message, reserved_value);
+        self.record = reply.next;
+        Error::check(reply.code).map(|()| reply.position)
+    }
+
+    /// Claims a frame for a body of this length, to be written in place. Refuses as [`offer`](Log::offer), and a length over the payload
+    /// limit (mtu - 32) with [`Error::ExceedsMaxPayloadLength`]. [`Claim`] says what becomes of it.
+    ///
+    /// ```
+    /// let mut log = logbuffer::Log::builder().open()?;
+    /// let mut claim = log.try_claim(4)?;
+    /// claim.copy_from_slice(b"coin");
+    /// assert_eq!(claim.commit(), Ok(64));
+    /// # Ok::<(), logbuffer::Error>(())
+    /// ```
+    pub fn try_claim(&mut self, length: usize) -> Result<Claim<'_>, Error> {
+        // A length past i32 is past every payload limit, as is the greatest i32.
+        let length = i32::try_from(length).unwrap_or(i32::MAX);
+        let reply = sys::try_claim(self.record, &mut self.bytes, length);
+        self.record = reply.next;
+        Error::check(reply.code)?;
+        let open = OpenClaim::new(reply.claim, reply.position, &self.record);
+        Claim::new(self, open)
+    }
+
+    /// Takes up a claim that was laid by with [`Claim::into_open`]. Refuses [`Error::ClaimMismatch`] if it was committed or aborted
+    /// since, or is of a log with another session or stream. Logs that share both are told apart only where no claim of the same length
+    /// is open at the same place, so give each log a session of its own.
+    ///
+    /// ```
+    /// let mut log = logbuffer::Log::builder().open()?;
+    /// let open = log.try_claim(4)?.into_open();
+    /// log.offer(b"pin")?; // stands behind the claim
+    /// let mut claim = log.resume(open)?;
+    /// claim.copy_from_slice(b"coin");
+    /// claim.commit()?;
+    /// # Ok::<(), logbuffer::Error>(())
+    /// ```
+    pub fn resume(&mut self, open: OpenClaim) -> Result<Claim<'_>, Error> {
+        Claim::new(self, open)
+    }
+
+    /// Makes an open claim a message, and answers the position after it. Refuses as [`resume`](Log::resume).
+    ///
+    /// ```
+    /// use logbuffer::{Error, Log};
+    ///
+    /// let mut log = Log::builder().open()?;
+    /// let open = log.try_claim(4)?.into_open();
+    /// assert_eq!(log.commit(open.clone()), Ok(64));
+    /// assert_eq!(log.commit(open), Err(Error::ClaimMismatch));
+    /// # Ok::<(), Error>(())
+    /// ```
+    pub fn commit(&mut self, open: OpenClaim) -> Result<i64, Error> {
+        self.resume(open)?.commit()
+    }
+
+    /// Makes an open claim padding, which readers pass. Refuses as [`resume`](Log::resume).
+    ///
+    /// ```
+    /// let mut log = logbuffer::Log::builder().open()?;
+    /// let open = log.try_claim(4)?.into_open();
+    /// log.abort(open)?;
+    /// assert_eq!(log.count()?.messages, 0);
+    /// # Ok::<(), logbuffer::Error>(())
+    /// ```
+    pub fn abort(&mut self, open: OpenClaim) -> Result<(), Error> {
+        self.resume(open)?.abort()
+    }
+
+    /// A reader at a position that an offer, claim or reader answered, or at 0. Any position is taken; its calls refuse one that is out
+    /// of range.
+    ///
+    /// ```
+    /// let mut log = logbuffer::Log::builder().open()?;
+    /// let after = log.offer(b"coin")?;
+    /// log.offer(b"pin")?;
+    /// assert_eq!(log.poller(after).poll(&log, 10, |fragment| assert_eq!(fragment.body, b"pin"))?, 1);
+    /// # Ok::<(), logbuffer::Error>(())
+    /// ```
+    pub fn poller(&self, position: i64) -> Poller {
+        Poller::new(position, self.record.session_id)
+    }
+
+    /// The header at an offset, a multiple of 32 below the term length, of a partition, 0 to 2. Refuses others with
+    /// [`Error::IllegalArgument`].
+    ///
+    /// ```
+    /// let mut log = logbuffer::Log::builder().open()?;
+    /// let _claim = log.try_claim(10)?;
+    /// assert_eq!(log.header_at(0, 0)?.frame_length, -42); // being written
+    /// # Ok::<(), logbuffer::Error>(())
+    /// ```
+    pub fn header_at(&self, partition: i32, offset: i32) -> Result<Header, Error> {
+        let reply = sys::header_fields(self.record, &self.bytes, partition, offset);
+        Error::check(reply.code).map(|()| reply.fields)
+    }
+
+    /// A part of a term.
+    pub(crate) fn view(&self, partition: i32, offset: i32, length: i32) -> Result<&[u8], Error> {
+        let span = sys::view(self.record, &self.bytes, partition, offset, length);
+        Error::check(span.code)?;
+        Ok(&self.bytes[span.start..span.start + span.length])
+    }
+
+    /// The partition of a position that a reader has accepted.
+    pub(crate) fn partition_of(&self, position: i64) -> i32 {
+        let bits = sys::position_bits_to_shift(self.record.term_length as u32);
+        sys::index_by_position(position as u64, bits) as i32
+    }
+
+    /// The publisher's position, also after a close.
+    pub(crate) fn publisher_position(&self) -> i64 {
+        sys::position(Record { is_closed: false, ..self.record }).position
+    }
+
+    /// How many bytes were written after a position.
+    pub(crate) fn written_after(&self, position: i64) -> usize {
+        self.publisher_position().saturating_sub(position).max(0) as usize
+    }
+}
+
+/// Shows the record, not the bytes.
+impl fmt::Debug for Log {
+    fn fmt(&self, f: &mut fmt::Formatter<'_>) -> fmt::Result {
+        f.debug_struct("Log").field("record", &self.record).finish_non_exhaustive()
+    }
+}

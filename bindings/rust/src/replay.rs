@@ -1,0 +1,138 @@
+//! A log's messages from the start, one after another. The last of the files; tests/ has the calls in use.
+
+use crate::sys;
+use crate::{Error, Log};
+
+/// The messages of a log from position 0, whole, up to the end or the first claim still open. Made by [`Log::replay`].
+///
+/// While the publisher's position is short of three terms these are the messages accepted, in order, byte for byte. Further on the first
+/// terms are written anew, and a replay is of no use: follow the log with a [`Poller`](crate::Poller).
+///
+/// It ends with the first refusal: [`Error::UnsoundFrame`] or [`Error::AssemblyFull`], which only a log damaged or made by hand brings.
+///
+/// ```
+/// let mut log = logbuffer::Log::builder().mtu_length(96).open()?;
+/// log.offer(b"coin")?;
+/// log.offer(&[7; 100])?;
+///
+/// let mut replay = log.replay(); // without copies
+/// while let Some(message) = replay.next_message() {
+///     println!("{} bytes", message?.len());
+/// }
+/// let messages: Result<Vec<Vec<u8>>, _> = log.replay().collect(); // with copies, as an iterator
+/// assert_eq!(messages?.len(), 2);
+/// # Ok::<(), logbuffer::Error>(())
+/// ```
+#[derive(Clone, Debug)]
+pub struct Replay<'a> {
+    log: &'a Log,
+    replay: sys::Replay,
+    buffer: Vec<u8>,
+    is_ended: bool,
+}
+
+/// What a whole replay gives.
+#[derive(Clone, Copy, Debug, PartialEq, Eq)]
+pub struct Count {
+    /// How many messages.
+    pub messages: usize,
+    /// How many bytes they have together.
+    pub bytes: usize,
+}
+
+impl Replay<'_> {
+    /// The next message, where it lies in the log or in the replay's own buffer.
+    ///
+    /// ```
+    /// let mut log = logbuffer::Log::builder().open()?;
+    /// log.offer(b"coin")?;
+    /// let mut replay = log.replay();
+    /// assert_eq!(replay.next_message(), Some(Ok(&b"coin"[..])));
+    /// assert_eq!(replay.next_message(), None);
+    /// # Ok::<(), logbuffer::Error>(())
+    /// ```
+    pub fn next_message(&mut self) -> Option<Result<&[u8], Error>> {
+        if self.is_ended {
+            return None;
+        }
+        let reply = sys::replay_next(self.replay, self.log.record, &self.log.bytes, &mut self.buffer);
+        self.replay = reply.next;
+        let message = reply.start..reply.start + reply.length;
+        match (Error::check(reply.code), reply.place) {
+            (Ok(()), sys::IN_LOG) => Some(Ok(&self.log.bytes[message])),
+            (Ok(()), sys::IN_BUFFER) => Some(Ok(&self.buffer[message])),
+            (answer, _) => {
+                self.is_ended = true;
+                answer.err().map(Err)
+            }
+        }
+    }
+}
+
+/// Copies of the messages.
+impl Iterator for Replay<'_> {
+    type Item = Result<Vec<u8>, Error>;
+
+    fn next(&mut self) -> Option<Result<Vec<u8>, Error>> {
+        self.next_message().map(|message| message.map(<[u8]>::to_vec))
+    }
+}
+
+impl std::iter::FusedIterator for Replay<'_> {}
+
+impl Log {
+    /// The log's messages from the start. [`Replay`] says how far they go.
+    ///
+    /// ```
+    /// let mut log = logbuffer::Log::builder().open()?;
+    /// log.offer(b"coin")?;
+    /// assert_eq!(log.replay().collect::<Vec<_>>(), [Ok(b"coin".to_vec())]);
+    /// # Ok::<(), logbuffer::Error>(())
+    /// ```
+    pub fn replay(&self) -> Replay<'_> {
+        let replay = sys::replay_new(self.record.session_id);
+        Replay { log: self, replay, buffer: self.assembly_buffer(), is_ended: false }
+    }
+
+    /// How many messages a whole [`replay`](Log::replay) gives, and how many bytes they have together. Refuses what ends a replay.
+    ///
+    /// ```
+    /// use logbuffer::{Count, Log};
+    ///
+    /// let mut log = Log::builder().open()?;
+    /// log.offer(b"coin")?;
+    /// log.offer(b"pin")?;
+    /// assert_eq!(log.count()?, Count { messages: 2, bytes: 7 });
+    /// # Ok::<(), logbuffer::Error>(())
+    /// ```
+    pub fn count(&self) -> Result<Count, Error> {
+        let reply = sys::replay_count(self.record, &self.bytes, &mut self.assembly_buffer(), self.record.session_id);
+        Error::check(reply.code).map(|()| Count { messages: reply.messages, bytes: reply.bytes })
+    }
+
+    /// The longest body of one frame: mtu - 32.
+    ///
+    /// ```
+    /// assert_eq!(logbuffer::Log::builder().mtu_length(96).open()?.max_payload_length(), 64);
+    /// # Ok::<(), logbuffer::Error>(())
+    /// ```
+    pub fn max_payload_length(&self) -> usize {
+        self.record.mtu_length as usize - 32
+    }
+
+    /// The longest message in fragments: an eighth of a term, at most 16 MiB. A message of one frame may be longer, up to
+    /// [`max_payload_length`](Log::max_payload_length).
+    ///
+    /// ```
+    /// assert_eq!(logbuffer::Log::builder().term_length(65_536).open()?.max_message_length(), 8_192);
+    /// # Ok::<(), logbuffer::Error>(())
+    /// ```
+    pub fn max_message_length(&self) -> usize {
+        (self.record.term_length as usize / 8).min(16 << 20)
+    }
+
+    /// A buffer of 16 parts, each for the longest message in fragments. Only the parts of sessions met are ever written.
+    fn assembly_buffer(&self) -> Vec<u8> {
+        vec![0; 16 * self.max_message_length()]
+    }
+}

@@ -1,0 +1,86 @@
+//! Scans of one term, for those who send or repair a log. Read log.rs for the rest of a log's calls.
+
+use crate::sys;
+use crate::{Error, Log};
+
+/// What a scan for a gap found.
+#[derive(Clone, Copy, Debug, PartialEq, Eq)]
+pub enum GapScan {
+    /// No finished frame from an offset on, and free places over a length.
+    Gap {
+        /// The term id that was given.
+        term_id: i32,
+        /// Where the gap begins in the term.
+        offset: usize,
+        /// Its bytes.
+        length: usize,
+    },
+    /// Finished frames up to an offset, at or past the high mark or before an unsound frame.
+    NoGap {
+        /// The offset that the scan came to.
+        offset: usize,
+    },
+}
+
+/// What can be sent.
+#[derive(Clone, Copy, Debug, PartialEq, Eq)]
+pub struct Availability {
+    /// Bytes of finished frames; of a padding frame, its header.
+    pub available: usize,
+    /// Bytes of the last padding frame behind its header, which need not be sent.
+    pub padding: usize,
+}
+
+impl Log {
+    /// The end of the finished frames of a partition, from an offset up to a limit. Refuses [`Error::IllegalArgument`] for a partition
+    /// not 0 to 2, an offset not a multiple of 32 below the term length, or a limit past the term, and [`Error::UnsoundFrame`].
+    ///
+    /// ```
+    /// let mut log = logbuffer::Log::builder().open()?;
+    /// log.offer(b"coin")?;
+    /// assert_eq!(log.scan(0, 0, 1_024), Ok(64));
+    /// # Ok::<(), logbuffer::Error>(())
+    /// ```
+    pub fn scan(&self, partition: i32, offset: i32, limit: i32) -> Result<usize, Error> {
+        let reply = sys::scan(self.record, &self.bytes, partition, offset, limit);
+        Error::check(reply.code).map(|()| reply.offset)
+    }
+
+    /// The first gap in a partition from an offset up to a high mark, a multiple of 32 up to the term length; `term_id` is handed back
+    /// with it. Refuses as [`scan`](Log::scan).
+    ///
+    /// ```
+    /// use logbuffer::{GapScan, Log};
+    ///
+    /// let mut log = Log::builder().open()?;
+    /// log.offer(b"coin")?;
+    /// assert_eq!(log.scan_for_gap(0, 7, 0, 64), Ok(GapScan::NoGap { offset: 64 }));
+    /// assert_eq!(log.scan_for_gap(0, 7, 0, 128), Ok(GapScan::Gap { term_id: 7, offset: 64, length: 64 }));
+    /// # Ok::<(), logbuffer::Error>(())
+    /// ```
+    pub fn scan_for_gap(&self, partition: i32, term_id: i32, offset: i32, high_mark: i32) -> Result<GapScan, Error> {
+        let reply = sys::scan_for_gap(self.record, &self.bytes, partition, term_id, offset, high_mark);
+        Error::check(reply.code)?;
+        Ok(match reply.is_gap {
+            true => GapScan::Gap { term_id: reply.term_id, offset: reply.offset, length: reply.length },
+            false => GapScan::NoGap { offset: reply.offset },
+        })
+    }
+
+    /// How many bytes of whole frames can be sent from an offset on, at most `maximum`. Refuses as [`scan`](Log::scan).
+    ///
+    /// ```
+    /// use logbuffer::{Availability, Log};
+    ///
+    /// let mut log = Log::builder().open()?;
+    /// log.offer(b"coin")?;
+    /// assert_eq!(log.scan_for_availability(0, 0, 1_024), Ok(Availability { available: 64, padding: 0 }));
+    /// # Ok::<(), logbuffer::Error>(())
+    /// ```
+    pub fn scan_for_availability(&self, partition: i32, offset: i32, maximum: i32) -> Result<Availability, Error> {
+        let reply = sys::scan_for_availability(self.record, &self.bytes, partition, offset, maximum);
+        Error::check(reply.code)?;
+        // The answer is padding * 2^32 + available.
+        Ok(Availability { available: reply.outcome as u32 as usize, padding: (reply.outcome >> 32) as usize })
+    }
+}

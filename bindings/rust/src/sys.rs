@@ -1,0 +1,429 @@
+//! The C face, include/logbuffer.h, declaration by declaration, and all unsafe code of the crate: a safe function over slices for each
+//! function that takes some. Functions that take numbers and values alone are safe as they are. Read log.rs next.
+//!
+//! What the face asks, and why every wrapper keeps it: a pointer is valid for its count of elements, for both come from one slice; no
+//! slice that is written overlaps another, for it is a `&mut`; a bool holds 0 or 1, for it is Rust's. It keeps no pointer past the
+//! call, writes through `*mut` alone, and takes any number and any bytes.
+
+/// A log's record: all that is known of a log beside its bytes. [`Log::record`](crate::Log::record) shows it, and
+/// [`Log::from_parts`](crate::Log::from_parts) takes one that was kept.
+#[repr(C)]
+#[derive(Clone, Copy, Debug, PartialEq, Eq)]
+pub struct Record {
+    /// Raw tails of the three partitions: the term id in the upper 32 bits, the offset in the lower.
+    pub tails: [i64; 3],
+    /// How many terms were full before the active one.
+    pub active_term_count: i32,
+    /// The first term's id.
+    pub initial_term_id: i32,
+    /// Bytes of a term.
+    pub term_length: i32,
+    /// The longest frame; the payload limit is 32 less.
+    pub mtu_length: i32,
+    /// The publication's session.
+    pub session_id: i32,
+    /// Its stream.
+    pub stream_id: i32,
+    /// 1 is yes, any other number no. No call sets it.
+    pub is_connected: i32,
+    /// Nothing is accepted at or past this position.
+    pub publication_limit: i64,
+    /// Where the stream ends for readers: 2^63 - 1 unless set by hand.
+    pub end_of_stream_position: i64,
+    /// Whether the publication is closed.
+    pub is_closed: bool,
+}
+
+/// The 32 bytes of a frame's header as they stand, and the position past the frame.
+#[repr(C)]
+#[derive(Clone, Copy, Debug, PartialEq, Eq)]
+pub struct Header {
+    /// Header and body: 0 is free, negative being written, positive finished.
+    pub frame_length: i32,
+    /// 0.
+    pub version: u8,
+    /// 0x80 begins a message, 0x40 ends it.
+    pub flags: u8,
+    /// 0 is padding, 1 data.
+    pub frame_type: u16,
+    /// The frame's offset in its term.
+    pub term_offset: i32,
+    /// The writer's session.
+    pub session_id: i32,
+    /// The writer's stream.
+    pub stream_id: i32,
+    /// The id of the frame's term.
+    pub term_id: i32,
+    /// A number of the writer's, set by offers, left alone by claims and padding.
+    pub reserved_value: i64,
+    /// The position past the frame.
+    pub position: i64,
+}
+
+#[repr(C)]
+#[derive(Clone, Copy, Debug, PartialEq, Eq)]
+pub struct Claim {
+    pub partition: i32,
+    pub offset: i32,
+    pub length: i32,
+    pub term_id: i32,
+}
+
+#[repr(C)]
+#[derive(Clone, Copy, Debug, PartialEq, Eq)]
+pub struct Image {
+    pub position: i64,
+    pub session_id: i32,
+    pub is_closed: bool,
+    pub is_eos: bool,
+}
+
+#[repr(C)]
+#[derive(Clone, Copy, Debug, PartialEq, Eq)]
+pub struct Assembler {
+    pub count: usize,
+    pub ids: [i32; 16],
+    pub held: [usize; 16],
+}
+
+#[repr(C)]
+#[derive(Clone, Copy, Debug, PartialEq, Eq)]
+pub struct Replay {
+    pub image: Image,
+    pub assembler: Assembler,
+}
+
+pub const IN_LOG: i32 = 1;
+pub const IN_BUFFER: i32 = 2;
+
+macro_rules! replies {
+    ($($name:ident { $($field:ident: $kind:ty),* })*) => {
+        $(
+            #[repr(C)]
+            #[derive(Clone, Copy, Debug)]
+            pub struct $name { $(pub $field: $kind),* }
+        )*
+    };
+}
+
+replies! {
+    RecordReply { next: Record, code: i32 }
+    PositionReply { code: i32, position: i64 }
+    OfferReply { next: Record, code: i32, position: i64 }
+    ClaimReply { next: Record, code: i32, position: i64, claim: Claim }
+    SpanReply { code: i32, start: usize, length: usize }
+    AppendReply { next: Record, code: i32, is_tripped: bool, offset: usize }
+    AppendClaimReply { next: Record, code: i32, is_tripped: bool, offset: usize, claim: Claim }
+    HeaderReply { code: i32, fields: Header }
+    ReadReply { code: i32, offset: usize, fragments: usize }
+    ScanReply { code: i32, offset: usize }
+    GapReply { code: i32, is_gap: bool, term_id: i32, offset: usize, length: usize }
+    AvailabilityReply { code: i32, outcome: i64 }
+    PollReply { next: Image, code: i32, fragments: usize, entries: usize }
+    PeekReply { code: i32, position: i64, entries: usize }
+    BlockReply { next: Image, code: i32, offset: usize, length: usize, session_id: i32, term_id: i32 }
+    ImageReply { next: Image, code: i32 }
+    EndOfStreamReply { code: i32, is_eos: bool }
+    AssemblyReply { next: Assembler, code: i32, place: i32, start: usize, length: usize }
+    NextReply { next: Replay, code: i32, place: i32, start: usize, length: usize }
+    CountReply { code: i32, messages: usize, bytes: usize }
+}
+
+/// Functions of the face that take no slice.
+pub use face::{
+    logbuffer_align as align, logbuffer_assembler_new as assembler_new, logbuffer_available_window as available_window,
+    logbuffer_close as close, logbuffer_compute_position as compute_position, logbuffer_image_new as image_new,
+    logbuffer_index_by_position as index_by_position, logbuffer_index_by_term_count as index_by_term_count,
+    logbuffer_is_power_of_two as is_power_of_two, logbuffer_position as position,
+    logbuffer_position_bits_to_shift as position_bits_to_shift, logbuffer_publication_limit as publication_limit,
+    logbuffer_replay_new as replay_new, logbuffer_set_publication_limit as set_publication_limit, logbuffer_term_id as term_id,
+    logbuffer_term_offset as term_offset,
+};
+
+#[allow(dead_code)] // the whole face stands here; what the safe calls have no use for too
+mod face {
+    use super::*;
+
+    type In = *const u8;
+    type Out = *mut u8;
+    type Entries = *mut i32;
+
+    #[rustfmt::skip]
+    unsafe extern "C" {
+        pub safe fn logbuffer_set_publication_limit(rec: Record, limit: i64) -> RecordReply;
+        pub safe fn logbuffer_close(rec: Record) -> RecordReply;
+        pub safe fn logbuffer_rotate_log(rec: Record, count: i32, term_id: i32) -> RecordReply;
+        pub safe fn logbuffer_position(rec: Record) -> PositionReply;
+        pub safe fn logbuffer_publication_limit(rec: Record) -> PositionReply;
+        pub safe fn logbuffer_available_window(rec: Record) -> PositionReply;
+        pub safe fn logbuffer_align(value: u32) -> usize;
+        pub safe fn logbuffer_is_power_of_two(value: u32) -> bool;
+        pub safe fn logbuffer_term_id(raw_tail: i64) -> i32;
+        pub safe fn logbuffer_term_offset(raw_tail: i64, term_length: usize) -> usize;
+        pub safe fn logbuffer_index_by_term_count(count: usize) -> usize;
+        pub safe fn logbuffer_index_by_position(position: u64, bits: u32) -> usize;
+        pub safe fn logbuffer_position_bits_to_shift(term_length: u32) -> u32;
+        pub safe fn logbuffer_compute_position(term_id: i32, offset: u32, bits: u32, initial_term_id: i32) -> PositionReply;
+        pub safe fn logbuffer_image_new(position: i64, session_id: i32) -> Image;
+        pub safe fn logbuffer_assembler_new() -> Assembler;
+        pub safe fn logbuffer_replay_new(session_id: i32) -> Replay;
+
+        pub fn logbuffer_open(
+            log: Out, log_length: usize, term_length: i32, mtu_length: i32, initial_term_id: i32, session_id: i32, stream_id: i32,
+        ) -> RecordReply;
+        pub fn logbuffer_offer(
+            rec: Record, log: Out, log_length: usize, message: In, message_length: usize, reserved_value: i64,
+        ) -> OfferReply;
+        pub fn logbuffer_try_claim(rec: Record, log: Out, log_length: usize, length: i32) -> ClaimReply;
+        pub fn logbuffer_claim_body(rec: Record, log: In, log_length: usize, claim: Claim) -> SpanReply;
+        pub fn logbuffer_claim_body_number(rec: Record, log: In, log_length: usize, claim: Claim) -> i32;
+        pub fn logbuffer_commit(rec: Record, log: Out, log_length: usize, claim: Claim) -> i32;
+        pub fn logbuffer_abort(rec: Record, log: Out, log_length: usize, claim: Claim) -> i32;
+        pub fn logbuffer_append_unfragmented_message(
+            rec: Record, log: Out, log_length: usize, partition: i32, message: In, message_length: usize, reserved_value: i64,
+            term_id: i32,
+        ) -> AppendReply;
+        pub fn logbuffer_append_fragmented_message(
+            rec: Record, log: Out, log_length: usize, partition: i32, message: In, message_length: usize, reserved_value: i64,
+            payload_limit: i32, term_id: i32,
+        ) -> AppendReply;
+        pub fn logbuffer_append_claim(
+            rec: Record, log: Out, log_length: usize, partition: i32, length: i32, term_id: i32,
+        ) -> AppendClaimReply;
+        pub fn logbuffer_header_fields(rec: Record, log: In, log_length: usize, partition: i32, offset: i32) -> HeaderReply;
+        pub fn logbuffer_read(
+            rec: Record, log: In, log_length: usize, partition: i32, offset: i32, fragment_limit: i32, entries: Entries,
+            entries_length: usize,
+        ) -> ReadReply;
+        pub fn logbuffer_view(rec: Record, log: In, log_length: usize, partition: i32, offset: i32, length: i32) -> SpanReply;
+        pub fn logbuffer_view_number(rec: Record, log: In, log_length: usize, partition: i32, offset: i32, length: i32) -> i32;
+        pub fn logbuffer_scan(rec: Record, log: In, log_length: usize, partition: i32, offset: i32, limit: i32) -> ScanReply;
+        pub fn logbuffer_scan_for_gap(
+            rec: Record, log: In, log_length: usize, partition: i32, term_id: i32, offset: i32, high_mark: i32,
+        ) -> GapReply;
+        pub fn logbuffer_scan_for_availability(
+            rec: Record, log: In, log_length: usize, partition: i32, offset: i32, maximum: i32,
+        ) -> AvailabilityReply;
+        pub fn logbuffer_image_poll(
+            image: Image, rec: Record, log: In, log_length: usize, entries: Entries, entries_length: usize, fragment_limit: i32,
+        ) -> PollReply;
+        pub fn logbuffer_image_bounded_poll(
+            image: Image, rec: Record, log: In, log_length: usize, entries: Entries, entries_length: usize, limit_position: i64,
+            fragment_limit: i32,
+        ) -> PollReply;
+        pub fn logbuffer_image_controlled_poll(
+            image: Image, rec: Record, log: In, log_length: usize, entries: Entries, entries_length: usize, actions: In,
+            actions_length: usize, fragment_limit: i32,
+        ) -> PollReply;
+        pub fn logbuffer_image_controlled_peek(
+            image: Image, rec: Record, log: In, log_length: usize, entries: Entries, entries_length: usize, actions: In,
+            actions_length: usize, start: i64, limit_position: i64,
+        ) -> PeekReply;
+        pub fn logbuffer_image_block_poll(image: Image, rec: Record, log: In, log_length: usize, limit: i32) -> BlockReply;
+        pub fn logbuffer_image_set_position(
+            image: Image, rec: Record, log: In, log_length: usize, new_position: i64,
+        ) -> ImageReply;
+        pub fn logbuffer_image_is_end_of_stream(image: Image, rec: Record, log: In, log_length: usize) -> EndOfStreamReply;
+        pub fn logbuffer_image_close(image: Image, rec: Record, log: In, log_length: usize) -> ImageReply;
+        pub fn logbuffer_assembler_on_fragment(
+            assembler: Assembler, rec: Record, log: In, log_length: usize, buffer: Out, buffer_length: usize, partition: i32,
+            offset: i32,
+        ) -> AssemblyReply;
+        pub fn logbuffer_replay_next(
+            replay: Replay, rec: Record, log: In, log_length: usize, buffer: Out, buffer_length: usize,
+        ) -> NextReply;
+        pub fn logbuffer_replay_count(
+            rec: Record, log: In, log_length: usize, buffer: Out, buffer_length: usize, session_id: i32,
+        ) -> CountReply;
+    }
+}
+
+// Safe functions over slices. Each hands a slice on as pointer and length, which is all that the face asks (see the top).
+
+pub fn open(
+    log: &mut [u8],
+    term_length: i32,
+    mtu_length: i32,
+    initial_term_id: i32,
+    session_id: i32,
+    stream_id: i32,
+) -> RecordReply {
+    // SAFETY: pointers and lengths are those of the slices.
+    unsafe { face::logbuffer_open(log.as_mut_ptr(), log.len(), term_length, mtu_length, initial_term_id, session_id, stream_id) }
+}
+
+pub fn offer(rec: Record, log: &mut [u8], message: &[u8], reserved_value: i64) -> OfferReply {
+    // SAFETY: pointers and lengths are those of the slices.
+    unsafe { face::logbuffer_offer(rec, log.as_mut_ptr(), log.len(), message.as_ptr(), message.len(), reserved_value) }
+}
+
+pub fn try_claim(rec: Record, log: &mut [u8], length: i32) -> ClaimReply {
+    // SAFETY: pointers and lengths are those of the slices.
+    unsafe { face::logbuffer_try_claim(rec, log.as_mut_ptr(), log.len(), length) }
+}
+
+pub fn claim_body(rec: Record, log: &[u8], claim: Claim) -> SpanReply {
+    // SAFETY: pointers and lengths are those of the slices.
+    unsafe { face::logbuffer_claim_body(rec, log.as_ptr(), log.len(), claim) }
+}
+
+pub fn commit(rec: Record, log: &mut [u8], claim: Claim) -> i32 {
+    // SAFETY: pointers and lengths are those of the slices.
+    unsafe { face::logbuffer_commit(rec, log.as_mut_ptr(), log.len(), claim) }
+}
+
+pub fn abort(rec: Record, log: &mut [u8], claim: Claim) -> i32 {
+    // SAFETY: pointers and lengths are those of the slices.
+    unsafe { face::logbuffer_abort(rec, log.as_mut_ptr(), log.len(), claim) }
+}
+
+pub fn header_fields(rec: Record, log: &[u8], partition: i32, offset: i32) -> HeaderReply {
+    // SAFETY: pointers and lengths are those of the slices.
+    unsafe { face::logbuffer_header_fields(rec, log.as_ptr(), log.len(), partition, offset) }
+}
+
+pub fn view(rec: Record, log: &[u8], partition: i32, offset: i32, length: i32) -> SpanReply {
+    // SAFETY: pointers and lengths are those of the slices.
+    unsafe { face::logbuffer_view(rec, log.as_ptr(), log.len(), partition, offset, length) }
+}
+
+pub fn scan(rec: Record, log: &[u8], partition: i32, offset: i32, limit: i32) -> ScanReply {
+    // SAFETY: pointers and lengths are those of the slices.
+    unsafe { face::logbuffer_scan(rec, log.as_ptr(), log.len(), partition, offset, limit) }
+}
+
+pub fn scan_for_gap(rec: Record, log: &[u8], partition: i32, term_id: i32, offset: i32, high_mark: i32) -> GapReply {
+    // SAFETY: pointers and lengths are those of the slices.
+    unsafe { face::logbuffer_scan_for_gap(rec, log.as_ptr(), log.len(), partition, term_id, offset, high_mark) }
+}
+
+pub fn scan_for_availability(rec: Record, log: &[u8], partition: i32, offset: i32, maximum: i32) -> AvailabilityReply {
+    // SAFETY: pointers and lengths are those of the slices.
+    unsafe { face::logbuffer_scan_for_availability(rec, log.as_ptr(), log.len(), partition, offset, maximum) }
+}
+
+pub fn image_bounded_poll(
+    image: Image,
+    rec: Record,
+    log: &[u8],
+    entries: &mut [i32],
+    limit_position: i64,
+    fragment_limit: i32,
+) -> PollReply {
+    // SAFETY: pointers and lengths are those of the slices.
+    unsafe {
+        face::logbuffer_image_bounded_poll(
+            image,
+            rec,
+            log.as_ptr(),
+            log.len(),
+            entries.as_mut_ptr(),
+            entries.len(),
+            limit_position,
+            fragment_limit,
+        )
+    }
+}
+
+pub fn image_controlled_poll(
+    image: Image,
+    rec: Record,
+    log: &[u8],
+    entries: &mut [i32],
+    actions: &[u8],
+    fragment_limit: i32,
+) -> PollReply {
+    // SAFETY: pointers and lengths are those of the slices.
+    unsafe {
+        face::logbuffer_image_controlled_poll(
+            image,
+            rec,
+            log.as_ptr(),
+            log.len(),
+            entries.as_mut_ptr(),
+            entries.len(),
+            actions.as_ptr(),
+            actions.len(),
+            fragment_limit,
+        )
+    }
+}
+
+pub fn image_controlled_peek(
+    image: Image,
+    rec: Record,
+    log: &[u8],
+    entries: &mut [i32],
+    actions: &[u8],
+    start: i64,
+    limit_position: i64,
+) -> PeekReply {
+    // SAFETY: pointers and lengths are those of the slices.
+    unsafe {
+        face::logbuffer_image_controlled_peek(
+            image,
+            rec,
+            log.as_ptr(),
+            log.len(),
+            entries.as_mut_ptr(),
+            entries.len(),
+            actions.as_ptr(),
+            actions.len(),
+            start,
+            limit_position,
+        )
+    }
+}
+
+pub fn image_block_poll(image: Image, rec: Record, log: &[u8], limit: i32) -> BlockReply {
+    // SAFETY: pointers and lengths are those of the slices.
+    unsafe { face::logbuffer_image_block_poll(image, rec, log.as_ptr(), log.len(), limit) }
+}
+
+pub fn image_set_position(image: Image, rec: Record, log: &[u8], new_position: i64) -> ImageReply {
+    // SAFETY: pointers and lengths are those of the slices.
+    unsafe { face::logbuffer_image_set_position(image, rec, log.as_ptr(), log.len(), new_position) }
+}
+
+pub fn image_is_end_of_stream(image: Image, rec: Record, log: &[u8]) -> EndOfStreamReply {
+    // SAFETY: pointers and lengths are those of the slices.
+    unsafe { face::logbuffer_image_is_end_of_stream(image, rec, log.as_ptr(), log.len()) }
+}
+
+pub fn image_close(image: Image, rec: Record, log: &[u8]) -> ImageReply {
+    // SAFETY: pointers and lengths are those of the slices.
+    unsafe { face::logbuffer_image_close(image, rec, log.as_ptr(), log.len()) }
+}
+
+pub fn assembler_on_fragment(
+    assembler: Assembler,
+    rec: Record,
+    log: &[u8],
+    buffer: &mut [u8],
+    partition: i32,
+    offset: i32,
+) -> AssemblyReply {
+    // SAFETY: pointers and lengths are those of the slices.
+    unsafe {
+        face::logbuffer_assembler_on_fragment(
+            assembler,
+            rec,
+            log.as_ptr(),
+            log.len(),
+            buffer.as_mut_ptr(),
+            buffer.len(),
+            partition,
+            offset,
+        )
+    }
+}
+
+pub fn replay_next(replay: Replay, rec: Record, log: &[u8], buffer: &mut [u8]) -> NextReply {
+    // SAFETY: pointers and lengths are those of the slices.
+    unsafe { face::logbuffer_replay_next(replay, rec, log.as_ptr(), log.len(), buffer.as_mut_ptr(), buffer.len()) }
+}
+
+pub fn replay_count(rec: Record, log: &[u8], buffer: &mut [u8], session_id: i32) -> CountReply {
+    // SAFETY: pointers and lengths are those of the slices.
+    unsafe { face::logbuffer_replay_count(rec, log.as_ptr(), log.len(), buffer.as_mut_ptr(), buffer.len(), session_id) }
+}

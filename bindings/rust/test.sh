@@ -1,0 +1,12 @@
+#!/bin/sh
+# All tests of the Rust crate, without network: its own, those in its documentation, and the example beside its stored output.
+# The archive is looked for as build.rs says.
+set -eu
+cd "$(dirname "$0")"
+export CARGO_NET_OFFLINE=true CARGO_TARGET_DIR="$PWD/target"
+[ -n "${LOGBUFFER_LIB_DIR:-}" ] || [ -f ../../target/staticlib/libcapi.a ] || (cd ../.. && rt staticlib capi >/dev/null)
+cargo test --quiet
+cargo run --quiet --example sync | diff examples/sync.txt -
+if cargo clippy --version >/dev/null 2>&1; then cargo clippy --quiet --all-targets -- -D warnings; fi
+if cargo fmt --version >/dev/null 2>&1; then cargo fmt --check; fi
+echo "the Rust crate does as it should"

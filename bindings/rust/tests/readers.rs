@@ -1,0 +1,134 @@
+//! Readers beyond the small inputs: a reader that follows a log round its three terms, padding, blocks, peeks, and closing.
+
+mod common;
+
+use common::{log, made, raw_tail, Random, TERM};
+use logbuffer::{Action, Assembler, Availability, Error, Log};
+
+/// An offer made again where the term was full.
+fn append(log: &mut Log, message: &[u8]) -> i64 {
+    match log.offer(message) {
+        Err(Error::AdminAction) => log.offer(message).unwrap(),
+        answer => answer.unwrap(),
+    }
+}
+
+#[test]
+fn a_reader_follows_the_log_round_its_terms() {
+    let (mut log, mut random) = (log(), Random(5));
+    let (mut poller, mut assembler) = (log.poller(0), Assembler::new(&log));
+    while poller.position() < 20 * i64::from(TERM) {
+        let messages: Vec<_> = (0..random.below(20)).map(|_| random.message(2_000)).collect();
+        for message in &messages {
+            append(&mut log, message);
+        }
+        let mut read = Vec::new();
+        for fragment in poller.fragments(&log) {
+            read.extend(assembler.on_fragment(&log, &fragment.unwrap()).unwrap().map(<[u8]>::to_vec));
+        }
+        assert_eq!(read, messages);
+        assert_eq!(Ok(poller.position()), log.position());
+    }
+}
+
+#[test]
+fn no_call_reads_what_an_older_term_left() {
+    let mut log = log();
+    while log.position().unwrap() < 3 * i64::from(TERM) {
+        log.offer(b"").ok();
+    }
+    log.offer(b"").ok(); // rotates into the first partition, full of old frames
+    let end = log.position().unwrap();
+    assert_eq!(end, 3 * i64::from(TERM));
+    let mut poller = log.poller(end);
+    assert_eq!(poller.poll(&log, 10, |_| ()), Ok(0));
+    assert_eq!(poller.bounded_poll(&log, i64::MAX, 10, |_| ()), Ok(0));
+    assert_eq!(poller.controlled_poll(&log, 10, |_| Action::Continue), Ok(0));
+    assert_eq!(poller.controlled_peek(&log, end, i64::MAX, 10, |_| Action::Continue), Ok(end));
+    assert_eq!(poller.block_poll(&log, 1_000), Ok(None));
+    assert_eq!(poller.position(), end);
+
+    let after = log.offer(&[1; 64]).unwrap(); // old frames begin where it ends
+    log.close().unwrap();
+    assert_eq!(poller.controlled_peek(&log, end, i64::MAX, 10, |_| Action::Continue), Ok(after));
+    assert_eq!(poller.clone().controlled_poll(&log, 10, |_| Action::Continue), Ok(1));
+    assert_eq!(poller.clone().block_poll(&log, 1_000).unwrap().unwrap().bytes.len(), 96);
+    assert_eq!(poller.clone().fragments(&log).count(), 1);
+    assert_eq!(poller.poll(&log, 10, |_| ()), Ok(1));
+    assert_eq!(poller.position(), after);
+}
+
+#[test]
+fn a_fragment_has_position_body_and_header() {
+    let mut log = log();
+    log.offer_with_reserved_value(&[5; 70], 99).unwrap();
+    let mut poller = log.poller(0);
+    let fragments: Result<Vec<_>, _> = poller.fragments(&log).collect();
+    let [begin, end] = fragments.unwrap()[..] else { panic!("two fragments") };
+    assert_eq!((begin.position, begin.body, begin.is_begin(), begin.is_end()), (96, &[5; 64][..], true, false));
+    assert_eq!((end.position, end.body, end.is_begin(), end.is_end()), (160, &[5; 6][..], false, true));
+    assert_eq!((end.header.frame_length, end.header.version, end.header.frame_type), (38, 0, 1));
+    assert_eq!((end.header.term_offset, end.header.term_id, end.header.reserved_value), (96, 7, 99));
+    assert_eq!((end.header.session_id, end.header.stream_id), (11, 22));
+}
+
+#[test]
+fn padding_is_passed() {
+    let mut log = made(|record, _| record.tails[0] = raw_tail(7, 65_472)).unwrap();
+    append(&mut log, &[1; 64]);
+    let mut poller = log.poller(65_472);
+    assert_eq!(poller.clone().poll(&log, 10, |_| ()), Ok(0));
+    assert_eq!(poller.fragments(&log).map(|fragment| fragment.unwrap().position).collect::<Vec<_>>(), [65_632]);
+    let block = log.poller(65_472).block_poll(&log, 1).unwrap().unwrap();
+    assert_eq!((block.term_offset, block.bytes.len(), block.session_id, block.term_id), (65_472, 64, 11, 7));
+}
+
+#[test]
+fn availability_parts_frames_and_padding() {
+    let log = made(|_, bytes| bytes[0] = 96).unwrap(); // a frame of type 0
+    assert_eq!(log.scan_for_availability(0, 0, 64), Ok(Availability { available: 32, padding: 64 }));
+}
+
+#[test]
+fn a_limit_of_0_reads_nothing_and_a_huge_one_a_term() {
+    let mut log = log();
+    for _ in 0..10 {
+        append(&mut log, b"coin");
+    }
+    let mut poller = log.poller(0);
+    assert_eq!(poller.poll(&log, 0, |_| ()), Ok(0));
+    assert_eq!(poller.poll(&log, usize::MAX, |_| ()), Ok(10));
+    assert_eq!(poller.position(), 640);
+    assert_eq!(log.poller(0).block_poll(&log, usize::MAX).unwrap().unwrap().bytes, &log.as_bytes()[..640]);
+}
+
+#[test]
+fn a_peek_answers_the_end_of_whole_messages() {
+    let mut log = log();
+    log.offer(b"coin").unwrap();
+    log.offer(&[1; 160]).unwrap(); // three fragments, up to 320
+    let mut poller = log.poller(0);
+    let mut peek = |limit, actions: &[Action]| {
+        let mut actions = actions.iter();
+        poller.controlled_peek(&log, 0, i64::MAX, limit, |_| *actions.next().unwrap()).unwrap()
+    };
+    assert_eq!(peek(0, &[]), 0);
+    assert_eq!(peek(9, &[Action::Abort]), 0);
+    assert_eq!(peek(9, &[Action::Break]), 64);
+    assert_eq!(peek(9, &[Action::Continue, Action::Commit, Action::Break]), 64);
+    assert_eq!(peek(9, &[Action::Continue; 4]), 320);
+    assert_eq!(poller.position(), 0);
+}
+
+#[test]
+fn a_closed_reader_stays_and_remembers() {
+    let log = made(|record, _| record.end_of_stream_position = 32).unwrap();
+    let mut poller = log.poller(0);
+    assert_eq!(poller.is_end_of_stream(&log), Ok(false));
+    poller.set_position(&log, 32).unwrap();
+    assert_eq!(poller.is_end_of_stream(&log), Ok(true));
+    poller.close(&log).unwrap();
+    assert!(poller.is_closed());
+    assert_eq!(poller.set_position(&log, 64), Ok(()));
+    assert_eq!((poller.position(), poller.is_end_of_stream(&log)), (32, Ok(true)));
+}
