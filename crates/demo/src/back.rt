@@ -1,4 +1,5 @@
 // What came back: the replay's messages, where it stopped and why, the count; and the padding that ends a full term.
+// tell.rt has the words; crates/replay has the replay itself.
 use crate::tell;
 use logbuffer::cast;
 use logbuffer::frame_descriptor;
@@ -22,7 +23,7 @@ fn padding(frame: HeaderFields, next: LogRecord) {
     if frame.frame_type == 0 {
         tell::put(b"    a padding frame of ");
         tell::signed(frame.frame_length);
-        tell::put(b" bytes ends the term; terms full: ");
+        tell::put(b" bytes fills the term up; active term count: ");
         tell::signed(next.active_term_count);
         tell::put(b"\n");
     }
@@ -69,7 +70,7 @@ fn given(answer: Replayed, log: &[u8], buffer: &[u8], position: usize) -> bool {
         }
         Replayed::End => false,
         Replayed::Refused(e) => {
-            tell::put(b"the replay is");
+            tell::put(b"the replay");
             tell::refused(e);
             false
         }
@@ -118,14 +119,16 @@ pub fn stopped(replay: Replay, rec: LogRecord, log: &[u8]) {
 
 pub fn count(rec: LogRecord, log: &[u8]) {
     let mut buffer = [0u8; 131072];
-    match replay::count(rec, log, &mut buffer, 11) {
+    match replay::count(rec, log, &mut buffer, rec.session_id) {
         Counted::Counts(messages, bytes) => {
-            tell::put(b"messages: ");
             tell::number(messages);
-            tell::put(b", bytes: ");
+            tell::put(b" messages, ");
             tell::number(bytes);
-            tell::put(b"; ");
+            tell::put(b" bytes in all; ");
         }
-        Counted::Refused(e) => tell::refused(e),
+        Counted::Refused(e) => {
+            tell::put(b"the count");
+            tell::refused(e);
+        }
     }
 }

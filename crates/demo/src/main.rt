@@ -8,14 +8,16 @@ use model::Claimed;
 use model::LogRecord;
 use replay::Replay;
 
-// Nothing is accepted until a limit is set.
 fn first_calls(rec: LogRecord, log: &mut [u8]) -> LogRecord {
+    tell::heading(b"Nothing is accepted before a limit is set:");
     let a = writers::offer(b'A', rec, log, b"coin, bronze, trench A");
     writers::limit(a, 1048576)
 }
 
-// A frame is its header of 32 bytes and its body, rounded up to a multiple of 32.
 fn short_offers(rec: LogRecord, log: &mut [u8]) -> LogRecord {
+    tell::heading(
+        b"Offers. A frame is a header of 32 bytes and a body, rounded up to a multiple of 32:",
+    );
     let a = writers::offer(b'A', rec, log, b"coin, bronze, trench A");
     let b = writers::offer(b'B', a, log, b"sherd, red slip, trench B");
     writers::offer(b'A', b, log, b"")
@@ -28,13 +30,14 @@ fn long_offers(rec: LogRecord, log: &mut [u8]) -> LogRecord {
     writers::long_offer(b'B', b, log, b"day book, trench B", 4000)
 }
 
-// The second commit finds no open claim, so it writes nothing.
 fn committed_claim(rec: LogRecord, log: &mut [u8]) -> LogRecord {
+    tell::heading(b"Claims: room in the log, written in place, then committed or aborted:");
     let bead = writers::claim(b'B', rec, log, 26);
     let next = bead.next;
     let claimed = bead.answer;
-    writers::commit(b'B', next, log, claimed, b"bead, blue glass, trench B");
-    writers::commit(b'B', next, log, claimed, b"bead, red glass, trench B");
+    writers::write(b'B', next, log, claimed, b"bead, blue glass, trench B");
+    writers::commit(b'B', next, log, claimed);
+    writers::commit(b'B', next, log, claimed);
     next
 }
 
@@ -47,13 +50,15 @@ fn aborted_claim(rec: LogRecord, log: &mut [u8]) -> LogRecord {
 }
 
 fn refused_calls(rec: LogRecord, log: &mut [u8]) -> LogRecord {
+    tell::heading(b"Refused, and nothing changes:");
     let long = writers::claim(b'B', rec, log, 2000);
     let negative = writers::claim(b'A', long.next, log, -1);
     writers::long_offer(b'A', negative.next, log, b"site plan, trench A", 8193)
 }
 
-// Six of the longest messages fit the first term.
+// Six of the longest messages still fit the first term.
 fn first_photos(rec: LogRecord, log: &mut [u8]) -> LogRecord {
+    tell::heading(b"The first term fills up:");
     let a = writers::long_offer(b'A', rec, log, b"photo 1, trench A", 8192);
     let b = writers::long_offer(b'B', a, log, b"photo 2, trench B", 8192);
     writers::long_offer(b'A', b, log, b"photo 3, trench A", 8192)
@@ -75,25 +80,27 @@ fn full_term(rec: LogRecord, log: &mut [u8]) -> LogRecord {
 // What comes back, up to the claim that is still open; then that claim is committed, and the rest comes back.
 fn read_back(rec: LogRecord, log: &mut [u8], open: Claimed) {
     let mut buffer = [0u8; 131072];
-    let a = back::read_on(Replay::new(11), rec, log, &mut buffer);
+    tell::heading(b"The replay, from position 0, each message with the position behind it:");
+    let a = back::read_on(Replay::new(rec.session_id), rec, log, &mut buffer);
     back::stopped(a, rec, log);
-    writers::commit(b'A', rec, log, open, b"lamp, clay, trench A");
+    writers::write(b'A', rec, log, open, b"lamp, clay, trench A");
+    writers::commit(b'A', rec, log, open);
     let b = back::read_on(a, rec, log, &mut buffer);
     back::stopped(b, rec, log);
 }
 
-// A closed publication refuses to say its position, so the last line says that of the record before.
+// Commits work after the close, and so does reading. A closed publication refuses its position, so the record before it is asked.
 fn after_close(rec: LogRecord, log: &mut [u8], open: Claimed) {
     let closed = writers::close(rec);
     let next = writers::offer(b'A', closed, log, b"ring, silver, trench A");
-    tell::line(b"\nThe replay, from position 0:");
     read_back(next, log, open);
+    tell::line(b"");
     back::count(next, log);
     tell::publisher(rec);
 }
 
-// A claim is left open, and an offer lies behind it.
 fn open_claim(rec: LogRecord, log: &mut [u8]) {
+    tell::heading(b"A claim stays open, an offer lies behind it, and the publication closes:");
     let lamp = writers::claim(b'A', rec, log, 20);
     let open = lamp.answer;
     let next = writers::offer(b'B', lamp.next, log, b"nail, iron, trench B");

@@ -16,11 +16,16 @@ pub fn line(text: &[u8]) {
     put(b"\n");
 }
 
+pub fn heading(text: &[u8]) {
+    put(b"\n");
+    line(text);
+}
+
 pub fn number(n: usize) {
     io::print_decimal(1, n as u64);
 }
 
-// A number below 0 has its bits above 2^31.
+// A number below 0 is 2^32 less than its bits.
 pub fn signed(n: i32) {
     let bits = cast::word(n);
     if n < 0 {
@@ -42,16 +47,16 @@ pub fn part(bytes: &[u8], at: usize, n: usize) -> &[u8] {
     &bytes[at..at + n]
 }
 
-// The first bytes as text.
+// The bytes as text, or the first of them.
 pub fn quoted(bytes: &[u8]) {
-    put(b" \"");
-    if bytes.len() > 28 {
-        put(part(bytes, 0, 28));
-        put(b"\"..");
+    if bytes.len() > 26 {
+        put(b" beginning \"");
+        put(part(bytes, 0, 26));
     } else {
+        put(b" \"");
         put(bytes);
-        put(b"\"");
     }
+    put(b"\"");
 }
 
 // How a writer's line begins.
@@ -82,9 +87,8 @@ pub fn outcome(answer: Outcome) {
     }
 }
 
-// The publisher's position.
 pub fn publisher(rec: LogRecord) {
-    put(b"publisher's position");
+    put(b"publisher's position before the close");
     match positions::position(rec) {
         Positioned::Position(p) => {
             put(b": ");
@@ -95,26 +99,38 @@ pub fn publisher(rec: LogRecord) {
     }
 }
 
-// The causes of docs/ERRORS.md, some of them shortened.
+// The causes of docs/ERRORS.md. Number 6 has another, count and term id that differ, which no call made here leaves.
 fn words(error: Error) {
     match error {
         Error::IllegalArgument => put(b"an argument is out of its range"),
         Error::IllegalRecord => put(b"the record or the log breaks its ranges"),
-        Error::PositionOutOfRange => put(b"the image's position is out of range"),
-        Error::ExceedsMaxPayloadLength => put(b"claim longer than the payload limit"),
+        Error::PositionOutOfRange => put(
+            b"the image's position is negative, over the greatest, or not a multiple of 32",
+        ),
+        Error::ExceedsMaxPayloadLength => put(b"claim longer than the payload limit, mtu - 32"),
         Error::PublicationClosed => put(b"the publication is closed"),
         Error::AdminAction => put(b"the term was full and the log has been rotated"),
         Error::MaxPositionExceeded => put(b"the greatest position is reached"),
         Error::BackPressured => put(b"the publication limit is reached"),
-        Error::NotConnected => put(b"the limit is reached and nobody is connected"),
-        Error::ExceedsMaxMessageLength => put(b"message longer than the message limit"),
+        Error::NotConnected => put(b"the publication limit is reached and nobody is connected"),
+        Error::ExceedsMaxMessageLength => put(
+            b"message longer than the payload limit and than the message limit",
+        ),
         Error::TailOverflow => put(b"tail offset and need together over 2147483647"),
         Error::LastTerm => put(b"the term is full and there is no next one"),
-        Error::ActionPossiblyDelayed => put(b"the tail's term id is not the one given"),
+        Error::ActionPossiblyDelayed => put(
+            b"the tail's term id is not the one given to the appender",
+        ),
         Error::ClaimMismatch => put(b"the frame's header does not show this open claim"),
-        Error::NewPositionOutOfRange => put(b"new position before current or past the term's end"),
+        Error::NewPositionOutOfRange => put(
+            b"the new position is before the current one or past the term's end",
+        ),
         Error::NewPositionNotAligned => put(b"the new position is not a multiple of 32"),
-        Error::UnsoundFrame => put(b"first frame 1 to 31 long or ending past its term"),
-        Error::AssemblyFull => put(b"a 17th session, or fragments longer than their part"),
+        Error::UnsoundFrame => put(
+            b"the first frame has a length of 1 to 31 or ends past its term",
+        ),
+        Error::AssemblyFull => put(
+            b"begin frame of a 17th session, or fragments longer together than their part of the buffer",
+        ),
     }
 }

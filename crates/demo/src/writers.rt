@@ -4,7 +4,7 @@ use crate::back;
 use crate::tell;
 use logbuffer::buffer_claim;
 use logbuffer::cast;
-use model::Claim;
+use logbuffer::frame_descriptor;
 use model::ClaimReply;
 use model::Claimed;
 use model::LogRecord;
@@ -21,7 +21,21 @@ pub fn open(log: &mut [u8], term_length: i32, mtu_length: i32) -> LogRecord {
     tell::put(b" bytes, mtu ");
     tell::signed(mtu_length);
     tell::outcome(answer);
+    limits(reply.next);
     reply.next
+}
+
+// The longest claim, and the longest message.
+fn limits(rec: LogRecord) {
+    let mtu = cast::word(rec.mtu_length);
+    if mtu < 32 {
+        return;
+    }
+    tell::put(b"    payload limit ");
+    tell::number(mtu - 32);
+    tell::put(b", message limit ");
+    tell::number(frame_descriptor::compute_max_message_length(cast::word(rec.term_length) as u32));
+    tell::put(b"\n");
 }
 
 pub fn limit(rec: LogRecord, limit: i64) -> LogRecord {
@@ -102,19 +116,25 @@ pub fn claim(name: u8, rec: LogRecord, log: &mut [u8], n: i32) -> ClaimReply {
 }
 
 // The text goes where the claim lies in the log; of a claim that is not open no byte is lent.
-fn write(rec: LogRecord, log: &mut [u8], claim: Claim, text: &[u8]) {
-    let body = buffer_claim::body(rec, log, claim);
-    copy(body, text);
-}
-
-pub fn commit(name: u8, rec: LogRecord, log: &mut [u8], claimed: Claimed, text: &[u8]) {
+pub fn write(name: u8, rec: LogRecord, log: &mut [u8], claimed: Claimed, text: &[u8]) {
     let Claimed::Position(_, claim) = claimed else {
         return;
     };
-    write(rec, log, claim, text);
     tell::writer(name, b" writes");
     tell::quoted(text);
-    tell::put(b" into the claim and commits");
+    let body = buffer_claim::body(rec, log, claim);
+    let n = least(body.len(), text.len());
+    copy(body, text);
+    tell::put(b" into the claim: ");
+    tell::number(n);
+    tell::line(b" bytes");
+}
+
+pub fn commit(name: u8, rec: LogRecord, log: &mut [u8], claimed: Claimed) {
+    let Claimed::Position(_, claim) = claimed else {
+        return;
+    };
+    tell::writer(name, b" commits the claim");
     let answer = buffer_claim::commit(rec, log, claim);
     tell::outcome(answer);
 }
