@@ -11,7 +11,7 @@ use replay::Replay;
 fn first_calls(rec: LogRecord, log: &mut [u8]) -> LogRecord {
     tell::heading(b"Nothing is accepted before a limit is set:");
     let a = writers::offer(b'A', rec, log, b"coin, bronze, trench A");
-    writers::limit(a, 1048576)
+    writers::set_limit(a, 1048576)
 }
 
 fn short_offers(rec: LogRecord, log: &mut [u8]) -> LogRecord {

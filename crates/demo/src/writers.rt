@@ -21,12 +21,12 @@ pub fn open(log: &mut [u8], term_length: i32, mtu_length: i32) -> LogRecord {
     tell::put(b" bytes, mtu ");
     tell::signed(mtu_length);
     tell::outcome(answer);
-    limits(reply.next);
+    print_limits(reply.next);
     reply.next
 }
 
-// The longest claim, and the longest message.
-fn limits(rec: LogRecord) {
+// What follows from the mtu and the term length.
+fn print_limits(rec: LogRecord) {
     let mtu = cast::word(rec.mtu_length);
     if mtu < 32 {
         return;
@@ -38,7 +38,7 @@ fn limits(rec: LogRecord) {
     tell::put(b"\n");
 }
 
-pub fn limit(rec: LogRecord, limit: i64) -> LogRecord {
+pub fn set_limit(rec: LogRecord, limit: i64) -> LogRecord {
     let reply = positions::set_publication_limit(rec, limit);
     let answer = reply.answer;
     tell::put(b"set the publication limit to ");
