@@ -14,3 +14,4 @@ pub mod Past
 pub mod HeaderLaws
 pub mod Claims
 pub mod Sessions
+pub mod Ways

@@ -1,3 +1,4 @@
 -- What the contracts here say beyond the definitions of `model`.
 pub mod Lent
 pub mod Assembler
+pub mod Ways

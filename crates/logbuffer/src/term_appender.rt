@@ -7,6 +7,7 @@ ghost use Rattle.model.specs.FrameDescriptor.{space};
 ghost use Rattle.model.specs.LogBufferDescriptor.{biased, readingOf};
 ghost use Rattle.model.specs.TermAppender.{cut, need, written, claimed, course, movedBy, bytesBy, appendedBy, goodMessage, goodFragments, unfragmentedReply, unfragmentedBytes, fragmentedReply, fragmentedBytes, claimRecord, claimAppendedBy, claimAppendReply, claimAppendBytes};
 ghost use Rattle.model.proofs.Append.{Room, appendReply, appendBytes};
+ghost use Rattle.logbuffer.specs.Ways.{wayBy, goodAppend, courseOf, goodClaiming, claimCourse};
 use crate::cast;
 use crate::header;
 use crate::log_buffer_descriptor;
@@ -215,6 +216,86 @@ fn append_message(
     }
 }
 
+// ---- the same for a caller who has read the numbers, and builds the record once
+
+// How an append goes, the offset after it, and the raw tail that moves; 0 both where it is refused.
+pub struct Way {
+    pub course: Course,
+    pub end: usize,
+    pub tail: i64,
+}
+
+fn way_by(v: Reading, needed: usize, course: Course) -> Way
+    requires { ⌜ (v .id < 4294967296) × Room v needed course ⌝ }
+    ensures { λ r. ⌜ r ≡ wayBy v needed course ⌝ }
+{
+    if let Course::Refuse(_) = course {
+        return Way {
+            course: course,
+            end: 0,
+            tail: 0,
+        };
+    }
+    let end = v.offset + needed;
+    Way {
+        course: course,
+        end: end,
+        tail: cast::to_i64((v.id + 2147483648) % 4294967296 * 4294967296 + end),
+    }
+}
+
+fn good_append(v: Reading, k: usize, payload: usize, m: usize) -> bool
+    ensures { λ r. ⌜ r ≡ goodAppend v k payload m ⌝ }
+{
+    if !good_message(k, m) {
+        return false;
+    }
+    if payload < 32 {
+        return false;
+    }
+    if payload > 2147483648 {
+        return false;
+    }
+    if payload % 32 != 0 {
+        return false;
+    }
+    v.id < 4294967296
+}
+
+// A message at partition k, as one frame or as many.
+pub fn append_way(
+    v: Reading,
+    log: &mut [u8],
+    k: usize,
+    payload: usize,
+    message: &[u8],
+    reserved: i64,
+    given: usize,
+) -> Way
+    ensures { λ r. ⌜ r ≡ wayBy v (need payload (length (now (message .entry)))) (courseOf v (length (now (log .entry))) k payload (length (now (message .entry))) given) ⌝ }
+    ensures { λ _. ⌜ now (log .exit) ≡ bytesBy v k (now (log .entry)) (written v (now (log .entry)) (k * v .term) (v .offset) (cut payload (long reserved) (now (message .entry)))) (courseOf v (length (now (log .entry))) k payload (length (now (message .entry))) given) ⌝ }
+{
+    if !good_append(v, k, payload, message.len()) {
+        return Way {
+            course: Course::Refuse(Error::IllegalArgument),
+            end: 0,
+            tail: 0,
+        };
+    }
+    let needed = need_of(payload, message.len());
+    let way = append(
+        v,
+        log,
+        k,
+        payload,
+        message,
+        cast::long(reserved),
+        needed,
+        given,
+    );
+    way_by(v, needed, way)
+}
+
 // A message as one frame: one whose payload limit is above every message.
 pub fn append_unfragmented_message(
     rec: LogRecord,
@@ -342,4 +423,29 @@ pub fn claim(
     let v = log_buffer_descriptor::read(rec, k);
     let way = claim_frame(v, log, k, n, biased_id(term_id));
     claim_reply(rec, v, k, n, way)
+}
+
+fn good_claiming(v: Reading, k: usize, n: usize) -> bool
+    ensures { λ r. ⌜ r ≡ goodClaiming v k n ⌝ }
+{
+    if !good_message(k, n) {
+        return false;
+    }
+    v.id < 4294967296
+}
+
+// The same for a caller who has read the numbers, as `append_way`.
+pub fn claim_way(v: Reading, log: &mut [u8], k: usize, n: usize, given: usize) -> Way
+    ensures { λ r. ⌜ r ≡ wayBy v (space n) (claimCourse v (length (now (log .entry))) k n given) ⌝ }
+    ensures { λ _. ⌜ now (log .exit) ≡ bytesBy v k (now (log .entry)) (claimed v (now (log .entry)) (k * v .term) n) (claimCourse v (length (now (log .entry))) k n given) ⌝ }
+{
+    if !good_claiming(v, k, n) {
+        return Way {
+            course: Course::Refuse(Error::IllegalArgument),
+            end: 0,
+            tail: 0,
+        };
+    }
+    let way = claim_frame(v, log, k, n, given);
+    way_by(v, (n + 32 + 31) / 32 * 32, way)
 }

@@ -5,3 +5,4 @@ pub mod Lengths
 pub mod Ids
 pub mod Numbers
 pub mod OpenLaws
+pub mod Ways

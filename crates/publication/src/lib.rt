@@ -1,21 +1,28 @@
 // The publication above the leaf library, of which it knows only the promises: an offer.
 ghost use mathlib.Core.Path.{_≡_};
-ghost use Prim.Native.Nat.{_%_, _≤_, _<_};
+ghost use Prim.Native.Nat.{_+_, _%_, _≤_, _<_};
 ghost use lib.ListN.{length as lengthOf};
 ghost use Rattle.model.specs.declared.Verdict.the-variants.{Pass};
 ghost use Rattle.model.specs.Bytes.{word, long};
-ghost use Rattle.model.specs.LogBufferDescriptor.{biased, readingOf, reading};
+ghost use Rattle.model.specs.FrameDescriptor.{space};
+ghost use Rattle.model.specs.LogBufferDescriptor.{biased, readingOf, reading, changed};
 ghost use Rattle.model.specs.Publication.{beforeAppend, tripNext, tripError, offerOf, offerBytes, claimVerdict, claimOf, claimBytes};
 ghost use Rattle.model.proofs.Sound.{Bounds};
-ghost use Rattle.model.proofs.Append.{appendReply, appendBytes};
+ghost use Rattle.model.proofs.Append.{appendReply, appendBytes, claimingReply, claimingBytes};
 ghost use Rattle.model.proofs.OfferLaws.{Turns};
+ghost use Rattle.logbuffer.specs.Ways.{movedWith, appendedWith};
+use logbuffer::cast;
 use logbuffer::log_buffer_descriptor;
 use logbuffer::term_appender;
+use logbuffer::term_appender::Way;
+use model::AppendClaimReply;
 use model::AppendReply;
 use model::Appended;
 use model::AppendedClaim;
+use model::Claim;
 use model::ClaimReply;
 use model::Claimed;
+use model::Course;
 use model::Error;
 use model::LogRecord;
 use model::OfferReply;
@@ -34,7 +41,7 @@ struct Trip {
     error: Error,
 }
 
-// The term id of partition k's tail, as the appenders take it.
+// The term id of partition k's tail, as a rotation and a claim's record take it.
 fn own_term_id(rec: LogRecord, k: usize) -> i32
     requires { ⌜ k < 3 ⌝ }
     ensures { λ r. ⌜ biased (word r) ≡ readingOf rec k .id ⌝ }
@@ -77,41 +84,84 @@ fn after_trip(next: LogRecord, v: Reading, count: i32, term_id: i32) -> Trip
     }
 }
 
+// ---- the record after an append, built once
+
+// The record with its tails changed, field by field: a copy of the whole would carry its padding through memory.
+fn with_tails(rec: LogRecord, tails: [i64; 3]) -> LogRecord
+    ensures { λ r. ⌜ r ≡ changed rec tails (rec .«active_term_count») (rec .«publication_limit») (rec .«is_closed») ⌝ }
+{
+    LogRecord {
+        tails: tails,
+        active_term_count: rec.active_term_count,
+        initial_term_id: rec.initial_term_id,
+        term_length: rec.term_length,
+        mtu_length: rec.mtu_length,
+        session_id: rec.session_id,
+        stream_id: rec.stream_id,
+        is_connected: rec.is_connected,
+        publication_limit: rec.publication_limit,
+        end_of_stream_position: rec.end_of_stream_position,
+        is_closed: rec.is_closed,
+    }
+}
+
+// With partition k's tail at the way's; every index is a constant, so that the tails need not stand in memory.
+fn moved(rec: LogRecord, k: usize, way: Way) -> LogRecord
+    requires { ⌜ k ≤ 2 ⌝ }
+    ensures { λ r. ⌜ r ≡ movedWith rec k way (way .course) ⌝ }
+{
+    let course = way.course;
+    if let Course::Refuse(_) = course {
+        return rec;
+    }
+    let tail = way.tail;
+    let mut tails = rec.tails;
+    if k == 0 {
+        tails[0] = tail;
+        return with_tails(rec, tails);
+    }
+    if k == 1 {
+        tails[1] = tail;
+        return with_tails(rec, tails);
+    }
+    tails[2] = tail;
+    with_tails(rec, tails)
+}
+
+fn appended(way: Way) -> Appended
+    ensures { λ r. ⌜ r ≡ appendedWith way (way .course) ⌝ }
+{
+    let course = way.course;
+    match course {
+        Course::Refuse(e) => Appended::Refused(e),
+        Course::Stray => Appended::Refused(Error::ActionPossiblyDelayed),
+        Course::Trip => Appended::Tripped,
+        Course::Fit => Appended::Offset(way.end),
+    }
+}
+
 // ---- offer
 
-// One frame or as many as the message needs, at partition k.
+// One frame or as many as the message needs, at partition k, whose numbers are read.
 fn append_message(
     rec: LogRecord,
     log: &mut [u8],
+    v: Reading,
     k: usize,
     payload: usize,
     message: &[u8],
     reserved: i64,
-    term_id: i32,
 ) -> AppendReply
-    requires { ⌜ (k ≤ 2) × ((32 ≤ payload) × ((payload ≤ 65472) × ((payload % 32 ≡ 0) × (lengthOf (now message) ≤ 2147483647)))) ⌝ }
-    ensures { λ r. ⌜ r ≡ appendReply rec (now (log .entry)) k payload (now (message .entry)) (biased (word «term_id»)) ⌝ }
-    ensures { λ _. ⌜ now (log .exit) ≡ appendBytes rec (now (log .entry)) k payload (now (message .entry)) (long reserved) (biased (word «term_id»)) ⌝ }
+    requires { ⌜ (v ≡ readingOf rec k) × ((k ≤ 2) × ((32 ≤ payload) × ((payload ≤ 65472) × ((payload % 32 ≡ 0) × (lengthOf (now message) ≤ 2147483647))))) ⌝ }
+    ensures { λ r. ⌜ r ≡ appendReply rec (now (log .entry)) k payload (now (message .entry)) (v .id) ⌝ }
+    ensures { λ _. ⌜ now (log .exit) ≡ appendBytes rec (now (log .entry)) k payload (now (message .entry)) (long reserved) (v .id) ⌝ }
 {
-    if message.len() <= payload {
-        return term_appender::append_unfragmented_message(
-            rec,
-            log,
-            k as i32,
-            message,
-            reserved,
-            term_id,
-        );
+    let way = term_appender::append_way(v, log, k, payload, message, reserved, v.id);
+    let next = moved(rec, k, way);
+    AppendReply {
+        next: next,
+        answer: appended(way),
     }
-    term_appender::append_fragmented_message(
-        rec,
-        log,
-        k as i32,
-        message,
-        reserved,
-        payload as i32,
-        term_id,
-    )
 }
 
 // The append of an offer that nothing refuses before it, and what its answer leads to.
@@ -123,12 +173,12 @@ fn offer_on(rec: LogRecord, log: &mut [u8], v: Reading, message: &[u8], reserved
     let mtu = v.mtu;
     let count = v.count;
     let term = v.term;
-    let term_id = own_term_id(rec, count % 3);
-    let a = append_message(rec, log, count % 3, mtu - 32, message, reserved, term_id);
+    let a = append_message(rec, log, v, count % 3, mtu - 32, message, reserved);
     let answer = a.answer;
     let next = a.next;
     let Appended::Offset(end) = answer else {
         let Appended::Refused(e) = answer else {
+            let term_id = own_term_id(rec, count % 3);
             let t = after_trip(next, v, rec.active_term_count, term_id);
             let last = t.next;
             let error = t.error;
@@ -165,6 +215,50 @@ pub fn offer(rec: LogRecord, log: &mut [u8], message: &[u8], reserved_value: i64
 
 // ---- claim
 
+// The claiming append of n bytes at partition k, whose numbers are read; `term_id` is its tail's.
+fn claiming(
+    rec: LogRecord,
+    log: &mut [u8],
+    v: Reading,
+    k: usize,
+    n: usize,
+    term_id: i32,
+) -> AppendClaimReply
+    requires { ⌜ (v ≡ readingOf rec k) × ((k ≤ 2) × ((v .offset + space n ≤ 2147483647) × (biased (word «term_id») ≡ v .id))) ⌝ }
+    ensures { λ r. ⌜ r ≡ claimingReply rec (now (log .entry)) k n (v .id) ⌝ }
+    ensures { λ _. ⌜ now (log .exit) ≡ claimingBytes rec (now (log .entry)) k n (v .id) ⌝ }
+{
+    let way = term_appender::claim_way(v, log, k, n, v.id);
+    let next = moved(rec, k, way);
+    let course = way.course;
+    match course {
+        Course::Refuse(e) => AppendClaimReply {
+            next: next,
+            answer: AppendedClaim::Refused(e),
+        },
+        Course::Stray => AppendClaimReply {
+            next: next,
+            answer: AppendedClaim::Refused(Error::ActionPossiblyDelayed),
+        },
+        Course::Trip => AppendClaimReply {
+            next: next,
+            answer: AppendedClaim::Tripped,
+        },
+        Course::Fit => {
+            let claim = Claim {
+                partition: k as i32,
+                offset: v.offset as i32,
+                length: (n + 32) as i32,
+                term_id: term_id,
+            };
+            AppendClaimReply {
+                next: next,
+                answer: AppendedClaim::Claimed(way.end, claim),
+            }
+        }
+    }
+}
+
 // The claiming append of a claim that nothing refuses, and what its answer leads to.
 fn claim_on(rec: LogRecord, log: &mut [u8], v: Reading, length: i32) -> ClaimReply
     requires { ⌜ (v ≡ reading rec) × (claimVerdict v (lengthOf (now log)) (word length) ≡ Pass) ⌝ }
@@ -175,7 +269,7 @@ fn claim_on(rec: LogRecord, log: &mut [u8], v: Reading, length: i32) -> ClaimRep
     let term = v.term;
     let k = count % 3;
     let term_id = own_term_id(rec, k);
-    let a = term_appender::claim(rec, log, k as i32, length, term_id);
+    let a = claiming(rec, log, v, k, cast::word(length), term_id);
     let answer = a.answer;
     let next = a.next;
     let AppendedClaim::Claimed(end, claim) = answer else {

@@ -1,66 +1,32 @@
--- What each appender ensures is the append of the frames that the payload limit cuts, once its signed arguments are read back.
-use Rattle.model.proofs.Append.{unfragmented-does, fragmented-does}
-use Rattle.model.specs.LogBufferDescriptor.{biased}
-use Rattle.model.specs.Bytes.{word, long}
-use mir.Facts.{toZ-ofZ, ofZ-toZ}
-use mir.Val.{toZ, ofZ}
-use mir.Syntax.{w32, w64}
-use lib.IntN.{ℤ}
-use Prim.Native.Nat.{ℕ, _<_}
-use native.Mathlib.Omega.{arith}
-use mathlib.Core.Path.{_≡_, ap, _∙_}
+-- The way that the appender answers, made into the record and the answer, is the append of the definition.
+use mathlib.Core.Path.{ap}
 use borrow.Author.Needs.{needs}
+use mir.Facts.{toZ-ofZ}
+use Rattle.model.specs.Bytes.{long}
+use Rattle.publication.proofs.Ways.{append-by}
 use Rattle.publication.proofs.append_message.Statement.{statement}
 use Rattle.publication.proofs.append_message.Tie as tie
 
-small : (n : ℕ) → n < 4294967296 → word (toZ w32 n) ≡ n
-small n h = ofZ-toZ {w = w32} (record { fits = h })
+append-way-requires : tie.Need-append-way-requires
+append-way-requires c κs = search needs
 
-cast-append-unfragmented-message : tie.Need-cast-append-unfragmented-message
-cast-append-unfragmented-message c = search needs
+moved-requires : tie.Need-moved-requires
+moved-requires c κs = search needs
 
-append-unfragmented-message-requires : tie.Need-append-unfragmented-message-requires
-append-unfragmented-message-requires c κs = search needs
+appended-requires : tie.Need-appended-requires
+appended-requires c κs = search needs
 
 same-length : tie.Need-same-length
 same-length c = search needs
 
 returns : tie.Need-returns
-returns c = let s = c .before .before .before .before .before .before .before in
+returns c = let s = c .before .before .before .before .before .before .before .before in
     let a = s .args in
-    let d = unfragmented-does (a .rec) (a .log .now) (a .message .now) (toZ w32 (a .k)) (toZ w64 (ofZ w64 (a .reserved))) (toZ w32 (ofZ w32 (a .term-id))) (a .k) (a .payload) (long (a .reserved)) (biased (word (a .term-id))) (small (a .k) (omega arith)) (ap long (toZ-ofZ (s .fits .reserved)))
-    (ap (λ (z : ℤ). biased (word z)) (toZ-ofZ (s .fits .term-id))) (omega arith) (omega arith) (omega arith) in
-    (c .before .before .append-unfragmented-message .ensures .0 ∙ d .0, c .before .before .append-unfragmented-message .ensures .1 ∙ d .1)
-
-cast-append-fragmented-message : tie.Need-cast-append-fragmented-message
-cast-append-fragmented-message c = search needs
-
-cast-append-fragmented-message-2 : tie.Need-cast-append-fragmented-message-2
-cast-append-fragmented-message-2 c = search needs
-
-append-fragmented-message-requires : tie.Need-append-fragmented-message-requires
-append-fragmented-message-requires c κs = search needs
-
-same-length-2 : tie.Need-same-length-2
-same-length-2 c = search needs
-
-returns-2 : tie.Need-returns-2
-returns-2 c = let s = c .before .before .before .before .before .before .before in
-    let a = s .args in
-    let d = fragmented-does (a .rec) (a .log .now) (a .message .now) (toZ w32 (a .k)) (toZ w64 (ofZ w64 (a .reserved))) (toZ w32 (a .payload)) (toZ w32 (ofZ w32 (a .term-id))) (a .k) (a .payload) (long (a .reserved)) (biased (word (a .term-id))) (small (a .k) (omega arith)) (ap long (toZ-ofZ (s .fits .reserved)))
-    (small (a .payload) (omega arith)) (ap (λ (z : ℤ). biased (word z)) (toZ-ofZ (s .fits .term-id))) (omega arith) (omega arith) (omega arith) (omega arith) (omega arith) (omega arith) in
-    (c .before .before .append-fragmented-message .ensures .0 ∙ d .0, c .before .before .append-fragmented-message .ensures .1 ∙ d .1)
+    let d = c .before .before .before .before in
+    append-by (a .rec) (c .before .moved .result) (a .log .now) (d .append-way .last .1 .0) (a .message .now) (a .v) (a .k) (a .payload) (d .append-way .result)
+    (s .pre .0) (s .pre .1 .0) (s .pre .1 .1 .0) (s .pre .1 .1 .1 .0) (s .pre .1 .1 .1 .1 .0) (s .pre .1 .1 .1 .1 .1)
+    (c .appended .result) _ _ (ap long (toZ-ofZ (s .fits .reserved))) (d .append-way .ensures .0) (d .append-way .ensures .1) (c .before .moved .ensures) (c .appended .ensures)
 
 pub append-message-spec : {M : Type 1} → statement M
 append-message-spec =
-    tie.close
-    (tie.spec
-    cast-append-unfragmented-message
-    append-unfragmented-message-requires
-    same-length
-    returns
-    cast-append-fragmented-message
-    cast-append-fragmented-message-2
-    append-fragmented-message-requires
-    same-length-2
-    returns-2)
+    tie.close (tie.spec append-way-requires moved-requires appended-requires same-length returns)

@@ -44,24 +44,16 @@ so s = sound-true _ _ (pass s .is-sound)
 part : (s : tie.Start) → s .args .v .count % 3 ≡ active (s .args .rec)
 part s = active-by (s .args .rec) (s .args .v) (s .pre .0)
 
--- the term id that was handed over is that of the tail
+-- what the append leads to
 module _ (c : tie.After-append-message) where
   abbrev start : tie.Start
-  start = c .before .before .before .before .before
-
-  abbrev given : ℕ
-  given = biased (word (toZ w32 (ofZ w32 (c .before .before .own-term-id .result))))
-
-  given-is : given ≡ start .args .v .id
-  given-is =
-      ap (λ (z : ℤ). biased (word z)) (toZ-ofZ {w = w32} {z = c .before .before .own-term-id .result} (search needs)) ∙ c .before .before .own-term-id .ensures
-      ∙ ap (λ (n : ℕ). readingOf (start .args .rec) n .id) (part start) ∙ sym (ap (λ (x : Reading). x .id) (start .pre .0))
+  start = c .before .before .before .before
 
   law : (after (start .args .v) (c .append-message .result) ≡ offerOf (start .args .rec) (start .args .log .now) (start .args .message .now))
       × (c .append-message .last .1 .0 ≡ offerBytes (start .args .rec) (start .args .log .now) (start .args .message .now) (start .args .reserved))
   law =
       let a = start .args in
-      offer-by (a .rec) (a .log .now) (a .message .now) (a .v) (a .v .count % 3) given (c .append-message .result) (part start) (start .pre .0) given-is (c .append-message .ensures .0)
+      offer-by (a .rec) (a .log .now) (a .message .now) (a .v) (a .v .count % 3) (a .v .id) (c .append-message .result) (part start) (start .pre .0) refl (c .append-message .ensures .0)
       (c .append-message .last .1 .0) (a .reserved) (long (toZ w64 (ofZ w64 (a .reserved)))) (ap long (toZ-ofZ (start .fits .reserved))) (start .pre .1) (c .append-message .ensures .1)
 
   ends : (end : ℕ) → c .append-message .result .answer ≡ Offset end → start .args .v .count * start .args .v .term + end < 9223372036854775808
@@ -69,19 +61,16 @@ module _ (c : tie.After-append-message) where
       let a = start .args in
       omega (
         arith,
-        end-by (a .rec) (a .log .now) (a .message .now) (a .v) (a .v .count % 3) given (c .append-message .result) (part start) (start .pre .0) given-is (c .append-message .ensures .0) end h,
+        end-by (a .rec) (a .log .now) (a .message .now) (a .v) (a .v .count % 3) (a .v .id) (c .append-message .result) (part start) (start .pre .0) refl (c .append-message .ensures .0) end h,
         begin-most (a .v) (bounds _ _ (so start)),
         so start,
       )
 
-own-term-id-requires : tie.Need-own-term-id-requires
-own-term-id-requires c κs = search needs
-
 sub-append-message : tie.Need-sub-append-message
-sub-append-message c = omega (arith, so (c .before .before .before .before) .mtu-low)
+sub-append-message c = omega (arith, so (c .before .before .before) .mtu-low)
 
 append-message-requires : tie.Need-append-message-requires
-append-message-requires c κs = let s = c .before .before .before .before in (omega arith, (omega (arith, so s .mtu-low), (omega (arith, so s .mtu-high), (omega (arith, so s .mtu-32, so s .mtu-low), pass s .short))))
+append-message-requires c κs = let s = c .before .before .before in (s .pre .0 ∙ ap (readingOf (s .args .rec)) (sym (part s)), (omega arith, (omega (arith, so s .mtu-low), (omega (arith, so s .mtu-high), (omega (arith, so s .mtu-32, so s .mtu-low), pass s .short)))))
 
 enum-known-answer : tie.Need-enum-known-answer
 enum-known-answer c = search needs
@@ -89,17 +78,26 @@ enum-known-answer c = search needs
 enum-known-answer-2 : tie.Need-enum-known-answer-2
 enum-known-answer-2 c = search needs
 
+own-term-id-requires : tie.Need-own-term-id-requires
+own-term-id-requires c κs = search needs
+
+-- the term id that is handed over is that of the tail
+given-is : (c : tie.After-own-term-id) → (let s = c .before .before .before .before .before .before .before .before .before .before in biased (word (toZ w32 (ofZ w32 (c .own-term-id .result)))) ≡ s .args .v .id)
+given-is c = let s = c .before .before .before .before .before .before .before .before .before .before in
+    ap (λ (z : ℤ). biased (word z)) (toZ-ofZ {w = w32} {z = c .own-term-id .result} (search needs)) ∙ c .own-term-id .ensures
+    ∙ ap (λ (n : ℕ). readingOf (s .args .rec) n .id) (part s) ∙ sym (ap (λ (x : Reading). x .id) (s .pre .0))
+
 after-trip-requires : tie.Need-after-trip-requires
 after-trip-requires c κs =
-    let d = c .before .before .before .before .before .before in
+    let d = c .before .before .before .before .before .before .before in
     let s = c .before .before .before .before .before .before .before .before .before .before .before in
     let a = s .args in
-    let e = neither (d .append-message .result .answer) (c .before .before .match .keys2) (c .before .match2 .keys2) in
+    let e = neither (d .append-message .result .answer) (c .before .before .before .match .keys2) (c .before .before .match2 .keys2) in
     let three : length (a .rec .tails) ≡ 3 = search needs in
     let active-fits : SFits w32 (a .rec .«active_term_count») = search needs in (
       bounds _ _ (so s),
-      turns-by (a .rec) (a .log .now) (a .message .now) (a .v) (a .v .count % 3) (given d) (d .append-message .result) (part s) (s .pre .0) (given-is d) (d .append-message .ensures .0)
-          (toZ w32 (ofZ w32 (a .rec .«active_term_count»))) (toZ w32 (ofZ w32 (d .before .before .own-term-id .result))) (toZ-ofZ active-fits) refl three (omega (arith, so s .mtu-32, so s .mtu-low)) e,
+      turns-by (a .rec) (a .log .now) (a .message .now) (a .v) (a .v .count % 3) (a .v .id) (d .append-message .result) (part s) (s .pre .0) refl (d .append-message .ensures .0)
+          (toZ w32 (ofZ w32 (a .rec .«active_term_count»))) (toZ w32 (ofZ w32 (c .before .own-term-id .result))) (toZ-ofZ active-fits) (given-is (c .before)) three (omega (arith, so s .mtu-32, so s .mtu-low)) e,
     )
 
 same-length : tie.Need-same-length
@@ -107,9 +105,9 @@ same-length c = search needs
 
 returns : tie.Need-returns
 returns c =
-    let d = c .before .before .before .before .before .before .before .before in
+    let d = c .before .before .before .before .before .before .before .before .before in
     let a = c .before .before .before .before .before .before .before .before .before .before .before .before .before .args in
-    let e = neither (d .append-message .result .answer) (c .before .before .before .before .match .keys2) (c .before .before .before .match2 .keys2) in (
+    let e = neither (d .append-message .result .answer) (c .before .before .before .before .before .match .keys2) (c .before .before .before .before .match2 .keys2) in (
       ap₂ (λ (n : LogRecord) (x : Error). record { next = n; answer = Declined x }) (c .before .after-trip .ensures .0) (c .before .after-trip .ensures .1)
           ∙ sym (ap (afterBy (a .v) (d .append-message .result .next)) e) ∙ law d .0,
       law d .1,
@@ -121,17 +119,17 @@ same-length-2 c = search needs
 returns-2 : tie.Need-returns-2
 returns-2 c =
     let d = c .before .before .before .before .before .before .before in
-    let a = c .before .before .before .before .before .before .before .before .before .before .before .before .args in
+    let a = c .before .before .before .before .before .before .before .before .before .before .before .args in
     (sym (ap (afterBy (a .v) (d .append-message .result .next)) (c .before .answer2 .given .1)) ∙ law d .0, law d .1)
 
-mul-t18 : tie.Need-mul-t18
-mul-t18 c = omega (arith, ends (c .before .before .before .before .before .before) _ (c .before .answer .given .1))
+mul-t20 : tie.Need-mul-t20
+mul-t20 c = omega (arith, ends (c .before .before .before .before .before .before) _ (c .before .answer .given .1))
 
 add-t21 : tie.Need-add-t21
 add-t21 c = omega (arith, ends (c .before .before .before .before .before .before) _ (c .before .answer .given .1))
 
-cast-t24 : tie.Need-cast-t24
-cast-t24 c = record { sfits = ends (c .before .before .before .before .before .before) _ (c .before .answer .given .1) }
+cast-t25 : tie.Need-cast-t25
+cast-t25 c = record { sfits = ends (c .before .before .before .before .before .before) _ (c .before .answer .given .1) }
 
 same-length-3 : tie.Need-same-length-3
 same-length-3 c = search needs
@@ -139,7 +137,7 @@ same-length-3 c = search needs
 returns-3 : tie.Need-returns-3
 returns-3 c =
     let d = c .before .before .before .before .before .before in
-    let a = c .before .before .before .before .before .before .before .before .before .before .before .args in (
+    let a = c .before .before .before .before .before .before .before .before .before .before .args in (
       ap {B = OfferReply} (λ (z : ℤ). record { next = d .append-message .result .next; answer = Position z }) (toZ-pos w64 (ends d _ (c .before .answer .given .1)))
           ∙ sym (ap (afterBy (a .v) (d .append-message .result .next)) (c .before .answer .given .1)) ∙ law d .0,
       law d .1,
@@ -149,18 +147,18 @@ pub offer-on-spec : {M : Type 1} → statement M
 offer-on-spec =
     tie.close
     (tie.spec
-    own-term-id-requires
     sub-append-message
     append-message-requires
     enum-known-answer
     enum-known-answer-2
+    own-term-id-requires
     after-trip-requires
     same-length
     returns
     same-length-2
     returns-2
-    mul-t18
+    mul-t20
     add-t21
-    cast-t24
+    cast-t25
     same-length-3
     returns-3)

@@ -1,0 +1,66 @@
+-- Row 1, and then the parts' promises, joined by one law over the numbers that the code has.
+use mathlib.Core.Bool.{true}
+use mathlib.Core.Path.{_≡_, sym, subst, _∙_}
+use Prim.Native.Nat.{_≤_, _<_}
+use native.Mathlib.Omega.{arith}
+use borrow.Author.Tests.{not-true, not-false}
+use borrow.Author.Needs.{needs}
+use lib.ListN.{length}
+use Rattle.model.specs.FrameDescriptor.{space}
+use Rattle.model.proofs.Append.{Room, course-room}
+use Rattle.logbuffer.specs.Ways.{goodClaiming}
+use Rattle.logbuffer.proofs.Ways.{claiming-true, claim-good, claim-no, claim-way-is}
+use Rattle.logbuffer.proofs.term_appender.claim_way.Statement.{statement}
+use Rattle.logbuffer.proofs.term_appender.claim_way.Tie as tie
+
+yes-good : (c : tie.Else1) → (let a = c .before .before .before .args in goodClaiming (a .v) (a .k) (a .n) ≡ true)
+yes-good c = sym (c .before .good-claiming .ensures) ∙ not-false _ (c .if1 .left)
+
+good : (c : tie.Else1) → (let a = c .before .before .before .args in (a .k ≤ 2) × ((a .v .id < 4294967296) × (a .n ≤ 2147483647)))
+good c = let a = c .before .before .before .args in claiming-true (a .v) (a .k) (a .n) (yes-good c)
+
+good-claiming-requires : tie.Need-good-claiming-requires
+good-claiming-requires c κs = search needs
+
+returns : tie.Need-returns
+returns c = let a = c .before .before .before .args in
+    claim-no (a .v) (length (a .log .now)) (a .k) (a .n) (a .given) (sym (c .before .good-claiming .ensures) ∙ not-true _ (c .if1 .taken)) _ _
+
+claim-frame-requires : tie.Need-claim-frame-requires
+claim-frame-requires c κs = good (c .before)
+
+add-way-by : tie.Need-add-way-by
+add-way-by c = omega (arith, good (c .before .before .before .before))
+
+add-way-by-2 : tie.Need-add-way-by-2
+add-way-by-2 c = omega (arith, good (c .before .before .before .before))
+
+mul-way-by : tie.Need-mul-way-by
+mul-way-by c = omega (arith, good (c .before .before .before .before))
+
+way-by-requires : tie.Need-way-by-requires
+way-by-requires c κs = let a = c .before .before .before .before .before .before .before .args in
+    (good (c .before .before .before .before) .1 .0, subst (Room (a .v) (space (a .n))) (sym (c .before .before .claim-frame .ensures .0)) (course-room _ _ _ _))
+
+same-length : tie.Need-same-length
+same-length c = search needs
+
+returns-2 : tie.Need-returns-2
+returns-2 c = let a = c .before .before .before .before .before .before .before .before .args in
+    let d = c .before .before .before in
+    claim-way-is (a .v) (a .k) (a .n) (a .given) (a .log .now) (d .claim-frame .last .1 .0) (d .claim-frame .result) (c .way-by .result)
+    (claim-good _ _ _ _ _ (yes-good (d .before .before))) (d .claim-frame .ensures .0) (c .way-by .ensures) (d .claim-frame .ensures .1)
+
+pub claim-way-spec : {M : Type 1} → statement M
+claim-way-spec =
+    tie.close
+    (tie.spec
+    good-claiming-requires
+    returns
+    claim-frame-requires
+    add-way-by
+    add-way-by-2
+    mul-way-by
+    way-by-requires
+    same-length
+    returns-2)

@@ -1,0 +1,57 @@
+-- Every way but a refusal has the tail that moves, which has room for itself.
+use mathlib.Core.Path.{sym, ap, _∙_}
+use native.Mathlib.Omega.{arith}
+use borrow.Author.Needs.{needs}
+use Prim.Native.Nat.{_+_}
+use lib.IntN.{ℤ, pos}
+use mir.Facts.{toZ-ofZ}
+use mir.Syntax.{w64}
+use Rattle.model.specs.declared.Course.{Course}
+use Rattle.model.specs.LogBufferDescriptor.{rawOf}
+use Rattle.logbuffer.specs.declared.term_appender.Way.{Way}
+use Rattle.logbuffer.specs.Ways.{wayBy}
+use Rattle.logbuffer.proofs.Ways.{way-moves}
+use Rattle.logbuffer.proofs.term_appender.way_by.Statement.{statement}
+use Rattle.logbuffer.proofs.term_appender.way_by.Tie as tie
+
+enum-told : tie.Need-enum-told
+enum-told c = search needs
+
+returns : tie.Need-returns
+returns c = let a = c .before .before .args in
+    ap {B = Way} (λ (x : Course). record { course = x; end = 0; tail = pos 0 }) (c .enum-told .given .1)
+    ∙ ap (wayBy (a .v) (a .needed)) (sym (c .enum-told .given .1))
+
+add-end : tie.Need-add-end
+add-end c = let s = c .before .before in omega (arith, way-moves (s .args .v) (s .args .needed) (s .args .course) (c .before .match .keys2) (s .pre .1) .1)
+
+add-to-i64 : tie.Need-add-to-i64
+add-to-i64 c = search needs
+
+mul-to-i64 : tie.Need-mul-to-i64
+mul-to-i64 c = search needs
+
+add-to-i64-2 : tie.Need-add-to-i64-2
+add-to-i64-2 c = let s = c .before .before .before in omega (arith, way-moves (s .args .v) (s .args .needed) (s .args .course) (c .before .before .match .keys2) (s .pre .1) .1)
+
+to-i64-requires : tie.Need-to-i64-requires
+to-i64-requires c κs = search needs
+
+returns-2 : tie.Need-returns-2
+unfolding rawOf
+returns-2 c = let s = c .before .before .before .before in let a = s .args in
+    ap {B = Way} (λ (z : ℤ). record { course = a .course; end = a .v .offset + a .needed; tail = z }) (toZ-ofZ {w = w64} {z = c .to-i64 .result} (search needs) ∙ c .to-i64 .ensures)
+    ∙ way-moves (a .v) (a .needed) (a .course) (c .before .before .before .match .keys2) (s .pre .1) .0
+
+pub way-by-spec : {M : Type 1} → statement M
+way-by-spec =
+    tie.close
+    (tie.spec
+    enum-told
+    returns
+    add-end
+    add-to-i64
+    mul-to-i64
+    add-to-i64-2
+    to-i64-requires
+    returns-2)

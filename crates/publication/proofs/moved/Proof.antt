@@ -1,0 +1,62 @@
+-- Every way but a refusal stores the tail, at the constant that k is.
+use mathlib.Core.Path.{_≡_, _∙_}
+use native.Mathlib.Omega.{arith}
+use borrow.Author.Needs.{needs}
+use mir.Syntax.{w64}
+use mir.Facts.{toZ-ofZ}
+use Rattle.publication.proofs.Ways.{tail-moves}
+use Rattle.publication.proofs.moved.Statement.{statement}
+use Rattle.publication.proofs.moved.Tie as tie
+
+enum-told : tie.Need-enum-told
+enum-told c = search needs
+
+returns : tie.Need-returns
+returns c = search needs
+
+array-set-from-tails : tie.Need-array-set-from-tails
+array-set-from-tails c = search needs
+
+with-tails-requires : tie.Need-with-tails-requires
+with-tails-requires c κs = search needs
+
+returns-2 : tie.Need-returns-2
+returns-2 c = let a = c .before .before .before .before .before .args in
+    c .with-tails .ensures ∙ tail-moves (a .rec) (a .k) 0 (a .way) (a .way .course) _ (c .before .before .before .before .match .keys2) (omega arith) (toZ-ofZ {w = w64} {z = a .way .tail} (search needs))
+
+array-set-from-tails-2 : tie.Need-array-set-from-tails-2
+array-set-from-tails-2 c = search needs
+
+with-tails-requires-2 : tie.Need-with-tails-requires-2
+with-tails-requires-2 c κs = search needs
+
+returns-3 : tie.Need-returns-3
+returns-3 c = let a = c .before .before .before .before .before .before .args in
+    c .with-tails2 .ensures ∙ tail-moves (a .rec) (a .k) 1 (a .way) (a .way .course) _ (c .before .before .before .before .before .match .keys2) (omega arith) (toZ-ofZ {w = w64} {z = a .way .tail} (search needs))
+
+array-set-from-tails-3 : tie.Need-array-set-from-tails-3
+array-set-from-tails-3 c = search needs
+
+with-tails-requires-3 : tie.Need-with-tails-requires-3
+with-tails-requires-3 c κs = search needs
+
+returns-4 : tie.Need-returns-4
+returns-4 c = let s = c .before .before .before .before .before .before in let a = s .args in
+    let two : a .k ≡ 2 = omega (arith, s .pre) in
+    c .with-tails3 .ensures ∙ tail-moves (a .rec) (a .k) 2 (a .way) (a .way .course) _ (c .before .before .before .before .before .match .keys2) two (toZ-ofZ {w = w64} {z = a .way .tail} (search needs))
+
+pub moved-spec : {M : Type 1} → statement M
+moved-spec =
+    tie.close
+    (tie.spec
+    enum-told
+    returns
+    array-set-from-tails
+    with-tails-requires
+    returns-2
+    array-set-from-tails-2
+    with-tails-requires-2
+    returns-3
+    array-set-from-tails-3
+    with-tails-requires-3
+    returns-4)
