@@ -1,7 +1,10 @@
--- Each answer as it crosses to C: 01's number, 0 for none, and the answer's values, 0 where it has none.
+-- Each answer as it crosses to C: document 01's number, 0 for none, and 01's values (`Answers` of the model), 0 where there are none.
 use Prim.Native.Nat.{ℕ, _-_}
-use mathlib.Core.Bool.{true, false}
-use lib.IntN.{ℤ, pos}
+use mathlib.Core.Bool.{Bool, true, false}
+use lib.Dec.{ltb}
+use lib.IntN.{ℤ, pos, negsuc}
+use lib.ListN.{getD, length}
+use Rattle.model.specs.Answers.{Told, outcomeTold, positionedTold, offeredTold, claimedTold, locatedTold, appendedTold, appendedClaimTold, headerTold, readTold, scannedTold, gapTold, availabilityTold, polledTold, peekedTold, blockTold, endTold, assembledTold, replayedTold}
 use Rattle.model.specs.Errors.{numberOf}
 use Rattle.model.specs.FragmentAssembler.{Sessions}
 use Rattle.model.specs.Replay.{ReplayState}
@@ -14,41 +17,24 @@ use Rattle.model.specs.declared.ClaimReply.{ClaimReply as ClaimSaid}
 use Rattle.model.specs.declared.AppendReply.{AppendReply as AppendSaid}
 use Rattle.model.specs.declared.AppendClaimReply.{AppendClaimReply as AppendClaimSaid}
 use Rattle.model.specs.declared.Outcome.{Outcome}
-use Rattle.model.specs.declared.Outcome.the-variants.{Done, Refused as OutcomeRefused}
 use Rattle.model.specs.declared.Positioned.{Positioned}
-use Rattle.model.specs.declared.Positioned.the-variants.{Position, Refused as PositionRefused}
 use Rattle.model.specs.declared.Offered.{Offered}
-use Rattle.model.specs.declared.Offered.the-variants.{Position as OfferPosition, Refused as OfferRefused}
 use Rattle.model.specs.declared.Claimed.{Claimed}
-use Rattle.model.specs.declared.Claimed.the-variants.{Position as ClaimPosition, Refused as ClaimRefused}
 use Rattle.model.specs.declared.Located.{Located}
-use Rattle.model.specs.declared.Located.the-variants.{Span, Refused as SpanRefused}
 use Rattle.model.specs.declared.Appended.{Appended}
-use Rattle.model.specs.declared.Appended.the-variants.{Offset, Tripped, Refused as AppendRefused}
 use Rattle.model.specs.declared.AppendedClaim.{AppendedClaim}
-use Rattle.model.specs.declared.AppendedClaim.the-variants.{Claimed as ClaimedAt, Tripped as ClaimTripped, Refused as AppendClaimRefused}
 use Rattle.model.specs.declared.HeaderRead.{HeaderRead}
-use Rattle.model.specs.declared.HeaderRead.the-variants.{Fields, Refused as HeaderRefused}
 use Rattle.model.specs.declared.TermRead.{TermRead}
-use Rattle.model.specs.declared.TermRead.the-variants.{Outcome as ReadTo, Refused as ReadRefused}
 use Rattle.model.specs.declared.Scanned.{Scanned}
-use Rattle.model.specs.declared.Scanned.the-variants.{Offset as ScannedTo, Refused as ScanRefused}
 use Rattle.model.specs.declared.GapScanned.{GapScanned}
-use Rattle.model.specs.declared.GapScanned.the-variants.{Gap, NoGap, Refused as GapRefused}
 use Rattle.model.specs.declared.AvailabilityScanned.{AvailabilityScanned}
-use Rattle.model.specs.declared.AvailabilityScanned.the-variants.{Outcome as Available, Refused as AvailabilityRefused}
 use Rattle.model.specs.declared.Polled.{Polled}
-use Rattle.model.specs.declared.Polled.the-variants.{Fragments, Refused as PollRefused}
 use Rattle.model.specs.declared.Peeked.{Peeked}
-use Rattle.model.specs.declared.Peeked.the-variants.{Position as PeekPosition, Refused as PeekRefused}
 use Rattle.model.specs.declared.BlockPolled.{BlockPolled}
-use Rattle.model.specs.declared.BlockPolled.the-variants.{Block, Refused as BlockRefused}
 use Rattle.model.specs.declared.EndOfStream.{EndOfStream}
 use Rattle.model.specs.declared.EndOfStream.the-variants.{Is, Refused as EndOfStreamRefused}
 use Rattle.model.specs.declared.Assembled.{Assembled}
-use Rattle.model.specs.declared.Assembled.the-variants.{Nothing, Fragment, Message, Refused as AssemblyRefused}
 use Rattle.model.specs.declared.Replayed.{Replayed}
-use Rattle.model.specs.declared.Replayed.the-variants.{InLog, InBuffer, End, Refused as ReplayRefused}
 use Rattle.logbuffer.specs.declared.fragment_assembler.FragmentAssembler.{FragmentAssembler}
 use Rattle.image.specs.Images.{imageOf}
 use Rattle.image.specs.declared.Image.{Image}
@@ -79,114 +65,135 @@ use Rattle.capi.specs.declared.replies.AssemblyReply.{AssemblyReply}
 use Rattle.capi.specs.declared.replies.NextReply.{NextReply}
 use Rattle.capi.specs.declared.replies.CountReply.{CountReply}
 
+-- the value at a place; the same where it is a size; whether it is below 0, as where an append tripped
+abbrev pub value : ℕ → Told → ℤ
+value i t = getD (t .values) i (pos 0)
+
+abbrev pub whole : ℤ → ℕ
+whole (pos n) = n
+whole (negsuc n) = 0
+
+abbrev pub negative : ℤ → Bool
+negative (pos n) = false
+negative (negsuc n) = true
+
+abbrev pub size : ℕ → Told → ℕ
+size i t = whole (value i t)
+
 -- ---- the record's calls
 
 abbrev pub outcomeNumber : Outcome → ℤ
-outcomeNumber Done = pos 0
-outcomeNumber (OutcomeRefused e) = numberOf e
+outcomeNumber a = outcomeTold a .number
 
 abbrev pub recordReply : RecordSaid → RecordReply
 recordReply o = record { next = o .next; code = outcomeNumber (o .answer) }
 
 abbrev pub positionReply : Positioned → PositionReply
-positionReply (Position p) = record { code = pos 0; position = p }
-positionReply (PositionRefused e) = record { code = numberOf e; position = pos 0 }
+positionReply a = record { code = positionedTold a .number; position = value 0 (positionedTold a) }
 
 -- ---- writing
 
 abbrev pub offerBy : LogRecord → Offered → OfferReply
-offerBy nx (OfferPosition p) = record { next = nx; code = pos 0; position = p }
-offerBy nx (OfferRefused e) = record { next = nx; code = numberOf e; position = pos 0 }
+offerBy nx a = record { next = nx; code = offeredTold a .number; position = value 0 (offeredTold a) }
 
 abbrev pub offerReply : OfferSaid → OfferReply
 offerReply o = offerBy (o .next) (o .answer)
 
-abbrev pub noClaim : Claim
-noClaim = record { partition = pos 0; offset = pos 0; length = pos 0; «term_id» = pos 0 }
+-- a claim's record after a first value
+abbrev pub claimAt : Told → Claim
+claimAt t = record { partition = value 1 t; offset = value 2 t; length = value 3 t; «term_id» = value 4 t }
 
 abbrev pub claimBy : LogRecord → Claimed → ClaimReply
-claimBy nx (ClaimPosition p c) = record { next = nx; code = pos 0; position = p; claim = c }
-claimBy nx (ClaimRefused e) = record { next = nx; code = numberOf e; position = pos 0; claim = noClaim }
+claimBy nx a = record { next = nx; code = claimedTold a .number; position = value 0 (claimedTold a); claim = claimAt (claimedTold a) }
 
 abbrev pub claimReply : ClaimSaid → ClaimReply
 claimReply o = claimBy (o .next) (o .answer)
 
 -- a part of the log by its first index and its length
 abbrev pub spanReply : Located → SpanReply
-spanReply (Span from to) = record { code = pos 0; start = from; length = to - from }
-spanReply (SpanRefused e) = record { code = numberOf e; start = 0; length = 0 }
+spanReply a = record { code = locatedTold a .number; start = size 0 (locatedTold a); length = size 1 (locatedTold a) - size 0 (locatedTold a) }
 
 abbrev pub appendBy : LogRecord → Appended → AppendReply
-appendBy nx (Offset end) = record { next = nx; code = pos 0; «is_tripped» = false; offset = end }
-appendBy nx Tripped = record { next = nx; code = pos 0; «is_tripped» = true; offset = 0 }
-appendBy nx (AppendRefused e) = record { next = nx; code = numberOf e; «is_tripped» = false; offset = 0 }
+appendBy nx a =
+    record { next = nx; code = appendedTold a .number; «is_tripped» = negative (value 0 (appendedTold a)); offset = size 0 (appendedTold a) }
 
 abbrev pub appendReply : AppendSaid → AppendReply
 appendReply o = appendBy (o .next) (o .answer)
 
 abbrev pub appendClaimBy : LogRecord → AppendedClaim → AppendClaimReply
-appendClaimBy nx (ClaimedAt end c) = record { next = nx; code = pos 0; «is_tripped» = false; offset = end; claim = c }
-appendClaimBy nx ClaimTripped = record { next = nx; code = pos 0; «is_tripped» = true; offset = 0; claim = noClaim }
-appendClaimBy nx (AppendClaimRefused e) = record { next = nx; code = numberOf e; «is_tripped» = false; offset = 0; claim = noClaim }
+appendClaimBy nx a =
+    record {
+      next = nx;
+      code = appendedClaimTold a .number;
+      «is_tripped» = negative (value 0 (appendedClaimTold a));
+      offset = size 0 (appendedClaimTold a);
+      claim = claimAt (appendedClaimTold a);
+    }
 
 abbrev pub appendClaimReply : AppendClaimSaid → AppendClaimReply
 appendClaimReply o = appendClaimBy (o .next) (o .answer)
 
 -- ---- frames of a term
 
-abbrev pub noFields : HeaderFields
-noFields =
+abbrev pub fieldsAt : Told → HeaderFields
+fieldsAt t =
     record {
-      «frame_length» = pos 0;
-      version = 0;
-      flags = 0;
-      «frame_type» = 0;
-      «term_offset» = pos 0;
-      «session_id» = pos 0;
-      «stream_id» = pos 0;
-      «term_id» = pos 0;
-      «reserved_value» = pos 0;
-      position = pos 0;
+      «frame_length» = value 0 t;
+      version = size 1 t;
+      flags = size 2 t;
+      «frame_type» = size 3 t;
+      «term_offset» = value 4 t;
+      «session_id» = value 5 t;
+      «stream_id» = value 6 t;
+      «term_id» = value 7 t;
+      «reserved_value» = value 8 t;
+      position = value 9 t;
     }
 
 abbrev pub headerReply : HeaderRead → HeaderReply
-headerReply (Fields f) = record { code = pos 0; fields = f }
-headerReply (HeaderRefused e) = record { code = numberOf e; fields = noFields }
+headerReply a = record { code = headerTold a .number; fields = fieldsAt (headerTold a) }
 
 abbrev pub readReply : TermRead → ReadReply
-readReply (ReadTo at n) = record { code = pos 0; offset = at; fragments = n }
-readReply (ReadRefused e) = record { code = numberOf e; offset = 0; fragments = 0 }
+readReply a = record { code = readTold a .number; offset = size 0 (readTold a); fragments = size 1 (readTold a) }
 
 abbrev pub scanReply : Scanned → ScanReply
-scanReply (ScannedTo at) = record { code = pos 0; offset = at }
-scanReply (ScanRefused e) = record { code = numberOf e; offset = 0 }
+scanReply a = record { code = scannedTold a .number; offset = size 0 (scannedTold a) }
 
--- without a gap, the offset that the walk came to
+-- a gap has values of its own behind the offset that the walk came to
 abbrev pub gapReply : GapScanned → GapReply
-gapReply (Gap id at n) = record { code = pos 0; «is_gap» = true; «term_id» = id; offset = at; length = n }
-gapReply (NoGap at) = record { code = pos 0; «is_gap» = false; «term_id» = pos 0; offset = at; length = 0 }
-gapReply (GapRefused e) = record { code = numberOf e; «is_gap» = false; «term_id» = pos 0; offset = 0; length = 0 }
+gapReply a =
+    record {
+      code = gapTold a .number;
+      «is_gap» = ltb 1 (length (gapTold a .values));
+      «term_id» = value 1 (gapTold a);
+      offset = size 0 (gapTold a);
+      length = size 3 (gapTold a);
+    }
 
 abbrev pub availabilityReply : AvailabilityScanned → AvailabilityReply
-availabilityReply (Available x) = record { code = pos 0; outcome = x }
-availabilityReply (AvailabilityRefused e) = record { code = numberOf e; outcome = pos 0 }
+availabilityReply a = record { code = availabilityTold a .number; outcome = value 0 (availabilityTold a) }
 
 -- ---- images
 
 abbrev pub pollBy : Image → Polled → PollReply
-pollBy nx (Fragments n m) = record { next = nx; code = pos 0; fragments = n; entries = m }
-pollBy nx (PollRefused e) = record { next = nx; code = numberOf e; fragments = 0; entries = 0 }
+pollBy nx a = record { next = nx; code = polledTold a .number; fragments = size 0 (polledTold a); entries = size 1 (polledTold a) }
 
 abbrev pub pollReply : PollSaid → PollReply
 pollReply o = pollBy (o .next) (o .answer)
 
 abbrev pub peekReply : Peeked → PeekReply
-peekReply (PeekPosition p m) = record { code = pos 0; position = p; entries = m }
-peekReply (PeekRefused e) = record { code = numberOf e; position = pos 0; entries = 0 }
+peekReply a = record { code = peekedTold a .number; position = value 0 (peekedTold a); entries = size 1 (peekedTold a) }
 
 abbrev pub blockBy : Image → BlockPolled → BlockReply
-blockBy nx (Block at n session id) = record { next = nx; code = pos 0; offset = at; length = n; «session_id» = session; «term_id» = id }
-blockBy nx (BlockRefused e) = record { next = nx; code = numberOf e; offset = 0; length = 0; «session_id» = pos 0; «term_id» = pos 0 }
+blockBy nx a =
+    record {
+      next = nx;
+      code = blockTold a .number;
+      offset = size 0 (blockTold a);
+      length = size 1 (blockTold a);
+      «session_id» = value 2 (blockTold a);
+      «term_id» = value 3 (blockTold a);
+    }
 
 abbrev pub blockReply : BlockSaid → BlockReply
 blockReply o = blockBy (o .next) (o .answer)
@@ -194,9 +201,13 @@ blockReply o = blockBy (o .next) (o .answer)
 abbrev pub imageReply : ImageSaid → ImageReply
 imageReply o = record { next = o .next; code = outcomeNumber (o .answer) }
 
+-- yes and no cross as themselves
+abbrev pub isYes : EndOfStream → Bool
+isYes (Is b) = b
+isYes (EndOfStreamRefused e) = false
+
 abbrev pub endOfStreamReply : EndOfStream → EndOfStreamReply
-endOfStreamReply (Is b) = record { code = pos 0; «is_eos» = b }
-endOfStreamReply (EndOfStreamRefused e) = record { code = numberOf e; «is_eos» = false }
+endOfStreamReply a = record { code = endTold a .number; «is_eos» = isYes a }
 
 -- ---- assembler and replay; the place of a message is 0 nowhere, 1 in the log, 2 in the lent buffer
 
@@ -204,20 +215,29 @@ abbrev pub assemblerOf : Sessions → FragmentAssembler
 assemblerOf s = record { count = s .count; ids = s .ids; held = s .held }
 
 abbrev pub assemblyBy : FragmentAssembler → Assembled → AssemblyReply
-assemblyBy nx Nothing = record { next = nx; code = pos 0; place = pos 0; start = 0; length = 0 }
-assemblyBy nx (Fragment at n) = record { next = nx; code = pos 0; place = pos 1; start = at; length = n }
-assemblyBy nx (Message at n) = record { next = nx; code = pos 0; place = pos 2; start = at; length = n }
-assemblyBy nx (AssemblyRefused e) = record { next = nx; code = numberOf e; place = pos 0; start = 0; length = 0 }
+assemblyBy nx a =
+    record {
+      next = nx;
+      code = assembledTold a .number;
+      place = value 0 (assembledTold a);
+      start = size 1 (assembledTold a);
+      length = size 2 (assembledTold a);
+    }
 
 abbrev pub replayOf : ReplayState → Replay
 replayOf s = record { image = imageOf (s .image); assembler = assemblerOf (s .sessions) }
 
 abbrev pub nextBy : Replay → Replayed → NextReply
-nextBy nx End = record { next = nx; code = pos 0; place = pos 0; start = 0; length = 0 }
-nextBy nx (InLog at n) = record { next = nx; code = pos 0; place = pos 1; start = at; length = n }
-nextBy nx (InBuffer at n) = record { next = nx; code = pos 0; place = pos 2; start = at; length = n }
-nextBy nx (ReplayRefused e) = record { next = nx; code = numberOf e; place = pos 0; start = 0; length = 0 }
+nextBy nx a =
+    record {
+      next = nx;
+      code = replayedTold a .number;
+      place = value 0 (replayedTold a);
+      start = size 1 (replayedTold a);
+      length = size 2 (replayedTold a);
+    }
 
+-- a count of messages and of their bytes
 abbrev pub countReply : Counted → CountReply
 countReply (Counts m n) = record { code = pos 0; messages = m; bytes = n }
 countReply (CountRefused e) = record { code = numberOf e; messages = 0; bytes = 0 }

@@ -2,7 +2,9 @@
 // cross, so each family of answers has its structs here, and a function for each number in them.
 ghost use mathlib.Core.Path.{_≡_};
 ghost use Prim.Native.Nat.{_-_};
-ghost use Rattle.capi.specs.Replies.{outcomeNumber, positionReply, noClaim, offerBy, claimBy, spanReply, appendBy, appendClaimBy, noFields, headerReply, readReply, scanReply, gapReply, availabilityReply, pollBy, peekReply, blockBy, endOfStreamReply, assemblyBy, nextBy, countReply};
+ghost use mathlib.Core.List.{[]};
+ghost use Rattle.model.specs.Answers.{answered};
+ghost use Rattle.capi.specs.Replies.{outcomeNumber, positionReply, claimAt, offerBy, claimBy, spanReply, appendBy, appendClaimBy, fieldsAt, headerReply, readReply, scanReply, gapReply, availabilityReply, pollBy, peekReply, blockBy, endOfStreamReply, assemblyBy, nextBy, countReply};
 use image::Image;
 use logbuffer::errors;
 use logbuffer::fragment_assembler::FragmentAssembler;
@@ -204,7 +206,7 @@ pub fn positioned(answer: Positioned) -> PositionReply
 
 // The claim of a refused call.
 fn no_claim() -> Claim
-    ensures { λ r. ⌜ r ≡ noClaim ⌝ }
+    ensures { λ r. ⌜ r ≡ claimAt (answered []) ⌝ }
 {
     Claim {
         partition: 0,
@@ -333,7 +335,7 @@ pub fn appended_claim(next: LogRecord, answer: AppendedClaim) -> AppendClaimRepl
 
 // The fields of a refused call.
 fn no_fields() -> HeaderFields
-    ensures { λ r. ⌜ r ≡ noFields ⌝ }
+    ensures { λ r. ⌜ r ≡ fieldsAt (answered []) ⌝ }
 {
     HeaderFields {
         frame_length: 0,

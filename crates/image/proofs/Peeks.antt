@@ -1,66 +1,23 @@
 -- A peek: its ladder goes on to rows 15 and 16, and it answers how far the walk has settled.
 use mathlib.Core.Path.{_≡_, refl, sym, ap, ap₂, _∙_}
-use mathlib.Core.Bool.{Bool, true, false, cond, _&&_, _||_, not}
-use mathlib.Core.List.{List, [], _∷_}
-use Prim.Native.Nat.{ℕ, zero, suc, _+_, _-_, _%_, _≤_, min}
+use mathlib.Core.Bool.{Bool, true, false, _&&_, _||_, not}
+use mathlib.Core.List.{List}
+use Prim.Native.Nat.{ℕ, _+_, _-_, _%_, _≤_, min}
 use native.Mathlib.Omega.{arith}
 use borrow.Author.Tests.{le-leb, ltb-false, eqb-true}
 use lib.Dec.{eqb, leb, ltb}
-use lib.ListN.{length, drop}
+use lib.ListN.{length}
 use lib.IntN.{ℤ}
 use Rattle.model.specs.declared.LogRecord.{LogRecord}
 use Rattle.model.specs.declared.Reading.{Reading}
 use Rattle.model.specs.declared.Error.the-variants.{NewPositionOutOfRange, NewPositionNotAligned, UnsoundFrame}
 use Rattle.model.specs.declared.ReadVerdict.{ReadVerdict}
 use Rattle.model.specs.declared.ReadVerdict.the-variants.{Read, Closed, Refuse}
-use Rattle.model.specs.declared.Frame.{Frame}
-use Rattle.model.specs.declared.Frame.the-variants.{Absent, Unsound, Padding, Data}
 use Rattle.model.specs.Bytes.{long}
-use Rattle.model.specs.FrameDescriptor.{align, frameAt}
 use Rattle.model.specs.LogBufferDescriptor.{reading, greatest}
-use Rattle.model.specs.TermReader.{Walked, still, over, handed, nextAction, restActions, walk, natural, goodEntries}
+use Rattle.model.specs.TermReader.{Walked, over, walk, natural, goodEntries}
 use Rattle.model.specs.Image.{Image as State, refuseIf, readable, reachable, endOffset, walkAt, unsoundAt, goodActions, slotsBy, peekVerdict, peekedBy, peekOf, peekSlots}
-use Rattle.model.proofs.FrameLaws.{Lies, lies}
 use Rattle.image.proofs.Rungs.{after, Readable, readable-after, readable-read}
-
--- ---- how far a walk settles: not past the term
-
-settled-by : (b : Bool) (size later room : ℕ) → size + later ≤ room → cond b (size + later) 0 ≤ room
-settled-by true size later room h = h
-settled-by false size later room h = omega arith
-
-handed-settled : (a b whole : Bool) (at n room : ℕ) (w : Walked) → align n ≤ room → w .settled ≤ room - align n
-    → cond a (record { entries = (at + 32, n - 32) ∷ []; fragments = 0; moved = 0; settled = 0 }) (cond b (handed at n whole still) (handed at n whole w)) .settled ≤ room
-handed-settled true b whole at n room w h k = omega arith
-handed-settled false true whole at n room w h k = settled-by (whole || ltb 0 0) (align n) 0 room (omega arith)
-handed-settled false false whole at n room w h k = settled-by (whole || ltb 0 (w .settled)) (align n) (w .settled) room (omega arith)
-
-either-settled : (b : Bool) (w : Walked) (room : ℕ) → w .settled ≤ room → cond b still w .settled ≤ room
-either-settled true w room h = omega arith
-either-settled false w room h = h
-
-module _ (log : List ℕ) (base term at : ℕ) where
-  over-settled : (x : Frame) (whole : Bool) (limit : ℕ) (acts : List ℕ) (go : ℕ → ℕ → List ℕ → Walked) → frameAt (drop (base + at) log) (term - at) ≡ x
-      → ((a l : ℕ) (more : List ℕ) → go a l more .settled ≤ term - a) → over x whole at limit acts go .settled ≤ term - at
-  over-settled Absent whole limit acts go e h = omega arith
-  over-settled Unsound whole limit acts go e h = omega arith
-  over-settled (Padding n) whole limit acts go e h =
-      let k : Lies n (term - at) = lies (drop (base + at) log) (term - at) (Padding n) e refl in
-      let m = h (at + align n) (suc limit) acts in
-      omega (arith, k .inside)
-  over-settled (Data n) whole limit acts go e h =
-      let k : Lies n (term - at) = lies (drop (base + at) log) (term - at) (Data n) e refl in
-      let m : go (at + align n) limit (restActions acts) .settled ≤ term - at - align n = omega (arith, h (at + align n) limit (restActions acts)) in
-      handed-settled (eqb (nextAction acts) 1) (eqb (nextAction acts) 2) whole at n (term - at) (go (at + align n) limit (restActions acts)) (k .inside) m
-
-pub walk-settled : (fuel : ℕ) (log : List ℕ) (base term end at limit : ℕ) (acts : List ℕ) → walk fuel log base term end at limit acts .settled ≤ term - at
-unfolding walk
-walk-settled zero log base term end at limit acts = omega arith
-walk-settled (suc fuel) log base term end at zero acts = omega arith
-walk-settled (suc fuel) log base term end at (suc limit) acts =
-    either-settled (leb end at) _ (term - at)
-    (over-settled log base term at (frameAt (drop (base + at) log) (term - at)) _ limit acts (λ a l more. walk fuel log base term end a l more) refl
-    (λ a l more. walk-settled fuel log base term end a l more))
 
 -- ---- rows 15 and 16 after the others
 

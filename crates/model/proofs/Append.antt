@@ -1,6 +1,6 @@
 -- The ways of an append: where each is taken and what it says; and the appenders' entry points by the numbers that a caller has.
-use mathlib.Core.Path.{_≡_, refl, sym, ap, ap₂, _∙_, subst}
-use mathlib.Core.Bool.{Bool, true, false, cond, _&&_}
+use mathlib.Core.Path.{_≡_, refl, sym, ap, subst}
+use mathlib.Core.Bool.{Bool, true, false, cond}
 use Prim.Native.Nat.{ℕ, _+_, _*_, _%_, _≤_, _<_}
 use native.Mathlib.Omega.{arith}
 use native.Mathlib.Nat.{mul-le-mul-right}
@@ -21,7 +21,7 @@ use Rattle.model.specs.declared.AppendClaimReply.{AppendClaimReply}
 use Rattle.model.specs.Bytes.{word, long}
 use Rattle.model.specs.FrameDescriptor.{space}
 use Rattle.model.specs.LogBufferDescriptor.{biased, readingOf, sound, Sound}
-use Rattle.model.specs.TermAppender.{fragment, written, cut, need, claimed, course, movedBy, bytesBy, replyBy, goodMessage, goodFragments, unfragmentedCourse, fragmentedCourse, unfragmentedReply, unfragmentedBytes, fragmentedReply, fragmentedBytes, claimAppendedBy, claimAppendReply, claimAppendBytes}
+use Rattle.model.specs.TermAppender.{fragment, written, cut, need, claimed, course, bytesBy, replyBy, goodMessage, goodFragments, unfragmentedCourse, fragmentedCourse, unfragmentedReply, unfragmentedBytes, fragmentedReply, fragmentedBytes, claimAppendedBy, claimAppendReply, claimAppendBytes}
 use Rattle.model.proofs.Cut.{need-one, cut-one}
 use Rattle.model.proofs.Sound.{sound-true}
 use Rattle.model.proofs.Both.{and-true}

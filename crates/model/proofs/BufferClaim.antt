@@ -1,7 +1,7 @@
 -- A claim located: where each refusal comes from, what a span says, and what commit and abort make of it.
-use mathlib.Core.Path.{_≡_, refl, sym, ap, ap₂, _∙_, subst}
-use mathlib.Core.Bool.{Bool, true, false, cond, _&&_}
-use Prim.Native.Nat.{ℕ, _+_, _-_, _*_, _%_, _≤_}
+use mathlib.Core.Path.{_≡_, refl, sym, ap, ap₂, _∙_}
+use mathlib.Core.Bool.{Bool, true, false, cond}
+use Prim.Native.Nat.{ℕ, _+_, _-_, _%_, _≤_}
 use native.Mathlib.Omega.{arith}
 use borrow.Author.Tests.{leb-true, eqb-true}
 use mathlib.Core.List.{List}
@@ -15,11 +15,10 @@ use Rattle.model.specs.declared.Error.the-variants.{IllegalArgument, Ill
 use Rattle.model.specs.declared.Verdict.{Verdict}
 use Rattle.model.specs.declared.Verdict.the-variants.{Pass, Refuse}
 use Rattle.model.specs.declared.Outcome.the-variants.{Done, Refused as OutcomeRefused}
-use Rattle.model.specs.declared.Located.{Located}
 use Rattle.model.specs.declared.Located.the-variants.{Span, Refused}
 use Rattle.model.specs.Bytes.{word, splice, le2, le4}
 use Rattle.model.specs.FrameDescriptor.{align}
-use Rattle.model.specs.LogBufferDescriptor.{reading, sound, withinTerm, Sound}
+use Rattle.model.specs.LogBufferDescriptor.{reading, sound, Sound}
 use Rattle.model.specs.Parts.{locatedBy}
 use Rattle.model.specs.BufferClaim.{claimStart, goodClaim, matches, claimCheck, bodyStart, bodyEnd, locateOf, outcomeOf, commitOf, changedBy, commitBytes, abortBytes}
 use Rattle.model.proofs.Sound.{sound-true}

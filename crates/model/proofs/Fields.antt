@@ -1,17 +1,12 @@
 -- Fields read back: the number that was written, and a header's fields (for any header whose fields have their widths).
-use mathlib.Core.Path.{_≡_, refl, sym, ap, ap₂, _∙_}
-use Prim.Native.Nat.{ℕ, _+_, _-_, _*_, _/_, _%_, _≤_, _<_}
-use mathlib.Core.List.{List, [], _∷_, _++_}
+use mathlib.Core.Path.{_≡_, refl, _∙_}
+use Prim.Native.Nat.{ℕ, _+_, _*_, _/_, _%_, _<_}
+use mathlib.Core.List.{List, [], _++_}
 use native.Mathlib.Omega.{arith}
-use lib.ListN.{length, drop, getD}
+use lib.ListN.{length}
 use lib.Pow.{shr-shr}
-use lib.IntN.{ℤ}
-use mir.Syntax.{w32, w64}
-use mir.Val.{SFits, toZ, ofZ}
-use mir.Facts.{toZ-ofZ, fits-ofZ}
-use Rattle.model.specs.Bytes.{le2, le4, le8, u16, u32, u64, i32, i64, word, long, splice}
+use Rattle.model.specs.Bytes.{le2, le4, le8, u16, u32, u64}
 use Rattle.model.specs.DataFrameHeader.{Header, header24, headerBytes, headerAt}
-use Rattle.model.proofs.Splice.{drop-splice}
 
 -- ---- a field at the beginning of a list
 
@@ -34,19 +29,6 @@ u32-le4 n s h = u32-low n s ∙ omega arith
 pub u64-le8 : (n : ℕ) (s : List ℕ) → n < 18446744073709551616 → u64 (le8 n ++ s) ≡ n
 unfolding u64 le8 le4
 u64-le8 n s h = omega (arith, u32-low n (le4 (n / 4294967296) ++ s), u32-le4 (n / 4294967296) s (omega arith))
-
--- ---- the signed view
-
-pub i32-back : (z : ℤ) (s : List ℕ) → SFits w32 z → i32 (le4 (word z) ++ s) ≡ z
-i32-back z s h = ap (toZ w32) (u32-le4 (word z) s (fits-ofZ h .fits)) ∙ toZ-ofZ h
-
-pub i64-back : (z : ℤ) (s : List ℕ) → SFits w64 z → i64 (le8 (long z) ++ s) ≡ z
-i64-back z s h = ap (toZ w64) (u64-le8 (long z) s (fits-ofZ h .fits)) ∙ toZ-ofZ h
-
--- ---- a field laid over a log and read at its place; `take-splice` and `drop-behind` say that the rest is unchanged
-
-pub u32-at : (log : List ℕ) (at n : ℕ) → at ≤ length log → n < 4294967296 → u32 (drop at (splice log at (le4 n))) ≡ n
-u32-at log at n l h = ap u32 (drop-splice log at (le4 n) l) ∙ u32-le4 n _ h
 
 -- ---- a header
 

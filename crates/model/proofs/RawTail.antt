@@ -1,13 +1,12 @@
 -- A raw tail taken apart and put together again, and what a record's changes do to what is read of it.
-use mathlib.Core.Path.{_≡_, refl, sym, ap, _∙_}
+use mathlib.Core.Path.{_≡_, ap, _∙_}
 use Prim.Native.Nat.{ℕ, _+_, _*_, _/_, _%_, _<_}
-use mathlib.Core.List.{List}
 use native.Mathlib.Omega.{arith}
-use lib.ListN.{length, getD, set}
-use lib.Seq.{getD-set-same, getD-set-other}
+use lib.ListN.{length}
+use lib.Seq.{getD-set-same}
 use lib.IntN.{ℤ, pos}
 use mir.Syntax.{w64}
-use mir.Val.{SFits, ofZ, toZ}
+use mir.Val.{SFits, toZ}
 use mir.Facts.{ofZ-toZ, toZ-ofZ, fits-ofZ}
 use Rattle.model.specs.declared.LogRecord.{LogRecord}
 use Rattle.model.specs.Bytes.{long}
@@ -42,7 +41,3 @@ module _ (r : LogRecord) (k id offset : ℕ) where
   pub moved-tail : k < length (r .tails) → tailOf (withTail r k id offset) k ≡ rawOf id offset
   unfolding withTail changed
   moved-tail inside = getD-set-same (r .tails) k (rawOf id offset) (pos 0) inside
-
-  pub other-tail : (j : ℕ) → (j ≡ k → ⊥) → tailOf (withTail r k id offset) j ≡ tailOf r j
-  unfolding withTail changed
-  other-tail j h = getD-set-other (r .tails) k j (rawOf id offset) (pos 0) h

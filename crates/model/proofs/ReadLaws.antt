@@ -1,6 +1,6 @@
 -- `read` by way of the walk that the leaf library offers: what each of its rows answers, with the numbers as its code has them.
 use mathlib.Core.Path.{_≡_, refl, sym, ap, ap₂, _∙_}
-use mathlib.Core.Bool.{Bool, true, false, cond, _&&_}
+use mathlib.Core.Bool.{Bool, true, false, cond, _&&_, _||_}
 use mathlib.Core.List.{List, [], _∷_}
 use Prim.Native.Nat.{ℕ, zero, suc, _+_, _-_, _*_, _/_, _%_, _≤_, _<_}
 use native.Mathlib.Omega.{arith}
@@ -29,40 +29,58 @@ use Rattle.model.proofs.PlaceLaws.{Placed, placed}
 use Rattle.model.proofs.ReaderLaws.{good-walk-by, frames-by}
 use Rattle.model.proofs.Both.{and-true}
 
--- ---- how far a walk goes: not past the term
+-- ---- how far a walk goes and settles: not past the term
 
-handed-moved : (a b whole : Bool) (at n room : ℕ) (w : Walked) → align n ≤ room → w .moved ≤ room - align n
-    → cond a (record { entries = (at + 32, n - 32) ∷ []; fragments = 0; moved = 0; settled = 0 }) (cond b (handed at n whole still) (handed at n whole w)) .moved ≤ room
-handed-moved true b whole at n room w h k = omega arith
-handed-moved false true whole at n room w h k = omega arith
-handed-moved false false whole at n room w h k = omega arith
+abbrev Within : Walked → ℕ → Type 0
+Within w room = (w .moved ≤ room) × (w .settled ≤ room)
 
-either-moved : (b : Bool) (w : Walked) (room : ℕ) → w .moved ≤ room → cond b still w .moved ≤ room
-either-moved true w room h = omega arith
-either-moved false w room h = h
+settled-by : (b : Bool) (size later room : ℕ) → size + later ≤ room → cond b (size + later) 0 ≤ room
+settled-by true size later room h = h
+settled-by false size later room h = omega arith
+
+handed-within : (a b whole : Bool) (at n room : ℕ) (w : Walked) → align n ≤ room → Within w (room - align n)
+    → Within (cond a (record { entries = (at + 32, n - 32) ∷ []; fragments = 0; moved = 0; settled = 0 }) (cond b (handed at n whole still) (handed at n whole w))) room
+handed-within true b whole at n room w h k = (omega arith, omega arith)
+handed-within false true whole at n room w h k = (omega arith, settled-by (whole || ltb 0 0) (align n) 0 room (omega arith))
+handed-within false false whole at n room w h k =
+    let m : w .moved ≤ room - align n = k .0 in
+    let l : w .settled ≤ room - align n = k .1 in
+    (omega arith, settled-by (whole || ltb 0 (w .settled)) (align n) (w .settled) room (omega arith))
+
+either-within : (b : Bool) (w : Walked) (room : ℕ) → Within w room → Within (cond b still w) room
+either-within true w room h = (omega arith, omega arith)
+either-within false w room h = h
 
 module _ (log : List ℕ) (base term at : ℕ) where
-  over-moved : (x : Frame) (whole : Bool) (limit : ℕ) (acts : List ℕ) (go : ℕ → ℕ → List ℕ → Walked) → frameAt (drop (base + at) log) (term - at) ≡ x
-      → ((a l : ℕ) (more : List ℕ) → go a l more .moved ≤ term - a) → over x whole at limit acts go .moved ≤ term - at
-  over-moved Absent whole limit acts go e h = omega arith
-  over-moved Unsound whole limit acts go e h = omega arith
-  over-moved (Padding n) whole limit acts go e h =
+  over-within : (x : Frame) (whole : Bool) (limit : ℕ) (acts : List ℕ) (go : ℕ → ℕ → List ℕ → Walked) → frameAt (drop (base + at) log) (term - at) ≡ x
+      → ((a l : ℕ) (more : List ℕ) → Within (go a l more) (term - a)) → Within (over x whole at limit acts go) (term - at)
+  over-within Absent whole limit acts go e h = (omega arith, omega arith)
+  over-within Unsound whole limit acts go e h = (omega arith, omega arith)
+  over-within (Padding n) whole limit acts go e h =
       let k : Lies n (term - at) = lies (drop (base + at) log) (term - at) (Padding n) e refl in
       let m = h (at + align n) (suc limit) acts in
-      omega (arith, k .inside)
-  over-moved (Data n) whole limit acts go e h =
+      (omega (arith, k .inside, m .0), omega (arith, k .inside, m .1))
+  over-within (Data n) whole limit acts go e h =
       let k : Lies n (term - at) = lies (drop (base + at) log) (term - at) (Data n) e refl in
-      let m : go (at + align n) limit (restActions acts) .moved ≤ term - at - align n = omega (arith, h (at + align n) limit (restActions acts)) in
-      handed-moved (eqb (nextAction acts) 1) (eqb (nextAction acts) 2) whole at n (term - at) (go (at + align n) limit (restActions acts)) (k .inside) m
+      let w = h (at + align n) limit (restActions acts) in
+      let m : go (at + align n) limit (restActions acts) .moved ≤ term - at - align n = omega (arith, w .0) in
+      let l : go (at + align n) limit (restActions acts) .settled ≤ term - at - align n = omega (arith, w .1) in
+      handed-within (eqb (nextAction acts) 1) (eqb (nextAction acts) 2) whole at n (term - at) (go (at + align n) limit (restActions acts)) (k .inside) (m, l)
+
+walk-within : (fuel : ℕ) (log : List ℕ) (base term end at limit : ℕ) (acts : List ℕ) → Within (walk fuel log base term end at limit acts) (term - at)
+unfolding walk
+walk-within zero log base term end at limit acts = (omega arith, omega arith)
+walk-within (suc fuel) log base term end at zero acts = (omega arith, omega arith)
+walk-within (suc fuel) log base term end at (suc limit) acts =
+    either-within (leb end at) _ (term - at)
+    (over-within log base term at (frameAt (drop (base + at) log) (term - at)) _ limit acts (λ a l more. walk fuel log base term end a l more) refl
+    (λ a l more. walk-within fuel log base term end a l more))
 
 pub walk-moved : (fuel : ℕ) (log : List ℕ) (base term end at limit : ℕ) (acts : List ℕ) → walk fuel log base term end at limit acts .moved ≤ term - at
-unfolding walk
-walk-moved zero log base term end at limit acts = omega arith
-walk-moved (suc fuel) log base term end at zero acts = omega arith
-walk-moved (suc fuel) log base term end at (suc limit) acts =
-    either-moved (leb end at) _ (term - at)
-    (over-moved log base term at (frameAt (drop (base + at) log) (term - at)) _ limit acts (λ a l more. walk fuel log base term end a l more) refl
-    (λ a l more. walk-moved fuel log base term end a l more))
+walk-moved fuel log base term end at limit acts = walk-within fuel log base term end at limit acts .0
+
+pub walk-settled : (fuel : ℕ) (log : List ℕ) (base term end at limit : ℕ) (acts : List ℕ) → walk fuel log base term end at limit acts .settled ≤ term - at
+walk-settled fuel log base term end at limit acts = walk-within fuel log base term end at limit acts .1
 
 -- ---- the rows of `read`
 

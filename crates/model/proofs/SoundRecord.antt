@@ -1,5 +1,5 @@
 -- Row 2 of a record alone: it is that of a log of the right length.
-use mathlib.Core.Path.{_≡_, refl, sym, ap, _∙_}
+use mathlib.Core.Path.{_≡_, refl, ap, _∙_}
 use mathlib.Core.Bool.{Bool, true, false, _&&_}
 use Prim.Native.Nat.{ℕ, _*_, _%_, _≤_}
 use borrow.Author.Tests.{le-leb, eq-eqb}
@@ -31,14 +31,6 @@ sound-record-true v h = sound-true v (3 * v .term) (sound-whole v ∙ h)
 
 pub not-sound-record : (v : Reading) → (Sound v (3 * v .term) → ⊥) → false ≡ soundRecord v
 not-sound-record v never = not-sound v (3 * v .term) never ∙ sound-whole v
-
-pub sound-record : (v : Reading) (n : ℕ) → sound v n ≡ true → soundRecord v ≡ true
-unfolding sound
-sound-record v n h = go (soundRecord v) refl h
-  where
-    go : (b : Bool) → soundRecord v ≡ b → (b && eqb n (3 * v .term)) ≡ true → soundRecord v ≡ true
-    go true e k = e
-    go false e k = e ∙ k
 
 -- where all but the last range holds
 pub sound-record-by : (v : Reading) → 65536 ≤ v .term → v .term ≤ 1073741824 → ones (v .term) ≡ 1 → 64 ≤ v .mtu → v .mtu ≤ 65504 → v .mtu % 32 ≡ 0 → 2 ≤ v .initial

@@ -1,6 +1,6 @@
 -- What writing does to a log that is the bytes of frames: frames put behind the last, a header laid on zeros, a frame changed in place.
 use mathlib.Core.Path.{_≡_, refl, sym, ap, ap₂, _∙_, subst}
-use Prim.Native.Nat.{ℕ, zero, suc, _+_, _-_, _*_, _/_, _%_, _≤_, _<_, min}
+use Prim.Native.Nat.{ℕ, zero, _+_, _-_, _*_, _/_, _%_, _≤_, _<_}
 use native.Mathlib.Nat.{le-of-lt, le-refl}
 use mathlib.Core.List.{List, [], _∷_, _++_, append-assoc, append-nil}
 use native.Mathlib.Omega.{arith}
@@ -8,16 +8,15 @@ use lib.ListN.{length, take, drop, length-append, length-take, length-drop, take
 use lib.Seq.{length-take-le}
 use lib.Arith.{digits-mod, digits-div}
 use Rattle.model.specs.declared.Reading.{Reading}
-use Rattle.model.specs.Bytes.{zeros, splice, le2, le4, le8, u32}
+use Rattle.model.specs.Bytes.{zeros, splice, le2, le4, le8}
 use Rattle.model.specs.FrameDescriptor.{align, space}
 use Rattle.model.specs.DataFrameHeader.{header24}
 use Rattle.model.specs.LogBufferDescriptor.{biased}
 use Rattle.model.specs.TermAppender.{header, Fragment, fragment, bodyOf, fragmentBytes, written}
 use Rattle.model.specs.History.{Shape, shapeOf, State, open·, committed, aborted, overlay}
 use Rattle.model.proofs.Choice.{split}
-use Rattle.model.proofs.Fields.{u32-le4}
 use Rattle.model.proofs.Splice.{length-zeros, zeros-add, splice-mid, splice-zeros}
-use Rattle.model.proofs.Cells.{Cell, cell, stateOf, stored, typ, head, flen, fsize, solidAt, solid, enc, bytes, sizes, length-head, length-solid, length-enc, flen-ge, fsize-ge}
+use Rattle.model.proofs.Cells.{Cell, cell, stored, typ, head, flen, fsize, solidAt, solid, enc, bytes, sizes, length-head, length-solid, length-enc, flen-ge, fsize-ge}
 use Rattle.model.proofs.Walking.{Small, AllSmall, Fits, norm}
 use Rattle.model.proofs.Replaying.{norm-pos, room-next}
 use Rattle.model.proofs.OneSession.{cellOf, cells}
@@ -227,8 +226,3 @@ module _ (c : Shape) (p fl re : ℕ) (x b r : List ℕ) (e : length x ≡ p) whe
       ∙ ap (λ (t : List ℕ). x ++ parts c p (stored k (length b + 32)) fl (typ k) re t) (sym (append-assoc n (drop (length new) b) (slack (length b) ++ r)))
       ∙ ap (λ (m : ℕ). x ++ parts c p (stored k (m + 32)) fl (typ k) re (overlay b new ++ (slack m ++ r))) lo
       ∙ ap (λ (t : List ℕ). x ++ t) (sym (by-parts c p k fl re (overlay b new) r))
-
--- the id that a lending, a commit or an abort looks at
-pub id-enc : (c : Shape) (p : ℕ) (f : Cell) (r : List ℕ) → u32 (drop 20 (enc c p f ++ r)) ≡ biased (c .initial + p / c .term)
-unfolding enc solid solidAt head header24 le4 le2 le8 u32
-id-enc c p f r = u32-le4 (biased (c .initial + p / c .term)) [] (omega arith)

@@ -1,3 +1,4 @@
+-- Case by case on the last reply.
 use mathlib.Core.Path.{sym, ap}
 use Rattle.model.specs.declared.Replayed.{Replayed}
 use Rattle.replay.specs.Replays.{countedBy}

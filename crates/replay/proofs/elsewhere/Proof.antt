@@ -1,3 +1,4 @@
+-- Case by case on the assembler's answer.
 use mathlib.Core.Path.{sym, ap, _∙_}
 use Rattle.replay.specs.Replays.{elsewhereOn, elsewhereBy}
 use borrow.Author.Needs.{needs}

@@ -1,3 +1,4 @@
+-- A poll with room for one entry; the entry is the first of what it wrote.
 use mathlib.Core.Path.{ap, _∙_}
 use mathlib.Core.List.{List}
 use lib.ListN.{getD}

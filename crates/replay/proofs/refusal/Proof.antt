@@ -1,3 +1,4 @@
+-- Case by case on the poll's answer.
 use mathlib.Core.Path.{sym, ap}
 use Rattle.replay.specs.Replays.{refusalBy}
 use borrow.Author.Needs.{needs}

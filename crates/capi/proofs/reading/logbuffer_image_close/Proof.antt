@@ -1,3 +1,4 @@
+-- The call's promise, carried into the reply.
 use mathlib.Core.Path.{_≡_, ap, _∙_}
 use lib.IntN.{ℤ}
 use mir.Syntax.{w32}

@@ -1,3 +1,4 @@
+-- The call's promise, carried into the reply; signed arguments that were handed on are those given.
 use mathlib.Core.Path.{ap, _∙_}
 use lib.IntN.{ℤ}
 use Rattle.replay.specs.Replays.{countOf}

@@ -1,3 +1,4 @@
+-- The call's promise, carried into the reply; signed arguments that were handed on are those given.
 use mathlib.Core.Path.{_∙_, ap₂}
 use lib.IntN.{ℤ, pos}
 use Rattle.model.specs.Image.{newImage, Image}

@@ -1,3 +1,4 @@
+-- Case by case on the answer; a refusal's number is that of its error.
 use mathlib.Core.Path.{_≡_, ap, sym, _∙_}
 use mathlib.Core.Bool.{true, false}
 use lib.IntN.{ℤ, pos}

@@ -1,3 +1,4 @@
+-- The call's promise, carried into the reply.
 use mathlib.Core.Path.{ap, _∙_}
 use Rattle.capi.specs.Replies.{positionReply}
 use borrow.Author.Needs.{needs}

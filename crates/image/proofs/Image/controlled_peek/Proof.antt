@@ -22,7 +22,8 @@ use Rattle.logbuffer.proofs.Signed.{long-by}
 use Rattle.image.specs.Images.{stateOf}
 use Rattle.image.proofs.Rungs.{Readable}
 use Rattle.image.proofs.Polls.{frames-unsound, frames-walked}
-use Rattle.image.proofs.Peeks.{walk-settled, reach-readable, reach-new, as-peek}
+use Rattle.model.proofs.ReadLaws.{walk-settled}
+use Rattle.image.proofs.Peeks.{reach-readable, reach-new, as-peek}
 use borrow.Author.Needs.{needs}
 use Rattle.image.proofs.Image.controlled_peek.Statement.{statement}
 use Rattle.image.proofs.Image.controlled_peek.Tie as tie

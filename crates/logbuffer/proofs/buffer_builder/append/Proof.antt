@@ -1,3 +1,4 @@
+-- The copy lies inside the buffer.
 use lib.ListN.{length}
 use Rattle.logbuffer.proofs.Sessions.{part-in}
 use native.Mathlib.Omega.{arith}

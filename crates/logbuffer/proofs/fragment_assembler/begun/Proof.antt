@@ -1,3 +1,4 @@
+-- The tests pick the case of `joining` at a begin frame.
 use lib.Dec.{ltb}
 use Rattle.model.specs.declared.Joining.the-variants.{Full}
 use borrow.Author.Tests.{lt-ltb, le-ltb}

@@ -1,3 +1,4 @@
+-- The tests pick the case of `joining` at a frame that begins nothing.
 use Prim.Native.Nat.{_+_}
 use mathlib.Core.Path.{sym, _∙_}
 use mathlib.Core.Bool.{cond}

@@ -1,3 +1,4 @@
+-- What is held at a place among those entered.
 use lib.ListN.{length-map, length, List·getD-eq-default}
 use Prim.Native.Nat.{ℕ}
 use native.Mathlib.Omega.{arith}

@@ -1,3 +1,4 @@
+-- The flags pick the case; the rest is `begun` or `continued`.
 use mathlib.Core.Path.{sym, ap, ap₂, _∙_}
 use Prim.Native.Nat.{ℕ}
 use lib.ListN.{getD}

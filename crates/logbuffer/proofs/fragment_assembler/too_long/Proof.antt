@@ -1,3 +1,4 @@
+-- The test is the definition.
 use Rattle.logbuffer.proofs.Sessions.{long-by}
 use Prim.Native.Nat.{_+_}
 use borrow.Author.Tests.{lt-ltb}

@@ -1,3 +1,4 @@
+-- Both parts are made fresh.
 use mathlib.Core.Path.{ap, _∙_}
 use lib.IntN.{pos}
 use mir.Facts.{toZ-ofZ}

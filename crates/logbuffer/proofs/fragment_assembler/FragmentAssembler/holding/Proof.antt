@@ -1,3 +1,4 @@
+-- What is held at a place among those entered.
 use Rattle.logbuffer.specs.Assembler.{sessionsOf}
 use Rattle.model.specs.FragmentAssembler.{holding}
 use lib.IntN.{ℤ}
