@@ -26,14 +26,14 @@
  *
  * An example
  *
- *   static uint8_t log[3 * 65536], buffer[16 * 8192];
- *   struct logbuffer_record_reply r = logbuffer_open(log, sizeof log, 65536, 1408, 7, 11, 22);
+ *   static uint8_t bytes[3 * 65536], buffer[16 * 8192];
+ *   struct logbuffer_record_reply r = logbuffer_open(bytes, sizeof bytes, 65536, 1408, 7, 11, 22);
  *   r = logbuffer_set_publication_limit(r.next, 1 << 20);
- *   struct logbuffer_offer_reply o = logbuffer_offer(r.next, log, sizeof log, (const uint8_t *)"coin", 4, 0);
+ *   struct logbuffer_offer_reply o = logbuffer_offer(r.next, bytes, sizeof bytes, (const uint8_t *)"coin", 4, 0);
  *   // o.code is 0, o.position 64; the next call takes o.next
  *   struct logbuffer_replay replay = logbuffer_replay_new(11);
- *   struct logbuffer_next_reply n = logbuffer_replay_next(replay, o.next, log, sizeof log, buffer, sizeof buffer);
- *   // n.place is LOGBUFFER_IN_LOG, and log[n.start .. n.start + n.length) is "coin"
+ *   struct logbuffer_next_reply n = logbuffer_replay_next(replay, o.next, bytes, sizeof bytes, buffer, sizeof buffer);
+ *   // n.place is LOGBUFFER_IN_LOG, and bytes[n.start .. n.start + n.length) is "coin"
  */
 #ifndef LOGBUFFER_H
 #define LOGBUFFER_H
