@@ -6,6 +6,7 @@ use lib.IntN.{ℤ, pos, negsuc}
 use lib.ListN.{getD, length}
 use Rattle.model.specs.Answers.{Told, outcomeTold, positionedTold, offeredTold, claimedTold, locatedTold, appendedTold, appendedClaimTold, headerTold, readTold, scannedTold, gapTold, availabilityTold, polledTold, peekedTold, blockTold, endTold, assembledTold, replayedTold}
 use Rattle.model.specs.Errors.{numberOf}
+use Rattle.model.specs.TermReader.{natural}
 use Rattle.model.specs.FragmentAssembler.{Sessions}
 use Rattle.model.specs.Replay.{ReplayState}
 use Rattle.model.specs.declared.LogRecord.{LogRecord}
@@ -69,16 +70,12 @@ use Rattle.capi.specs.declared.replies.CountReply.{CountReply}
 abbrev pub value : ℕ → Told → ℤ
 value i t = getD (t .values) i (pos 0)
 
-abbrev pub whole : ℤ → ℕ
-whole (pos n) = n
-whole (negsuc n) = 0
-
 abbrev pub negative : ℤ → Bool
 negative (pos n) = false
 negative (negsuc n) = true
 
 abbrev pub size : ℕ → Told → ℕ
-size i t = whole (value i t)
+size i t = natural (value i t)
 
 -- ---- the record's calls
 

@@ -1,4 +1,4 @@
-// The publication above the leaf library, of which it knows only the promises: an offer.
+// The publication above the leaf library, of which it knows only the promises: offers and claims. Read judge next.
 ghost use mathlib.Core.Path.{_≡_};
 ghost use Prim.Native.Nat.{_+_, _%_, _≤_, _<_};
 ghost use lib.ListN.{length as lengthOf};
