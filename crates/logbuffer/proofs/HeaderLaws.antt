@@ -1,16 +1,12 @@
 -- A header's fields read one by one are the fields of the header, with their signs.
-use mathlib.Core.Path.{_≡_, refl, sym, ap, ap₂, _∙_}
-use Prim.Native.Nat.{ℕ, _+_, _<_}
-use mathlib.Core.List.{List}
-use lib.ListN.{drop}
-use lib.Seq.{drop-drop}
+use mathlib.Core.Path.{_≡_, ap, ap₂, _∙_}
+use Prim.Native.Nat.{ℕ, _<_}
 use lib.IntN.{ℤ, _+ℤ_}
 use mir.Syntax.{w32, w64}
 use mir.Val.{Fits, SFits, toZ, ofZ}
 use mir.Facts.{toZ-ofZ, ofZ-toZ}
 use Rattle.model.specs.declared.Reading.{Reading}
 use Rattle.model.specs.declared.HeaderFields.{HeaderFields}
-use Rattle.model.specs.Bytes.{u32}
 use Rattle.model.specs.DataFrameHeader.{Header}
 use Rattle.model.specs.LogBufferDescriptor.{biased, positionOf}
 use Rattle.model.specs.TermReader.{alignℤ, fieldsOf}

@@ -1,12 +1,12 @@
 -- The reply built from a way is the appenders' reply; what good arguments say; and the ways by the numbers that the code has.
-use mathlib.Core.Path.{_≡_, refl, sym, ap, _∙_}
+use mathlib.Core.Path.{_≡_, refl, sym, ap}
 use mathlib.Core.Logic.{⊎-elim}
 use mathlib.Core.Bool.{Bool, true, false, cond}
 use mathlib.Core.List.{List, [], _∷_}
 use Prim.Native.Nat.{ℕ, _+_, _*_, _%_, _≤_, _<_}
 use native.Mathlib.Omega.{arith}
 use borrow.Author.Tests.{leb-true, eqb-true, ltb-true}
-use lib.Dec.{eqb, leb, ltb}
+use lib.Dec.{eqb, leb}
 use lib.IntN.{pos}
 use lib.ListN.{length}
 use types.Run.{OneOf}
@@ -17,7 +17,7 @@ use Rattle.model.specs.declared.Error.the-variants.{IllegalArgument}
 use Rattle.model.specs.declared.Course.{Course}
 use Rattle.model.specs.declared.Course.the-variants.{Refuse, Stray, Trip, Fit}
 use Rattle.model.specs.FrameDescriptor.{space}
-use Rattle.model.specs.LogBufferDescriptor.{rawOf, withTail, changed}
+use Rattle.model.specs.LogBufferDescriptor.{rawOf, withTail}
 use Rattle.model.specs.TermAppender.{cut, need, written, claimed, course, movedBy, bytesBy, appendedBy, goodMessage}
 use Rattle.model.proofs.Both.{and-true}
 use Rattle.model.proofs.Course.{the-type}

@@ -3,13 +3,12 @@
 ghost use mathlib.Core.Path.{_≡_};
 ghost use mathlib.Core.Bool.{cond, _||_};
 ghost use lib.Dec.{eqb, leb, ltb};
-ghost use Prim.Native.Nat.{_+_, _-_, _*_, _/_, _≤_, _<_, min};
-ghost use lib.ListN.{length, take, drop, getD};
+ghost use Prim.Native.Nat.{_+_, _-_, _*_, _/_, _≤_, _<_};
+ghost use lib.ListN.{length, drop, getD};
 ghost use Rattle.model.specs.declared.Joining.the-variants.{Through, Ignore, Full, TooLong, Join, Complete};
-ghost use Rattle.model.specs.Bytes.{word, u32 as wordAt, i32 as signedAt};
-ghost use Rattle.model.specs.FrameDescriptor.{flagsAt, unsoundLength};
-ghost use Rattle.model.specs.LogBufferDescriptor.{reading};
-ghost use Rattle.model.specs.FragmentAssembler.{fresh, entered as enteredOf, placeOf, holding as holdingOf, joining as joiningOf, goodFrame, goodAssembly, assembleVerdict, assembleOf, joinedAt, sessionsBy, bufferBy, assembledBy};
+ghost use Rattle.model.specs.Bytes.{word, u32 as wordAt};
+ghost use Rattle.model.specs.FrameDescriptor.{unsoundLength};
+ghost use Rattle.model.specs.FragmentAssembler.{fresh, entered as enteredOf, placeOf, holding as holdingOf, joining as joiningOf, goodFrame, goodAssembly, assembleVerdict, assembleOf, joinedAt};
 ghost use Rattle.logbuffer.specs.Assembler.{sessionsOf};
 use crate::argument;
 use crate::buffer_builder;

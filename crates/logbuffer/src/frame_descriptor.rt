@@ -3,7 +3,7 @@ ghost use mathlib.Core.Path.{_≡_};
 ghost use Prim.Native.Nat.{_+_, _/_, _≤_, _<_, min};
 ghost use lib.ListN.{length, drop, getD};
 ghost use Rattle.model.specs.Bytes.{word, u16 as halfOf, u32 as wordOf};
-ghost use Rattle.model.specs.FrameDescriptor.{frameLength, frameBy, frameAt, flagsAt, ends};
+ghost use Rattle.model.specs.FrameDescriptor.{frameLength, frameAt, flagsAt, ends};
 use crate::cast;
 use crate::field;
 use model::Frame;

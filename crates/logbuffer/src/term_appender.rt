@@ -4,7 +4,7 @@ ghost use Prim.Native.Nat.{_+_, _*_, _%_, _≤_, _<_};
 ghost use lib.ListN.{length};
 ghost use Rattle.model.specs.Bytes.{word, long};
 ghost use Rattle.model.specs.FrameDescriptor.{space};
-ghost use Rattle.model.specs.LogBufferDescriptor.{biased, readingOf};
+ghost use Rattle.model.specs.LogBufferDescriptor.{biased};
 ghost use Rattle.model.specs.TermAppender.{cut, need, written, claimed, course, movedBy, bytesBy, appendedBy, goodMessage, goodFragments, unfragmentedReply, unfragmentedBytes, fragmentedReply, fragmentedBytes, claimRecord, claimAppendedBy, claimAppendReply, claimAppendBytes};
 ghost use Rattle.model.proofs.Append.{Room, appendReply, appendBytes};
 ghost use Rattle.logbuffer.specs.Ways.{wayBy, goodAppend, courseOf, goodClaiming, claimCourse};

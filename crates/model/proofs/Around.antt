@@ -1,21 +1,20 @@
 -- A history's sizes, and the history around a claim: where a claim's extent begins, what an edit changes there.
 use mathlib.Core.Path.{_≡_, refl, sym, ap, ap₂, _∙_, subst}
 use mathlib.Core.Logic.{_⊎_, inl, inr}
-use Prim.Native.Nat.{ℕ, zero, suc, _+_, _-_, _*_, _%_, _≤_, _<_}
+use Prim.Native.Nat.{ℕ, zero, _+_, _-_, _%_, _≤_, _<_}
 use mathlib.Core.List.{List, [], _∷_, _++_, append-assoc, append-nil}
 use native.Mathlib.Omega.{arith}
 use lib.ListN.{length}
-use Rattle.model.specs.declared.Claim.{Claim}
 use Rattle.model.specs.Bytes.{long, zeros}
-use Rattle.model.specs.FrameDescriptor.{align, space}
-use Rattle.model.specs.TermAppender.{Fragment, fragment, bodyOf, need, cut}
+use Rattle.model.specs.FrameDescriptor.{space}
+use Rattle.model.specs.TermAppender.{Fragment, fragment, need, cut}
 use Rattle.model.specs.History.{Shape, State, Extent, message, claimed·, padding, sizeOf, sizeAll, edit}
 use Rattle.model.proofs.Choice.{le-yes, le-no}
 use Rattle.model.proofs.Splice.{length-zeros}
 use Rattle.model.proofs.Cut.{need-is}
 use Rattle.model.proofs.Cut as Cut
-use Rattle.model.proofs.Cells.{Cell, cell, flen, fsize, sizes, sizes-append}
-use Rattle.model.proofs.OneSession.{cellOf, cells, frames, flat}
+use Rattle.model.proofs.Cells.{Cell, flen, fsize, sizes, sizes-append}
+use Rattle.model.proofs.OneSession.{cells, frames, flat}
 
 -- ---- sizes
 

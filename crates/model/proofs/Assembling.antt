@@ -2,13 +2,13 @@
 use mathlib.Core.Path.{_≡_, refl, sym, ap, ap₂, _∙_, subst}
 use mathlib.Core.Bool.{Bool, true, false, cond, _&&_, _||_}
 use mathlib.Core.Logic.{_⊎_, inl, inr, ⊎-elim}
-use Prim.Native.Nat.{ℕ, zero, suc, _+_, _-_, _*_, _/_, _%_, _≤_, _<_, min}
+use Prim.Native.Nat.{ℕ, _+_, _*_, _%_, _≤_, _<_, min}
 use mathlib.Core.List.{List, [], _∷_, _++_, append-assoc, append-nil}
 use native.Mathlib.Omega.{arith}
 use borrow.Author.Tests.{ltb-false, eqb-false}
 use lib.Dec.{leb, ltb, eqb}
-use lib.ListN.{length, take, drop, getD, set, length-append, length-set}
-use lib.Seq.{take-at, length-take-le, getD-set-same}
+use lib.ListN.{length, take, drop, getD, length-append, length-set}
+use lib.Seq.{take-at, getD-set-same}
 use lib.IntN.{ℤ, pos}
 use mir.Syntax.{w32}
 use mir.Val.{toZ}
@@ -21,7 +21,7 @@ use Rattle.model.specs.Replay.{handedOut}
 use Rattle.model.specs.History.{Shape}
 use Rattle.model.proofs.Choice.{cond-both, eq-yes}
 use Rattle.model.proofs.Splice.{length-splice}
-use Rattle.model.proofs.OneSession.{Asm, gives, keeps, loses, take-in}
+use Rattle.model.proofs.OneSession.{Asm, gives, keeps, take-in}
 
 -- the session that a log's frames carry
 abbrev pub sid : Shape → ℤ

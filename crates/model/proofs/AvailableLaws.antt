@@ -1,23 +1,21 @@
 -- `scan_for_availability`, turn by turn. `Availing` is what its loop keeps, with the fuel hidden.
-use mathlib.Core.Path.{_≡_, refl, sym, ap, ap₂, _∙_}
+use mathlib.Core.Path.{_≡_, refl, sym, ap, _∙_}
 use mathlib.Core.Logic.{_⊎_, inl, inr, ⊎-elim}
 use mathlib.Core.Bool.{Bool, true, false, cond}
 use mathlib.Core.List.{List}
-use Prim.Native.Nat.{ℕ, zero, suc, _+_, _-_, _*_, _/_, _%_, _≤_, _<_}
+use Prim.Native.Nat.{ℕ, zero, suc, _+_, _-_, _*_, _≤_, _<_}
 use native.Mathlib.Omega.{arith}
 use borrow.Author.Tests.{le-leb, lt-leb, lt-ltb, le-ltb}
-use lib.Dec.{leb, ltb}
-use lib.ListN.{length, drop}
+use lib.ListN.{drop}
 use lib.IntN.{pos}
 use Rattle.model.specs.declared.Error.the-variants.{UnsoundFrame}
 use Rattle.model.specs.declared.Verdict.the-variants.{Pass, Refuse}
 use Rattle.model.specs.declared.Frame.{Frame}
-use Rattle.model.specs.declared.Frame.the-variants.{Absent, Unsound, Padding, Data}
+use Rattle.model.specs.declared.Frame.the-variants.{Absent, Unsound}
 use Rattle.model.specs.declared.AvailabilityScanned.{AvailabilityScanned}
 use Rattle.model.specs.declared.AvailabilityScanned.the-variants.{Outcome, Refused}
-use Rattle.model.specs.FrameDescriptor.{align, frameAt, isUnsound}
+use Rattle.model.specs.FrameDescriptor.{frameAt, isUnsound}
 use Rattle.model.specs.TermScan.{Available, counted, availableOver, availableFrom, availabilityBy}
-use Rattle.model.proofs.FrameLaws.{Lies, lies}
 
 -- the two numbers as one
 abbrev pub outcome : ℕ → ℕ → AvailabilityScanned

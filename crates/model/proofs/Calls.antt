@@ -1,11 +1,11 @@
 -- Every call keeps the invariant: offers and claims, accepted, refused and tripped.
 use mathlib.Core.Path.{_≡_, refl, sym, ap, ap₂, _∙_, subst}
-use mathlib.Core.Bool.{Bool, true, false, cond, not, _||_, _&&_}
-use Prim.Native.Nat.{ℕ, zero, suc, _+_, _-_, _*_, _/_, _%_, _≤_, _<_, min}
-use native.Mathlib.Nat.{mod-eq-of-lt, mul-le-mul-right, mul-le-mul-left, div-add-mod'}
+use mathlib.Core.Bool.{Bool, true, false, cond, not}
+use Prim.Native.Nat.{ℕ, _+_, _*_, _%_, _≤_, _<_, min}
+use native.Mathlib.Nat.{mod-eq-of-lt, mul-le-mul-right}
 use mathlib.Core.List.{List, [], _∷_, _++_}
 use native.Mathlib.Omega.{arith}
-use borrow.Author.Tests.{lt-ltb, ltb-true, ltb-false, leb-true, leb-false, eqb-true, eqb-false, eq-eqb, not-true, not-false}
+use borrow.Author.Tests.{lt-ltb, ltb-true, ltb-false, leb-true, leb-false, eq-eqb, not-true}
 use lib.Dec.{leb, ltb, eqb}
 use lib.ListN.{length}
 use lib.IntN.{ℤ, pos}
@@ -16,16 +16,14 @@ use Rattle.model.specs.declared.Error.{Error}
 use Rattle.model.specs.declared.Error.the-variants.{IllegalArgument, IllegalRecord, ExceedsMaxPayloadLength, PublicationClosed, AdminAction, MaxPositionExceeded, BackPressured, NotConnected, ExceedsMaxMessageLength, TailOverflow, LastTerm}
 use Rattle.model.specs.declared.Verdict.{Verdict}
 use Rattle.model.specs.declared.Verdict.the-variants.{Pass, Refuse}
-use Rattle.model.specs.declared.Offered.{Offered}
 use Rattle.model.specs.declared.Offered.the-variants.{Position as OfferPosition, Refused as OfferRefused}
-use Rattle.model.specs.declared.Claimed.{Claimed}
 use Rattle.model.specs.declared.Claimed.the-variants.{Position as ClaimPosition, Refused as ClaimRefused}
 use Rattle.model.specs.Bytes.{word, long, zeros}
 use Rattle.model.specs.FrameDescriptor.{space}
 use Rattle.model.specs.LogBufferDescriptor.{reading, readingOf, active, payloadLimit, messageLimit, greatest, sound, lastTerm, withTail, rotated}
-use Rattle.model.specs.TermAppender.{need, written, cut, padded, claimed, claimRecord}
+use Rattle.model.specs.TermAppender.{written, cut, padded, claimed, claimRecord}
 use Rattle.model.specs.Publication.{place, pressed, afterClosed, tailRoom, fits, onTrip, tripError, tripNext, appendNext, tooLong, needOf, beforeAppend, offerVerdict, offeredBy, nextBy, logBy, offerOf, offerBytes, claimVerdict, claimedBy, claimOf, claimBytes}
-use Rattle.model.specs.History.{Call, offer, claim, Answer, offered, outcome, World, Step, step, Shape, shapeOf, Extent, message, claimed·, open·, sizeAll, isTrip, padTo, afterRefusal, tell, learn}
+use Rattle.model.specs.History.{Call, offer, claim, Answer, offered, World, Step, step, Shape, shapeOf, Extent, message, claimed·, open·, sizeAll, isTrip, padTo, afterRefusal, tell, learn}
 use Rattle.model.specs.History as History
 use Rattle.model.specs.Demand.{EndAt}
 use Rattle.model.specs.Corollaries.{rare, Usual}
@@ -37,7 +35,7 @@ use Rattle.model.proofs.OneSession.{cells}
 use Rattle.model.proofs.Around.{message-size}
 use Rattle.model.proofs.Tails.{with-tail, Tails, moved-reading, moved-tails, reached}
 use Rattle.model.proofs.Rising.{clash, Through, read-over, over-tails}
-use Rattle.model.proofs.Keeping.{Fixed, Holds, Inv, is-sound, sound-is, offer-holds, offer-ends, claim-holds, claim-ends, trip-holds}
+use Rattle.model.proofs.Keeping.{Holds, Inv, is-sound, sound-is, offer-holds, offer-ends, claim-holds, claim-ends, trip-holds}
 
 abbrev pub Keeps : Shape → List Extent → List Claim → Call → Step → Type 0
 Keeps c h ks y s =

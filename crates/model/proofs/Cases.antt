@@ -1,7 +1,7 @@
 -- The marked positions of document 01, each as a theorem, and a few cases of our own that tell a right definition from a wrong one.
 -- Term 65,536, mtu 96, initial id 7, limit large, tail 0 unless a case says so. Where the log's bytes do not matter, the case holds for
 -- every log of three terms; else the log is empty.
-use Prim.Native.Nat.{ℕ, _-_}
+use Prim.Native.Nat.{ℕ}
 use mathlib.Core.Path.{_≡_, refl, ap, ap₂, _∙_}
 use mathlib.Core.Bool.{Bool, true, false}
 use mathlib.Core.List.{List, [], _∷_, _++_}
@@ -11,7 +11,7 @@ use lib.IntN.{ℤ, pos, negsuc}
 use lib.Count.{ones, onesIn}
 use Rattle.model.specs.declared.LogRecord.{LogRecord}
 use Rattle.model.specs.declared.Claim.{Claim}
-use Rattle.model.specs.Bytes.{le2, le4, le8, u16, u32, i32, splice, zeros}
+use Rattle.model.specs.Bytes.{le2, le4, le8, u16, u32, i32, splice}
 use Rattle.model.specs.Answers.{Told, outcomeTold, positionedTold, offeredTold, claimedTold, polledTold, gapTold, availabilityTold}
 use Rattle.model.specs.FrameDescriptor.{frameLength, frameAt}
 use Rattle.model.specs.DataFrameHeader.{header24}
@@ -19,7 +19,7 @@ use Rattle.model.specs.LogBufferDescriptor.{readingOf, soundRecord, soun
 use Rattle.model.specs.TermAppender.{header, fragmentBytes, written, cutFrom, cut, need, padded, claimed, claimRecord}
 use Rattle.model.specs.BufferClaim.{goodClaim, matches, claimCheck, commitOf, commitBytes, abortBytes}
 use Rattle.model.specs.Publication.{openRecord, positionCall, pressed, afterClosed, beforeAppend, onTrip, appendNext, offerOf, offerBytes, claimVerdict, claimOf, claimBytes}
-use Rattle.model.specs.TermReader.{walk, numbers, laid}
+use Rattle.model.specs.TermReader.{walk}
 use Rattle.model.specs.TermScan.{scanVerdict, rebuild, gapLength, gapJudge, gapOf, availableFrom, availabilityJudge, availabilityOf}
 use Rattle.model.specs.Image.{PollReply, newImage, readable, pollVerdict, pollOf}
 use Rattle.model.proofs.Splice.{drop-splice}

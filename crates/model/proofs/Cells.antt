@@ -1,13 +1,13 @@
 -- Frames as they lie in a log, and their bytes. A log is laid out by position: the frame at position p lies at index p, as long as the
 -- stream is shorter than the three terms, so a list of frames has one run of bytes.
 use mathlib.Core.Path.{_≡_, refl, sym, ap, ap₂, _∙_}
-use Prim.Native.Nat.{ℕ, zero, suc, _+_, _-_, _*_, _/_, _%_, _≤_, _<_}
+use Prim.Native.Nat.{ℕ, _+_, _-_, _/_, _%_, _≤_}
 use mathlib.Core.List.{List, [], _∷_, _++_, append-assoc}
 use native.Mathlib.Omega.{arith}
 use lib.ListN.{length, length-append}
 use Rattle.model.specs.Bytes.{zeros, le2, le4, le8}
 use Rattle.model.specs.FrameDescriptor.{align}
-use Rattle.model.specs.DataFrameHeader.{Header, header24}
+use Rattle.model.specs.DataFrameHeader.{header24}
 use Rattle.model.specs.LogBufferDescriptor.{biased}
 use Rattle.model.specs.History.{Shape, State, open·, committed, aborted}
 use Rattle.model.proofs.Splice.{length-zeros}

@@ -1,15 +1,14 @@
 -- A claim lent and written, committed or aborted: its frame is changed in place, and the history with it.
 use mathlib.Core.Path.{_≡_, refl, sym, ap, ap₂, _∙_, subst}
-use mathlib.Core.Bool.{Bool, true, false, cond, _&&_}
-use Prim.Native.Nat.{ℕ, zero, suc, _+_, _-_, _*_, _/_, _%_, _≤_, _<_, min}
+use mathlib.Core.Bool.{true, false}
+use Prim.Native.Nat.{ℕ, _+_, _-_, _*_, _<_}
 use native.Mathlib.Nat.{zero-add}
 use mathlib.Core.List.{List, [], _∷_, _++_, append-assoc}
 use native.Mathlib.Omega.{arith}
 use borrow.Author.Tests.{eqb-true}
-use lib.Dec.{leb, ltb, eqb}
+use lib.Dec.{eqb}
 use lib.ListN.{length, take, drop}
 use lib.Seq.{drop-at}
-use lib.IntN.{ℤ, pos}
 use Rattle.model.specs.declared.LogRecord.{LogRecord}
 use Rattle.model.specs.declared.Claim.{Claim}
 use Rattle.model.specs.declared.Reading.{Reading}
@@ -19,26 +18,24 @@ use Rattle.model.specs.declared.Verdict.{Verdict}
 use Rattle.model.specs.declared.Verdict.the-variants.{Pass, Refuse}
 use Rattle.model.specs.declared.Outcome.{Outcome}
 use Rattle.model.specs.declared.Outcome.the-variants.{Done, Refused}
-use Rattle.model.specs.declared.Located.{Located}
 use Rattle.model.specs.Bytes.{word, u32, splice, zeros, le2, le4}
-use Rattle.model.specs.FrameDescriptor.{align, space, negated}
+use Rattle.model.specs.FrameDescriptor.{space, negated}
 use Rattle.model.specs.LogBufferDescriptor.{reading, sound}
 use Rattle.model.specs.Parts.{locatedBy}
 use Rattle.model.specs.BufferClaim.{claimStart, goodClaim, matches, claimCheck, bodyStart, bodyEnd, locateOf, outcomeOf, commitOf, changedBy, commitBytes, abortBytes}
-use Rattle.model.specs.History.{Call, offer, claim, fill, commit, abort, Answer, outcome, World, Step, filled, step, Shape, shapeOf, State, open·, committed, aborted, Extent, message, claimed·, padding, sizeAll, startOf, edit, overlay, written·, turned, afterDone, tell, learn}
-use Rattle.model.specs.Demand.{EndAt}
+use Rattle.model.specs.History.{Call, fill, commit, abort, outcome, World, Step, filled, step, Shape, shapeOf, State, open·, committed, aborted, Extent, claimed·, startOf, edit, overlay, written·, turned, afterDone, tell}
 use Rattle.model.specs.Corollaries.{rare, UsualOutcome, Usual}
 use Rattle.model.proofs.Choice.{cond-case}
 use Rattle.model.proofs.Both.{and-true}
 use Rattle.model.proofs.Cells.{Cell, cell, stored, flen, fsize, enc, bytes, sizes, length-bytes, bytes-append, sizes-append}
 use Rattle.model.proofs.Walking.{Small, Fits, norm, u32-enc}
 use Rattle.model.proofs.OneSession.{frames, flat}
-use Rattle.model.proofs.Tails.{Tails, reached}
+use Rattle.model.proofs.Tails.{Tails}
 use Rattle.model.proofs.Writing.{fits-swap, commits, aborts, refills, length-overlay}
 use Rattle.model.proofs.Around.{Pads, size-all, flat-append, At, Around, around, at-swap, pads-swap, pads-front}
 use Rattle.model.proofs.Rising.{clash}
 use Rattle.model.proofs.Keeping.{Known, known-on, Holds, Inv, sound-is}
-use Rattle.model.proofs.Calls.{Keeps, Mild}
+use Rattle.model.proofs.Calls.{Keeps}
 
 still-open : (d : State) (n m : ℕ) → stored d n ≡ 4294967296 - m → n ≡ m → n < 2147483648 → d ≡ open·
 unfolding stored

@@ -1,13 +1,13 @@
 -- The theorems of specs/Corollaries.antt.
-use mathlib.Core.Path.{_≡_, refl, sym, ap, ap₂, _∙_, subst}
+use mathlib.Core.Path.{_≡_, refl, sym, ap, _∙_, subst}
 use mathlib.Core.Bool.{Bool, true, false, cond}
-use mathlib.Core.Logic.{_⊎_, inl, inr}
-use Prim.Native.Nat.{ℕ, zero, suc, _+_, _-_, _*_, _%_, _≤_, _<_}
-use mathlib.Core.List.{List, [], _∷_, _++_}
+use mathlib.Core.Logic.{inl, inr}
+use Prim.Native.Nat.{ℕ, zero, suc, _+_, _-_, _*_, _%_}
+use mathlib.Core.List.{List, [], _∷_}
 use native.Mathlib.Omega.{arith}
-use lib.Dec.{leb, ltb}
+use lib.Dec.{ltb}
 use lib.ListN.{length, drop}
-use lib.IntN.{ℤ, pos}
+use lib.IntN.{ℤ}
 use Rattle.model.specs.declared.LogRecord.{LogRecord}
 use Rattle.model.specs.declared.RecordReply.{RecordReply}
 use Rattle.model.specs.declared.Claim.{Claim}
@@ -18,27 +18,22 @@ use Rattle.model.specs.declared.Verdict.{Verdict}
 use Rattle.model.specs.declared.Verdict.the-variants.{Pass, Refuse}
 use Rattle.model.specs.declared.ReadVerdict.{ReadVerdict}
 use Rattle.model.specs.declared.ReadVerdict.the-variants.{Read, Closed, Refuse as ReadRefuse}
-use Rattle.model.specs.declared.Outcome.{Outcome}
 use Rattle.model.specs.declared.Outcome.the-variants.{Done, Refused}
-use Rattle.model.specs.declared.Offered.{Offered}
 use Rattle.model.specs.declared.Offered.the-variants.{Position as OfferPosition, Refused as OfferRefused}
-use Rattle.model.specs.declared.Claimed.{Claimed}
 use Rattle.model.specs.declared.Claimed.the-variants.{Position as ClaimPosition, Refused as ClaimRefused}
 use Rattle.model.specs.declared.Located.{Located}
 use Rattle.model.specs.declared.Located.the-variants.{Span, Refused as LocatedRefused}
 use Rattle.model.specs.declared.Frame.{Frame}
 use Rattle.model.specs.declared.Frame.the-variants.{Absent, Unsound, Padding, Data}
-use Rattle.model.specs.declared.Polled.{Polled}
-use Rattle.model.specs.declared.Polled.the-variants.{Fragments, Refused as PollRefused}
+use Rattle.model.specs.declared.Polled.the-variants.{Fragments}
 use Rattle.model.specs.Bytes.{word, long}
 use Rattle.model.specs.FrameDescriptor.{align, space, frameAt, flagsAt, ends}
 use Rattle.model.specs.LogBufferDescriptor.{partitionOf, reading, greatest, lastTerm, soundRecord, withLimit, withClosed}
 use Rattle.model.specs.BufferClaim.{claimCheck, locateOf, outcomeOf, commitOf, changedBy, commitBytes, abortBytes}
-use Rattle.model.specs.Publication.{changeOf, place, fits, onTrip, tripError, needOf, offerVerdict, offeredBy, nextBy, logBy, offerOf, offerBytes, claimVerdict, claimedBy, claimOf, claimBytes}
+use Rattle.model.specs.Publication.{changeOf, place, fits, onTrip, tripError, offerVerdict, offeredBy, nextBy, logBy, offerOf, offerBytes, claimVerdict, claimedBy, claimOf, claimBytes}
 use Rattle.model.specs.TermReader.{Walked, still, over, walk, natural, goodEntries, numbers, laid}
-use Rattle.model.specs.Image.{Image, movedTo, pollVerdict, pollReply, PollReply, pollOf}
-use Rattle.model.specs.History.{Call, offer, claim, fill, commit, abort, setLimit, close, Answer, offered, outcome, World, Step, filled, step, isTrip}
-use Rattle.model.specs.History as History
+use Rattle.model.specs.Image.{Image, pollVerdict, pollReply, PollReply, pollOf}
+use Rattle.model.specs.History.{offer, claim, fill, commit, abort, setLimit, close, World, filled, step, isTrip}
 use Rattle.model.specs.Corollaries.{NoTwoAlike, NothingRare, RefusedWith, RefusalsChangeNothing, LieTo, bodiesOf, PollPassed, PollsCountFrames}
 use Rattle.model.proofs.Choice.{le-case}
 use Rattle.model.proofs.Demand as Demand

@@ -1,18 +1,18 @@
 -- A message cut into frames: what is written for it step by step, and that its frames take what it needs.
 use mathlib.Core.Path.{_≡_, refl, sym, ap, ap₂, _∙_, subst}
-use mathlib.Core.Bool.{Bool, true, false, cond}
+use mathlib.Core.Bool.{Bool, cond}
 use Prim.Native.Nat.{ℕ, zero, suc, _+_, _-_, _*_, _/_, _%_, _≤_, _<_}
-use mathlib.Core.List.{List, [], _∷_, _++_}
+use mathlib.Core.List.{List, [], _∷_}
 use native.Mathlib.Omega.{arith}
 use native.Mathlib.Decide.{decLe}
 use native.Mathlib.Nat.{lt-of-not-le, le-of-lt, div-self, mod-self, div-eq-of-lt, mod-eq-of-lt, div-eq-sub-div, mod-eq-sub-mod, div-add-mod', mul-le-mul-left, mod-le}
 use borrow.Author.Tests.{le-leb, lt-leb, eq-eqb, ne-eqb}
-use lib.Dec.{eqb, leb, ltb}
+use lib.Dec.{eqb}
 use lib.ListN.{length, take, drop, length-drop}
 use lib.Seq.{length-take-le}
 use Rattle.model.specs.declared.Reading.{Reading}
 use Rattle.model.specs.Bytes.{splice}
-use Rattle.model.specs.FrameDescriptor.{align, space}
+use Rattle.model.specs.FrameDescriptor.{space}
 use Rattle.model.specs.TermAppender.{Fragment, fragment, bodyOf, fragmentBytes, written, cutFrom, cut, need}
 
 -- what fragments take

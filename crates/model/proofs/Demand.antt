@@ -1,11 +1,10 @@
 -- Demand 3, proved: opening starts the invariant, every call keeps it, and a log that it holds of replays to its history.
-use mathlib.Core.Path.{_≡_, refl, sym, ap, ap₂, _∙_, subst}
-use mathlib.Core.Bool.{Bool, true, false, cond, not, _&&_}
-use Prim.Native.Nat.{ℕ, zero, suc, _+_, _-_, _*_, _/_, _%_, _≤_, _<_, min}
-use mathlib.Core.List.{List, [], _∷_, _++_}
+use mathlib.Core.Path.{_≡_, refl, sym, ap, _∙_, subst}
+use mathlib.Core.Bool.{Bool, true, false, cond, not}
+use Prim.Native.Nat.{ℕ, _+_, _-_, _*_, _%_, _≤_, _<_}
+use mathlib.Core.List.{List, [], _∷_}
 use native.Mathlib.Omega.{arith}
-use borrow.Author.Tests.{ltb-true, eq-eqb, not-false}
-use lib.Dec.{eqb, ltb}
+use borrow.Author.Tests.{ltb-true, eq-eqb}
 use lib.ListN.{length}
 use lib.IntN.{ℤ, pos}
 use lib.Signed.{ltZ}
@@ -14,30 +13,28 @@ use Rattle.model.specs.declared.RecordReply.{RecordReply}
 use Rattle.model.specs.declared.Claim.{Claim}
 use Rattle.model.specs.declared.Reading.{Reading}
 use Rattle.model.specs.declared.Error.the-variants.{IllegalRecord}
-use Rattle.model.specs.declared.Outcome.{Outcome}
 use Rattle.model.specs.declared.Outcome.the-variants.{Done, Refused}
 use Rattle.model.specs.declared.Verdict.{Verdict}
 use Rattle.model.specs.declared.Verdict.the-variants.{Pass, Refuse}
 use Rattle.model.specs.Bytes.{word, long, zeros}
-use Rattle.model.specs.LogBufferDescriptor.{biased, idOf, offsetOf, rawOf, tailOf, readingOf, reading, publisherPosition, soundRecord, sound, Sound, withLimit, withClosed}
+use Rattle.model.specs.LogBufferDescriptor.{biased, idOf, tailOf, readingOf, reading, publisherPosition, soundRecord, sound, Sound, withLimit, withClosed}
 use Rattle.model.specs.Publication.{openedRecord, openVerdict, openBy, openBytesBy, openOf, openBytes, changeOf}
 use Rattle.model.specs.FragmentAssembler.{partLength}
-use Rattle.model.specs.History.{Call, offer, claim, fill, commit, abort, setLimit, close, Answer, outcome, World, Step, step, answers, left, Shape, shapeOf, Extent, sizeAll, tell, told, messages, learn, Among, Given, AllGiven}
+use Rattle.model.specs.History.{Call, offer, claim, fill, commit, abort, setLimit, close, Answer, outcome, World, Step, step, answers, left, Shape, shapeOf, Extent, sizeAll, tell, told, messages, learn, Given, AllGiven}
 use Rattle.model.specs.Demand as Demand
-use Rattle.model.specs.Demand.{EndAt, Ends, Replayed, GivesAll, opened, shape, history, Upheld, Demand3}
-use Rattle.model.specs.Corollaries.{Rising, Usual, AllUsual}
-use Rattle.model.proofs.Choice.{cond-true}
+use Rattle.model.specs.Demand.{Ends, Replayed, GivesAll, opened, shape, history, Demand3}
+use Rattle.model.specs.Corollaries.{Rising, AllUsual}
 use Rattle.model.proofs.Both.{both-true, and-true}
 use Rattle.model.proofs.RawTail.{raw-id, raw-offset}
 use Rattle.model.proofs.Sound.{sound-true}
 use Rattle.model.proofs.Cells.{bytes, sizes}
 use Rattle.model.proofs.Walking.{Fits}
-use Rattle.model.proofs.OneSession.{flat, Asm, empty, takes-in, fragsOf, made}
+use Rattle.model.proofs.OneSession.{flat, Asm, made}
 use Rattle.model.proofs.Replaying.{replays, gives-all}
 use Rattle.model.proofs.Tails.{with-rest, Tails, limit-reading, closed-reading, limit-tails, closed-tails, reached, position-is}
 use Rattle.model.proofs.Around.{Pads}
 use Rattle.model.proofs.Rising.{step-up, run-up, rises}
-use Rattle.model.proofs.Keeping.{Fixed, AllKnown, known-of, Holds, Inv, is-sound, sound-is, history-size}
+use Rattle.model.proofs.Keeping.{AllKnown, known-of, Holds, Inv, is-sound, sound-is, history-size}
 use Rattle.model.proofs.Calls.{Keeps, offer-keeps, claim-keeps}
 use Rattle.model.proofs.Claims.{commit-keeps, abort-keeps, fill-keeps}
 

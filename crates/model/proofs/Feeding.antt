@@ -1,12 +1,12 @@
 -- The entries of a poll over frames, given to the assembler one by one: it takes in what the frames hold.
 use mathlib.Core.Path.{_≡_, refl, sym, ap, ap₂, _∙_, subst}
-use mathlib.Core.Bool.{Bool, true, false, cond, _&&_, _||_}
-use Prim.Native.Nat.{ℕ, zero, suc, _+_, _-_, _*_, _/_, _%_, _≤_, _<_}
+use mathlib.Core.Bool.{Bool, true, cond, _&&_, _||_}
+use Prim.Native.Nat.{ℕ, _+_, _-_, _*_, _/_, _%_, _≤_, _<_}
 use mathlib.Core.List.{List, [], _∷_, _++_, append-assoc}
 use native.Mathlib.Omega.{arith}
 use borrow.Author.Tests.{le-leb, lt-ltb, le-ltb, eq-eqb}
-use lib.Dec.{leb, ltb, eqb}
-use lib.ListN.{length, take, drop, getD, length-append, length-drop}
+use lib.Dec.{leb}
+use lib.ListN.{length, take, drop, length-append, length-drop}
 use lib.Seq.{take-at, drop-drop}
 use lib.IntN.{ℤ, pos}
 use mir.Syntax.{w32}
@@ -16,21 +16,20 @@ use Rattle.model.specs.declared.Error.{Error}
 use Rattle.model.specs.declared.Joining.{Joining}
 use Rattle.model.specs.declared.Joining.the-variants.{Through, Ignore, Full, TooLong, Join, Complete}
 use Rattle.model.specs.declared.Assembled.the-variants.{Refused as AssemblyRefused}
-use Rattle.model.specs.declared.Verdict.{Verdict}
 use Rattle.model.specs.declared.Verdict.the-variants.{Pass, Refuse}
 use Rattle.model.specs.declared.Error.the-variants.{IllegalArgument, IllegalRecord, UnsoundFrame}
 use Rattle.model.specs.Bytes.{zeros, le2, le4, le8, u32, i32}
 use Rattle.model.specs.FrameDescriptor.{align, flagsAt}
 use Rattle.model.specs.DataFrameHeader.{header24}
 use Rattle.model.specs.LogBufferDescriptor.{reading, sound, Sound}
-use Rattle.model.specs.TermReader.{numbers, laid}
-use Rattle.model.specs.FragmentAssembler.{Sessions, partLength, joining, sessionsBy, bufferBy, assembledBy, goodFrame, assembleVerdict, Assembly, joined, assembleBy, assembleOf}
+use Rattle.model.specs.TermReader.{numbers}
+use Rattle.model.specs.FragmentAssembler.{Sessions, partLength, joining, sessionsBy, bufferBy, assembledBy, goodFrame, assembleVerdict, Assembly, assembleBy, assembleOf}
 use Rattle.model.specs.Replay.{Replaying, handedOut, after, feed, feedAll}
-use Rattle.model.specs.History.{Shape, shapeOf, State, open·, committed, aborted}
-use Rattle.model.proofs.Choice.{cond-true, cond-false}
+use Rattle.model.specs.History.{Shape, shapeOf, open·, committed, aborted}
+use Rattle.model.proofs.Choice.{cond-true}
 use Rattle.model.proofs.Both.{both-true}
 use Rattle.model.proofs.Fields.{u32-low}
-use Rattle.model.proofs.Cells.{Cell, cell, stored, typ, head, flen, fsize, solidAt, solid, enc, bytes, sizes, length-enc, flen-ge, fsize-ge, fsize-32}
+use Rattle.model.proofs.Cells.{Cell, cell, stored, head, flen, fsize, solidAt, solid, enc, bytes, sizes, length-enc, fsize-32}
 use Rattle.model.proofs.Walking.{Small, AllSmall, Clear, entsOf, u32-enc, drop-next}
 use Rattle.model.proofs.OneSession.{fragsOf, Asm, take-in, takes-in, takes-lost}
 use Rattle.model.proofs.Assembling.{sid, Same, drops, joins-alike}

@@ -1,6 +1,6 @@
 -- What a finished frame that the frame reader sees is: a header at least, and inside the term.
 use mathlib.Core.Path.{_≡_, refl, sym, ap, _∙_}
-use Prim.Native.Nat.{ℕ, _+_, _-_, _*_, _/_, _%_, _≤_, _<_}
+use Prim.Native.Nat.{ℕ, _≤_, _<_}
 use mathlib.Core.Bool.{Bool, true, false, cond, _||_}
 use mathlib.Core.List.{List}
 use native.Mathlib.Omega.{arith}
@@ -12,7 +12,7 @@ use Rattle.model.specs.declared.FrameLength.the-variants.{Free, Writing,
 use Rattle.model.specs.declared.Frame.{Frame}
 use Rattle.model.specs.declared.Frame.the-variants.{Absent, Unsound, Padding, Data}
 use Rattle.model.specs.Bytes.{u16, u32}
-use Rattle.model.specs.FrameDescriptor.{align, unsoundLength, frameLength, frameBy, frameAt}
+use Rattle.model.specs.FrameDescriptor.{align, frameLength, frameBy, frameAt}
 
 pub record Lies (n room : ℕ) : Type 0 where
   pub header : 32 ≤ n

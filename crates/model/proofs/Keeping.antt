@@ -1,37 +1,35 @@
 -- The invariant of demand 3: the bytes of the log are those of the history's frames, then zeros, and the record stands at the history's
 -- end. What an accepted offer, an accepted claim and a trip do to it.
 use mathlib.Core.Path.{_≡_, refl, sym, ap, ap₂, _∙_, subst}
-use mathlib.Core.Bool.{Bool, true, false, cond, not, _||_}
-use mathlib.Core.Logic.{_⊎_, inl, inr, ⊎-elim}
-use Prim.Native.Nat.{ℕ, zero, suc, _+_, _-_, _*_, _/_, _%_, _≤_, _<_, min}
-use native.Mathlib.Nat.{le-refl, le-of-lt, mod-eq-of-lt, mul-le-mul-right, mul-le-mul-left, div-add-mod'}
-use mathlib.Core.List.{List, [], _∷_, _++_, append-assoc, append-nil}
+use mathlib.Core.Bool.{true}
+use mathlib.Core.Logic.{inl, inr}
+use Prim.Native.Nat.{ℕ, zero, suc, _+_, _-_, _*_, _%_, _≤_, _<_, min}
+use native.Mathlib.Nat.{le-of-lt, mod-eq-of-lt, mul-le-mul-right}
+use mathlib.Core.List.{List, [], _∷_, _++_, append-nil}
 use native.Mathlib.Omega.{arith}
-use lib.Dec.{leb, ltb, eqb}
-use borrow.Author.Tests.{eq-eqb, le-ltb, lt-ltb, ltb-true, ltb-false, leb-true, leb-false, eqb-true, eqb-false, not-true, not-false}
-use lib.ListN.{length, take, drop, length-append, length-drop}
+use lib.Dec.{ltb, eqb}
+use borrow.Author.Tests.{eq-eqb, le-ltb, lt-ltb}
+use lib.ListN.{length, take, drop, length-append}
 use lib.Seq.{length-take-le}
 use lib.Arith.{digits-mod}
 use lib.Count.{ones}
-use lib.IntN.{ℤ, pos}
+use lib.IntN.{ℤ}
 use mir.Syntax.{w32}
-use mir.Val.{toZ, ofZ}
+use mir.Val.{toZ}
 use mir.Facts.{ofZ-toZ}
-use Rattle.model.specs.declared.LogRecord.{LogRecord}
 use Rattle.model.specs.declared.Claim.{Claim}
 use Rattle.model.specs.declared.Reading.{Reading}
 use Rattle.model.specs.Bytes.{word, long, splice, zeros}
-use Rattle.model.specs.FrameDescriptor.{align, space, negated}
-use Rattle.model.specs.LogBufferDescriptor.{biased, reading, active, payloadLimit, messageLimit, sound, Sound, withTail}
-use Rattle.model.specs.TermAppender.{header, Fragment, fragment, cutFrom, cut, need, written, padded, claimed, claimRecord}
+use Rattle.model.specs.FrameDescriptor.{space, negated}
+use Rattle.model.specs.LogBufferDescriptor.{biased, reading, payloadLimit, sound, Sound}
+use Rattle.model.specs.TermAppender.{header, Fragment, cutFrom, cut, need, written, padded, claimed, claimRecord}
 use Rattle.model.specs.History.{World, Shape, shapeOf, State, open·, committed, aborted, Extent, message, claimed·, padding, sizeOf, sizeAll, padTo, startOf, Among}
-use Rattle.model.proofs.Choice.{split, cond-true, cond-false, le-yes, le-no, eq-yes, eq-no, le-case, eq-case}
-use Rattle.model.proofs.Splice.{length-zeros, zeros-add}
-use Rattle.model.proofs.Sound.{term-32, sound-by, id-small}
-use Rattle.model.proofs.Cut.{cut-last, cut-more, need-one}
-use Rattle.model.proofs.Cells.{Cell, cell, stored, typ, head, flen, fsize, enc, bytes, sizes, length-bytes, bytes-append, sizes-append, flen-ge, fsize-ge, sizes-32}
+use Rattle.model.proofs.Choice.{split, cond-true, cond-false, eq-yes, eq-no, le-case}
+use Rattle.model.proofs.Splice.{length-zeros}
+use Rattle.model.proofs.Sound.{term-32, sound-by}
+use Rattle.model.proofs.Cells.{Cell, cell, stored, typ, head, flen, enc, bytes, sizes, length-bytes, bytes-append, sizes-append, flen-ge, fsize-ge, sizes-32}
 use Rattle.model.proofs.Walking.{Small, AllSmall, Fits}
-use Rattle.model.proofs.OneSession.{cellOf, cells, frames, flat}
+use Rattle.model.proofs.OneSession.{cells, frames, flat}
 use Rattle.model.proofs.Tails.{Tails, with-tail}
 use Rattle.model.proofs.Writing.{fits-in, fits-append, puts, head-is, put-head, fsize-zeros}
 use Rattle.model.proofs.Around.{Pads, message-size, size-all, pads-snoc, size-snoc, flat-snoc, IsClaim, At, at-append, at-new}

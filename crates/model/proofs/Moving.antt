@@ -1,23 +1,20 @@
 -- For callers of the appenders and of `rotate_log`: the record after the active tail has moved is still sound, and handed its own count
 -- and term id it is rotated.
-use mathlib.Core.Path.{_≡_, refl, sym, ap, ap₂, _∙_, subst}
-use mathlib.Core.Bool.{Bool, true, false, cond}
+use mathlib.Core.Path.{_≡_, refl, sym, ap, ap₂, _∙_}
+use mathlib.Core.Bool.{true, false}
 use Prim.Native.Nat.{ℕ, zero, suc, _+_, _*_, _/_, _%_, _≤_, _<_}
 use native.Mathlib.Nat.{mul-assoc}
 use native.Mathlib.Omega.{arith}
 use borrow.Author.Tests.{le-leb}
-use lib.Dec.{leb}
 use lib.ListN.{length}
-use lib.IntN.{ℤ, pos}
+use lib.IntN.{ℤ}
 use mir.Syntax.{w32, w64}
-use mir.Val.{SFits, toZ}
+use mir.Val.{SFits}
 use mir.Facts.{ofZ-toZ, fits-ofZ}
 use Rattle.model.specs.declared.LogRecord.{LogRecord}
 use Rattle.model.specs.declared.Reading.{Reading}
 use Rattle.model.specs.declared.Outcome.the-variants.{Done}
-use Rattle.model.specs.declared.RecordReply.{RecordReply}
 use Rattle.model.specs.Bytes.{word, long}
-use Rattle.model.specs.FrameDescriptor.{space}
 use Rattle.model.specs.LogBufferDescriptor.{biased, idOf, offsetOf, termId, tailOf, readingOf, active, reading, soundRecord, changed, withTail, lastTerm, rotated, rotateLogOf, Sound}
 use Rattle.model.specs.TermAppender.{need}
 use Rattle.model.proofs.RawTail.{raw-id, raw-offset, moved-tail}

@@ -2,37 +2,34 @@
 -- refuses is the append at the active partition with what its answer leads to.
 use mathlib.Core.Path.{_≡_, refl, sym, ap, ap₂, _∙_, subst}
 use mathlib.Core.Bool.{Bool, true, false, cond, _&&_, _||_, not}
-use Prim.Native.Nat.{ℕ, zero, suc, _+_, _-_, _*_, _/_, _%_, _≤_, _<_, min}
-use mathlib.Core.List.{List, [], _∷_}
+use Prim.Native.Nat.{ℕ, _+_, _*_, _/_, _%_, _≤_, _<_, min}
+use mathlib.Core.List.{List}
 use native.Mathlib.Omega.{arith}
-use borrow.Author.Tests.{le-leb, lt-leb, leb-true, leb-false, lt-ltb, le-ltb, ltb-true, ltb-false, eqb-true, eqb-false, eq-eqb, ne-eqb}
+use borrow.Author.Tests.{le-leb, lt-leb, leb-true, leb-false, lt-ltb, le-ltb, ltb-false, eq-eqb, ne-eqb}
 use lib.Dec.{eqb, leb, ltb}
 use lib.ListN.{length}
 use lib.IntN.{ℤ, pos}
 use Rattle.model.specs.declared.LogRecord.{LogRecord}
 use Rattle.model.specs.declared.Reading.{Reading}
 use Rattle.model.specs.declared.Error.{Error}
-use Rattle.model.specs.declared.Error.the-variants.{IllegalArgument, IllegalRecord, ExceedsMaxPayloadLength, PublicationClosed, AdminAction, MaxPositionExceeded, BackPressured, NotConnected, ExceedsMaxMessageLength, TailOverflow, LastTerm}
+use Rattle.model.specs.declared.Error.the-variants.{IllegalArgument, IllegalRecord, PublicationClosed, AdminAction, MaxPositionExceeded, BackPressured, NotConnected, ExceedsMaxMessageLength, TailOverflow}
 use Rattle.model.specs.declared.Verdict.{Verdict}
 use Rattle.model.specs.declared.Verdict.the-variants.{Pass, Refuse}
 use Rattle.model.specs.declared.Course.{Course}
 use Rattle.model.specs.declared.Course.the-variants.{Refuse as Deny, Stray, Trip, Fit}
 use Rattle.model.specs.declared.Outcome.the-variants.{Done}
-use Rattle.model.specs.declared.RecordReply.{RecordReply}
 use Rattle.model.specs.declared.Appended.{Appended}
 use Rattle.model.specs.declared.Appended.the-variants.{Offset, Tripped, Refused}
 use Rattle.model.specs.declared.AppendReply.{AppendReply}
-use Rattle.model.specs.declared.Offered.{Offered}
 use Rattle.model.specs.declared.Offered.the-variants.{Position, Refused as Declined}
 use Rattle.model.specs.declared.OfferReply.{OfferReply}
 use Rattle.model.specs.Bytes.{word, long}
-use Rattle.model.specs.FrameDescriptor.{space}
-use Rattle.model.specs.LogBufferDescriptor.{biased, readingOf, reading, active, payloadLimit, messageLimit, greatest, sound, Sound, withTail, lastTerm, rotated, rotateLogOf}
-use Rattle.model.specs.TermAppender.{Fragment, written, cut, need, padded, course, replyBy, bytesBy, movedBy, appendedBy}
+use Rattle.model.specs.LogBufferDescriptor.{biased, reading, active, payloadLimit, greatest, sound, Sound, withTail, lastTerm, rotated, rotateLogOf}
+use Rattle.model.specs.TermAppender.{written, cut, padded, course, replyBy, bytesBy}
 use Rattle.model.specs.Publication.{refuseIf, place, needOf, tooLong, pressed, afterClosed, tailRoom, beforeAppend, offerVerdict, fits, onTrip, tripError, tripNext, appendNext, offeredBy, nextBy, logBy, offerOf, offerBytes}
-use Rattle.model.proofs.Sound.{sound-true, id-small}
-use Rattle.model.proofs.Append.{Goes, Went, course-says, appendReply, appendBytes}
-use Rattle.model.proofs.Moving.{need-32, rotate-moved}
+use Rattle.model.proofs.Sound.{id-small}
+use Rattle.model.proofs.Append.{Went, course-says, appendReply, appendBytes}
+use Rattle.model.proofs.Moving.{rotate-moved}
 
 -- ---- 6 (count), 7/8/9
 

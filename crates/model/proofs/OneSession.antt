@@ -1,19 +1,19 @@
 -- An assembler of one session with room for `cap` bytes, and that it makes of a history's frames the history's messages. The assembler
 -- of 16 sessions does the same as long as one session is all it sees (Assembling).
-use mathlib.Core.Path.{_≡_, refl, sym, ap, ap₂, _∙_, subst}
+use mathlib.Core.Path.{_≡_, refl, sym, ap, _∙_}
 use mathlib.Core.Bool.{Bool, true, false, cond, _&&_}
 use Prim.Native.Nat.{ℕ, zero, suc, _+_, _-_, _≤_, _<_}
 use native.Mathlib.Nat.{le-of-lt}
 use mathlib.Core.List.{List, [], _∷_, _++_, append-assoc, append-nil}
 use native.Mathlib.Omega.{arith}
 use borrow.Author.Tests.{le-ltb, ne-eqb}
-use lib.Dec.{leb, ltb, eqb}
+use lib.Dec.{ltb, eqb}
 use lib.ListN.{length, take, drop, length-append, length-drop, take-append-drop}
 use lib.Seq.{length-take-le}
 use Rattle.model.specs.Bytes.{zeros, long}
 use Rattle.model.specs.FrameDescriptor.{begins, ends}
 use Rattle.model.specs.TermAppender.{Fragment, fragment, cutFrom, cut}
-use Rattle.model.specs.History.{Shape, State, open·, committed, aborted, Extent, message, claimed·, padding, messages}
+use Rattle.model.specs.History.{Shape, open·, committed, aborted, Extent, message, claimed·, padding, messages}
 use Rattle.model.specs.Demand.{Holds}
 use Rattle.model.proofs.Choice.{cond-false, cond-case, split}
 use Rattle.model.proofs.Cells.{Cell, cell}

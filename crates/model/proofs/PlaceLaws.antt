@@ -1,12 +1,12 @@
 -- The place of a frame in a partition of a sound log: what rows 1 and 2 say of it together.
-use mathlib.Core.Path.{_≡_, refl, sym, ap, _∙_}
-use mathlib.Core.Bool.{Bool, true, false, cond, _&&_}
-use Prim.Native.Nat.{ℕ, _+_, _-_, _*_, _/_, _%_, _≤_, _<_}
+use mathlib.Core.Path.{_≡_}
+use mathlib.Core.Bool.{true, _&&_}
+use Prim.Native.Nat.{ℕ, _+_, _*_, _%_, _≤_, _<_}
 use native.Mathlib.Omega.{arith}
 use borrow.Author.Tests.{leb-true, eqb-true}
 use lib.Dec.{eqb, leb}
 use Rattle.model.specs.declared.Reading.{Reading}
-use Rattle.model.specs.LogBufferDescriptor.{sound, Sound, goodPartition, goodOffset, withinTerm}
+use Rattle.model.specs.LogBufferDescriptor.{sound, Sound, goodPartition, goodOffset}
 use Rattle.model.proofs.Sound.{sound-true, term-32}
 use Rattle.model.proofs.Append.{base-in}
 use Rattle.model.proofs.Both.{and-true}

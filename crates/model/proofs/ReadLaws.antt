@@ -2,9 +2,9 @@
 use mathlib.Core.Path.{_≡_, refl, sym, ap, ap₂, _∙_}
 use mathlib.Core.Bool.{Bool, true, false, cond, _&&_, _||_}
 use mathlib.Core.List.{List, [], _∷_}
-use Prim.Native.Nat.{ℕ, zero, suc, _+_, _-_, _*_, _/_, _%_, _≤_, _<_}
+use Prim.Native.Nat.{ℕ, zero, suc, _+_, _-_, _*_, _≤_}
 use native.Mathlib.Omega.{arith}
-use borrow.Author.Tests.{le-leb, leb-true, leb-false, eq-eqb}
+use borrow.Author.Tests.{leb-true}
 use lib.Dec.{eqb, leb, ltb}
 use lib.ListN.{length, drop}
 use lib.IntN.{ℤ}
@@ -21,9 +21,9 @@ use Rattle.model.specs.declared.FramesRead.the-variants.{Walked as AllWa
 use Rattle.model.specs.declared.TermRead.{TermRead}
 use Rattle.model.specs.declared.TermRead.the-variants.{Outcome, Refused}
 use Rattle.model.specs.Bytes.{word}
-use Rattle.model.specs.FrameDescriptor.{align, frameAt, flagsAt, ends}
+use Rattle.model.specs.FrameDescriptor.{align, frameAt}
 use Rattle.model.specs.LogBufferDescriptor.{reading, sound, goodPartition, goodOffset}
-use Rattle.model.specs.TermReader.{Walked, still, over, handed, handedBy, goodWalk, nextAction, restActions, walk, walkOf, firstUnsound, natural, goodEntries, framesBy, framesOf, framesEntries, readVerdict, readBy, readOf, readEntries, entriesBy}
+use Rattle.model.specs.TermReader.{Walked, still, over, handed, goodWalk, nextAction, restActions, walk, walkOf, firstUnsound, natural, goodEntries, framesBy, framesOf, framesEntries, readVerdict, readBy, readOf, readEntries, entriesBy}
 use Rattle.model.proofs.FrameLaws.{Lies, lies}
 use Rattle.model.proofs.PlaceLaws.{Placed, placed}
 use Rattle.model.proofs.ReaderLaws.{good-walk-by, frames-by}

@@ -13,16 +13,14 @@ use lib.Seq.{drop-at}
 use lib.Arith.{digits-mod}
 use lib.IntN.{ℤ, pos}
 use Rattle.model.specs.declared.LogRecord.{LogRecord}
-use Rattle.model.specs.declared.Frame.{Frame}
 use Rattle.model.specs.declared.Polled.{Polled}
 use Rattle.model.specs.declared.Polled.the-variants.{Fragments, Refused as PollRefused}
 use Rattle.model.specs.declared.Replayed.{Replayed as Given}
-use Rattle.model.specs.declared.Replayed.the-variants.{InLog, InBuffer, End, Refused as ReplayRefused}
+use Rattle.model.specs.declared.Replayed.the-variants.{End, Refused as ReplayRefused}
 use Rattle.model.specs.declared.Assembled.{Assembled}
 use Rattle.model.specs.declared.Assembled.the-variants.{Nothing, Fragment, Message, Refused as AssemblyRefused}
 use Rattle.model.specs.declared.Error.{Error}
-use Rattle.model.specs.declared.ReadVerdict.{ReadVerdict}
-use Rattle.model.specs.declared.ReadVerdict.the-variants.{Read, Closed, Refuse}
+use Rattle.model.specs.declared.ReadVerdict.the-variants.{Read, Refuse}
 use Rattle.model.specs.declared.Error.the-variants.{IllegalArgument, IllegalRecord, PositionOutOfRange, UnsoundFrame}
 use Rattle.model.specs.Bytes.{zeros, long}
 use Rattle.model.specs.FrameDescriptor.{frameAt, isUnsound}
@@ -31,13 +29,13 @@ use Rattle.model.specs.TermReader.{Walked, walk, natural, goodEntries, n
 use Rattle.model.specs.Image.{Image, newImage, readable, pollVerdict, PollReply, pollReply, pollOf}
 use Rattle.model.specs.FragmentAssembler.{Assembly, assembleOf}
 use Rattle.model.specs.Replay.{Replaying, handedOut, after, feed, feedAll, entriesOf, withImage, round, start, Polls, rounds, Quiet, ReplayState, NextReply, giving, givenBy, assembledTo, pollOne, turnBy, nextFrom, nextOf, messageBy, replayed}
-use Rattle.model.specs.History.{Shape, shapeOf, World, State, open·, committed, aborted}
+use Rattle.model.specs.History.{Shape, shapeOf, open·, committed, aborted}
 use Rattle.model.specs.Demand.{Allowed, Replayed, GivesAll}
 use Rattle.model.proofs.Sound.{term-32}
-use Rattle.model.proofs.Choice.{cond-true, cond-false, split, same?, eq-yes, eq-no}
+use Rattle.model.proofs.Choice.{cond-false, split, same?, eq-yes, eq-no}
 use Rattle.model.proofs.Both.{both-true}
-use Rattle.model.proofs.Cells.{Cell, cell, flen, fsize, enc, bytes, sizes, length-bytes, bytes-append, sizes-append, flen-ge, fsize-ge, sizes-32}
-use Rattle.model.proofs.Walking.{Small, AllSmall, norm, Fits, Clear, seen, entsOf, Goes, goes, Stuck, moves, see-here, see-end, few}
+use Rattle.model.proofs.Cells.{Cell, cell, fsize, bytes, sizes, length-bytes, bytes-append, sizes-append, flen-ge, fsize-ge, sizes-32}
+use Rattle.model.proofs.Walking.{AllSmall, norm, Fits, Clear, seen, entsOf, Goes, goes, Stuck, moves, see-here, see-end, few}
 use Rattle.model.proofs.OneSession.{fragsOf, Asm, empty, takes-in, takes-append, takes-lost, takes-grow}
 use Rattle.model.proofs.Assembling.{fresh-same}
 use Rattle.model.proofs.Feeding.{feedEach, feed-all, Like, all-fed, one-lost}

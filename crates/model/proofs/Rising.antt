@@ -1,20 +1,19 @@
 -- Every call keeps the tails in step, and the publisher's position does not fall; an accepted offer or claim answers the position that
 -- it reaches, and that one is greater. All of it from the tails alone, whatever the log holds, and past the third term.
 use mathlib.Core.Path.{_≡_, refl, sym, ap, ap₂, _∙_, subst}
-use mathlib.Core.Bool.{Bool, true, false, cond, not, _||_, _&&_}
-use Prim.Native.Nat.{ℕ, zero, suc, _+_, _-_, _*_, _/_, _%_, _≤_, _<_, min}
+use mathlib.Core.Bool.{Bool, true, false, cond, not, _||_}
+use Prim.Native.Nat.{ℕ, zero, suc, _+_, _*_, _/_, _%_, _≤_, _<_, min}
 use native.Mathlib.Nat.{le-refl, le-trans, mul-le-mul-right, le-div-iff-mul-le}
 use mathlib.Core.List.{List, [], _∷_}
 use native.Mathlib.Omega.{arith}
-use borrow.Author.Tests.{ltb-true, ltb-false, leb-true, leb-false, eqb-true, eqb-false, not-true, not-false}
+use borrow.Author.Tests.{ltb-false, leb-true, eqb-false, not-false}
 use lib.Dec.{leb, ltb, eqb}
 use lib.ListN.{length}
-use lib.IntN.{ℤ, pos}
+use lib.IntN.{pos}
 use Rattle.model.specs.declared.LogRecord.{LogRecord}
-use Rattle.model.specs.declared.Claim.{Claim}
 use Rattle.model.specs.declared.Reading.{Reading}
 use Rattle.model.specs.declared.Error.{Error}
-use Rattle.model.specs.declared.Error.the-variants.{IllegalArgument, IllegalRecord, ExceedsMaxPayloadLength, PublicationClosed, AdminAction, MaxPositionExceeded, ExceedsMaxMessageLength, TailOverflow, LastTerm}
+use Rattle.model.specs.declared.Error.the-variants.{IllegalArgument, IllegalRecord, ExceedsMaxPayloadLength, PublicationClosed, AdminAction, ExceedsMaxMessageLength, TailOverflow}
 use Rattle.model.specs.declared.Verdict.{Verdict}
 use Rattle.model.specs.declared.Verdict.the-variants.{Pass, Refuse}
 use Rattle.model.specs.declared.Outcome.the-variants.{Done, Refused}
@@ -25,18 +24,18 @@ use Rattle.model.specs.declared.Claimed.{Claimed}
 use Rattle.model.specs.declared.Claimed.the-variants.{Position as ClaimPosition, Refused as ClaimRefused}
 use Rattle.model.specs.declared.Located.{Located}
 use Rattle.model.specs.declared.Located.the-variants.{Span, Refused as LocatedRefused}
-use Rattle.model.specs.Bytes.{word, long}
+use Rattle.model.specs.Bytes.{word}
 use Rattle.model.specs.FrameDescriptor.{space}
 use Rattle.model.specs.LogBufferDescriptor.{reading, active, payloadLimit, greatest, soundRecord, sound, Sound, lastTerm, withTail, withLimit, withClosed, rotated}
 use Rattle.model.specs.TermAppender.{need, claimRecord}
 use Rattle.model.specs.BufferClaim.{locateOf}
 use Rattle.model.specs.Publication.{changeOf, place, pressed, afterClosed, tailRoom, fits, onTrip, tripError, tripNext, appendNext, tooLong, needOf, beforeAppend, offerVerdict, offeredBy, nextBy, offerOf, claimVerdict, claimedBy, claimOf}
-use Rattle.model.specs.History.{Call, offer, claim, fill, commit, abort, setLimit, close, Answer, offered, claimed, outcome, World, Step, filled, step, answers, left}
+use Rattle.model.specs.History.{Call, offer, claim, fill, commit, abort, setLimit, close, Answer, offered, claimed, outcome, World, filled, step, answers, left}
 use Rattle.model.specs.Corollaries.{RisesBy, Rising}
 use Rattle.model.proofs.Choice.{cond-case, split}
 use Rattle.model.proofs.Sound.{sound-true, id-small}
 use Rattle.model.proofs.Cut.{need-one, need-whole, need-rest}
-use Rattle.model.proofs.Tails.{with-tail, with-rest, Tails, moved-reading, moved-tails, rotated-reading, rotated-tails, limit-reading, closed-reading, limit-tails, closed-tails, reached}
+use Rattle.model.proofs.Tails.{with-tail, Tails, moved-reading, moved-tails, rotated-reading, rotated-tails, limit-reading, closed-reading, limit-tails, closed-tails, reached}
 
 -- ---- a ladder that passes
 

@@ -1,10 +1,10 @@
 -- Rotation: what `rotate_log` does where it passes, step by step; and that it rotates where a caller hands it the record's own count and
 -- term id.
-use mathlib.Core.Path.{_≡_, refl, sym, ap, ap₂, _∙_, subst}
+use mathlib.Core.Path.{_≡_, refl, ap, ap₂, _∙_}
 use mathlib.Core.Bool.{Bool, true, false, cond, _||_}
 use Prim.Native.Nat.{ℕ, _+_, _%_, _≤_, _<_}
 use native.Mathlib.Omega.{arith}
-use borrow.Author.Tests.{eq-eqb, ne-eqb, lt-ltb, le-ltb, eqb-true, eqb-false, ltb-false}
+use borrow.Author.Tests.{eq-eqb, ne-eqb, lt-ltb, le-ltb, eqb-false, ltb-false}
 use lib.Dec.{eqb, ltb}
 use lib.IntN.{ℤ}
 use Rattle.model.specs.declared.LogRecord.{LogRecord}
@@ -12,8 +12,7 @@ use Rattle.model.specs.declared.Reading.{Reading}
 use Rattle.model.specs.declared.Error.the-variants.{IllegalArgument, IllegalRecord, LastTerm}
 use Rattle.model.specs.declared.Verdict.{Verdict}
 use Rattle.model.specs.declared.Verdict.the-variants.{Pass, Refuse}
-use Rattle.model.specs.declared.Outcome.the-variants.{Done, Refused}
-use Rattle.model.specs.declared.RecordReply.{RecordReply}
+use Rattle.model.specs.declared.Outcome.the-variants.{Done}
 use Rattle.model.specs.Bytes.{word}
 use Rattle.model.specs.LogBufferDescriptor.{biased, readingOf, reading, soundRecord, withTail, withCount, nextTail, rotated, lastTerm, rotateVerdict, rotateBy, rotateLogOf}
 

@@ -1,28 +1,27 @@
 -- The rows of the three scans, with the numbers as their code has them: what row 1 and row 2 answer, and that the scan follows.
-use mathlib.Core.Path.{_≡_, refl, sym, ap, ap₂, _∙_}
-use mathlib.Core.Bool.{Bool, true, false, cond, _&&_, _||_}
+use mathlib.Core.Path.{_≡_, sym, ap, _∙_}
+use mathlib.Core.Bool.{Bool, true, false, cond, _&&_}
 use mathlib.Core.List.{List}
-use Prim.Native.Nat.{ℕ, _+_, _-_, _*_, _%_, _≤_, _<_, min}
-use lib.Dec.{eqb, leb, ltb}
+use Prim.Native.Nat.{ℕ, _+_, _-_, _*_, _%_, min}
+use lib.Dec.{eqb, ltb}
 use lib.ListN.{length, drop}
-use lib.IntN.{ℤ, pos}
+use lib.IntN.{ℤ}
 use Rattle.model.specs.declared.LogRecord.{LogRecord}
 use Rattle.model.specs.declared.Reading.{Reading}
 use Rattle.model.specs.declared.Error.the-variants.{IllegalArgument, IllegalRecord, UnsoundFrame}
-use Rattle.model.specs.declared.Verdict.{Verdict}
 use Rattle.model.specs.declared.Verdict.the-variants.{Pass, Refuse}
 use Rattle.model.specs.declared.Scanned.{Scanned}
-use Rattle.model.specs.declared.Scanned.the-variants.{Offset, Refused}
+use Rattle.model.specs.declared.Scanned.the-variants.{Refused}
 use Rattle.model.specs.declared.GapScanned.{GapScanned}
-use Rattle.model.specs.declared.GapScanned.the-variants.{Gap, NoGap, Refused as GapRefused}
+use Rattle.model.specs.declared.GapScanned.the-variants.{Refused as GapRefused}
 use Rattle.model.specs.declared.AvailabilityScanned.{AvailabilityScanned}
-use Rattle.model.specs.declared.AvailabilityScanned.the-variants.{Outcome, Refused as AvailabilityRefused}
+use Rattle.model.specs.declared.AvailabilityScanned.the-variants.{Refused as AvailabilityRefused}
 use Rattle.model.specs.Bytes.{word}
 use Rattle.model.specs.FrameDescriptor.{frameAt, isUnsound}
 use Rattle.model.specs.LogBufferDescriptor.{reading, sound, goodPartition, goodOffset, withinTerm}
 use Rattle.model.specs.TermReader.{natural}
 use Rattle.model.proofs.GapLaws.{gapFound}
-use Rattle.model.specs.TermScan.{scanVerdict, scanFrom, scanJudge, scanBy, scanOf, Rebuilt, rebuild, gapLength, gapJudge, gapBy, gapOf, Available, availableFrom, availabilityJudge, availabilityBy, availabilityOf}
+use Rattle.model.specs.TermScan.{scanVerdict, scanFrom, scanJudge, scanBy, scanOf, rebuild, gapJudge, gapBy, gapOf, Available, availableFrom, availabilityJudge, availabilityBy, availabilityOf}
 
 -- the ladder
 argument : (g s f : Bool) → g ≡ false → scanVerdict g s f ≡ Refuse IllegalArgument

@@ -1,11 +1,10 @@
--- Bytes laid over a log: its length is kept, what lies before and behind is untouched, what was laid is read back, and pieces laid one
--- behind the other are one piece.
-use mathlib.Core.Path.{_≡_, refl, sym, ap, ap₂, _∙_}
+-- Bytes laid over a log: its length is kept, what was laid is read back, and pieces laid one behind the other are one piece.
+use mathlib.Core.Path.{_≡_, sym, ap, ap₂, _∙_}
 use Prim.Native.Nat.{ℕ, _+_, _-_, _≤_}
 use mathlib.Core.List.{List, _++_, append-assoc}
 use native.Mathlib.Omega.{arith}
 use lib.ListN.{length, take, drop, length-append, length-drop, length-replicate, replicate-append-replicate}
-use lib.Seq.{take-at, drop-at, drop-drop, take-take, take-append-le, length-take-le}
+use lib.Seq.{take-at, drop-at, drop-drop, length-take-le}
 use Rattle.model.specs.Bytes.{splice, zeros}
 
 pub length-splice : (log : List ℕ) (at : ℕ) (new : List ℕ) → at + length new ≤ length log → length (splice log at new) ≡ length log
@@ -13,28 +12,10 @@ unfolding splice
 length-splice log at new h =
     omega (arith, length-append (take at log) (new ++ drop (at + length new) log), length-append new (drop (at + length new) log), length-take-le at log (omega arith), length-drop (at + length new) log)
 
--- what lies before
-pub take-splice : (log : List ℕ) (at n : ℕ) (new : List ℕ) → n ≤ at → at ≤ length log → take n (splice log at new) ≡ take n log
-unfolding splice
-take-splice log at n new h l =
-    take-append-le n (take at log) (new ++ drop (at + length new) log) (omega (arith, length-take-le at log l)) ∙ take-take n at log h
-
 -- what was laid, and what lies behind it
 pub drop-splice : (log : List ℕ) (at : ℕ) (new : List ℕ) → at ≤ length log → drop at (splice log at new) ≡ new ++ drop (at + length new) log
 unfolding splice
 drop-splice log at new l = drop-at (take at log) (new ++ drop (at + length new) log) at (length-take-le at log l)
-
-pub drop-behind : (log : List ℕ) (at : ℕ) (new : List ℕ) (n : ℕ) → at ≤ length log → at + length new ≤ n → drop n (splice log at new) ≡ drop n log
-drop-behind log at new n l h =
-    let e : at + (length new + (n - (at + length new))) ≡ n = omega arith in
-    let f : at + length new + (n - (at + length new)) ≡ n = omega arith in
-    ap (λ (k : ℕ). drop k (splice log at new)) (sym e)
-    ∙ sym (drop-drop (length new + (n - (at + length new))) at (splice log at new))
-    ∙ ap (drop (length new + (n - (at + length new)))) (drop-splice log at new l)
-    ∙ sym (drop-drop (n - (at + length new)) (length new) (new ++ drop (at + length new) log))
-    ∙ ap (drop (n - (at + length new))) (drop-at new (drop (at + length new) log) (length new) refl)
-    ∙ drop-drop (n - (at + length new)) (at + length new) log
-    ∙ ap (λ (k : ℕ). drop k log) f
 
 -- in the middle of three pieces
 pub splice-mid : (x y z new : List ℕ) (n : ℕ) → length x ≡ n → length y ≡ length new → splice (x ++ (y ++ z)) n new ≡ x ++ (new ++ z)

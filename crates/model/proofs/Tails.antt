@@ -1,22 +1,20 @@
 -- The record through the calls: what is read of it after a tail moved and after a rotation, that the tails stay in step, and the
 -- publisher's position as a natural number.
 use mathlib.Core.Path.{_≡_, refl, sym, ap, ap₂, _∙_, subst}
-use mathlib.Core.Bool.{Bool, true, false, cond}
-use Prim.Native.Nat.{ℕ, zero, suc, _+_, _-_, _*_, _/_, _%_, _≤_, _<_, min}
-use mathlib.Core.List.{List}
+use mathlib.Core.Bool.{Bool, true, cond}
+use Prim.Native.Nat.{ℕ, zero, suc, _+_, _-_, _*_, _%_, _≤_, _<_, min}
 use native.Mathlib.Omega.{arith}
 use borrow.Author.Tests.{le-ltb}
-use lib.Dec.{eqb, ltb}
 use lib.ListN.{length, getD, set, length-set}
 use lib.Seq.{getD-set-same, getD-set-other}
-use lib.IntN.{ℤ, pos, negsuc, _+ℤ_, _-ℤ_, _*ℤ_, subℕ}
+use lib.IntN.{ℤ, pos, negsuc, _+ℤ_, _-ℤ_, _*ℤ_}
 use mir.Syntax.{w32}
-use mir.Val.{ofZ, toZ}
+use mir.Val.{toZ}
 use mir.Facts.{ofZ-toZ}
 use Rattle.model.specs.declared.LogRecord.{LogRecord}
 use Rattle.model.specs.declared.Reading.{Reading}
 use Rattle.model.specs.Bytes.{word, long}
-use Rattle.model.specs.LogBufferDescriptor.{biased, idOf, offsetOf, rawOf, positionOf, tailOf, readingOf, active, reading, publisherPosition, changed, withTail, withCount, withLimit, withClosed, nextTail, rotated}
+use Rattle.model.specs.LogBufferDescriptor.{idOf, offsetOf, rawOf, tailOf, readingOf, active, reading, publisherPosition, changed, withTail, withCount, withLimit, withClosed, nextTail, rotated}
 use Rattle.model.proofs.Choice.{eq-yes}
 use Rattle.model.proofs.RawTail.{raw-id, raw-offset}
 use Rattle.model.proofs.Sound.{id-small}

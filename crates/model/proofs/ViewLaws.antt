@@ -1,8 +1,8 @@
 -- Views: the rows of `viewOf` with the numbers as the code has them, and that what is located lies in the log.
-use mathlib.Core.Path.{_≡_, refl, sym, ap, ap₂, _∙_}
-use mathlib.Core.Bool.{Bool, true, false, cond, _&&_}
+use mathlib.Core.Path.{_≡_, refl, sym, _∙_}
+use mathlib.Core.Bool.{Bool, true, false, cond}
 use mathlib.Core.List.{List}
-use Prim.Native.Nat.{ℕ, _+_, _-_, _*_, _≤_, _<_}
+use Prim.Native.Nat.{ℕ, _+_, _*_, _≤_}
 use native.Mathlib.Omega.{arith}
 use borrow.Author.Tests.{leb-true}
 use lib.Dec.{leb}
@@ -17,7 +17,7 @@ use Rattle.model.specs.declared.Located.{Located}
 use Rattle.model.specs.declared.Located.the-variants.{Span, Refused}
 use Rattle.model.specs.Bytes.{word}
 use Rattle.model.specs.Parts.{locatedBy}
-use Rattle.model.specs.LogBufferDescriptor.{reading, sound, Sound, goodPartition, withinTerm}
+use Rattle.model.specs.LogBufferDescriptor.{reading, sound}
 use Rattle.model.specs.TermReader.{goodView, viewVerdict, viewOf}
 use Rattle.model.proofs.Sound.{sound-true}
 use Rattle.model.proofs.Both.{and-true}

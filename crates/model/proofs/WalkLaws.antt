@@ -1,21 +1,18 @@
 -- The walk over frames, turn by turn: what is done so far joined with what the walk from here gives is the whole walk. A loop that
 -- keeps `Going` and stops where the walk stops has met the definition.
 use mathlib.Core.Path.{_≡_, refl, sym, ap, ap₂, _∙_}
-use Prim.Native.Nat.{ℕ, zero, suc, _+_, _-_, _*_, _/_, _%_, _≤_, _<_}
+use Prim.Native.Nat.{ℕ, zero, suc, _+_, _-_, _*_, _≤_, _<_}
 use mathlib.Core.Bool.{Bool, true, false, cond, _||_}
 use mathlib.Core.List.{List, [], _∷_, _++_, append-assoc}
 use native.Mathlib.Omega.{arith}
-use native.Mathlib.Numerals.{add-one}
-use borrow.Author.Tests.{ltb-true, ltb-false, lt-ltb, le-ltb, le-leb, lt-leb}
-use lib.Dec.{eqb, leb, ltb}
-use lib.ListN.{length, drop, set, getD, length-append, length-drop}
-use lib.Seq.{drop-drop, drop-cons, set-at}
+use borrow.Author.Tests.{ltb-false, lt-ltb, le-leb, lt-leb}
+use lib.Dec.{leb, ltb}
+use lib.ListN.{length, drop, set, getD, length-append}
+use lib.Seq.{drop-cons, set-at}
 use lib.IntN.{ℤ, pos}
 use Rattle.model.specs.declared.Frame.{Frame}
-use Rattle.model.specs.declared.Frame.the-variants.{Absent, Unsound, Padding, Data}
 use Rattle.model.specs.FrameDescriptor.{align, frameAt, flagsAt, ends}
-use Rattle.model.specs.TermReader.{Walked, still, settledBy, passed, handed, handedBy, nextAction, restActions, over, walk, numbers, laid}
-use Rattle.model.proofs.FrameLaws.{Lies, lies}
+use Rattle.model.specs.TermReader.{Walked, still, passed, handed, over, walk, numbers, laid}
 
 -- ---- the entries in the lent slice
 
@@ -32,10 +29,6 @@ numbers-more (e ∷ es) a b = ap (λ (l : List ℤ). pos (e .0) ∷ pos (e .1) �
 pub laid-none : (slots : List ℤ) → laid slots [] ≡ slots
 unfolding laid numbers
 laid-none slots = refl
-
-pub laid-length : (slots : List ℤ) (es : List (ℕ × ℕ)) → 2 * length es ≤ length slots → length (laid slots es) ≡ length slots
-unfolding laid
-laid-length slots es h = omega (arith, length-append (numbers es) (drop (2 * length es) slots), numbers-length es, length-drop (2 * length es) slots)
 
 -- one entry more, written behind the others
 pub laid-more : (slots : List ℤ) (es : List (ℕ × ℕ)) (n a b : ℕ) → n ≡ length es → 2 * n + 2 ≤ length slots

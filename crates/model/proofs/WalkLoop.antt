@@ -2,23 +2,22 @@
 -- way that a turn goes, and one for each way out.
 use mathlib.Core.Path.{_≡_, refl, sym, ap, ap₂, _∙_, subst}
 use mathlib.Core.Logic.{_⊎_, inl, inr, ⊎-elim}
-use Prim.Native.Nat.{ℕ, zero, suc, _+_, _-_, _*_, _/_, _%_, _≤_, _<_}
+use Prim.Native.Nat.{ℕ, zero, suc, _+_, _-_, _*_, _≤_, _<_}
 use mathlib.Core.Bool.{Bool, true, false, cond, _&&_}
 use mathlib.Core.List.{List, [], _∷_, _++_, append-nil}
 use native.Mathlib.Omega.{arith}
 use native.Mathlib.Numerals.{add-one}
-use borrow.Author.Tests.{le-ltb, lt-ltb, ne-eqb, eq-eqb}
-use lib.Dec.{eqb, leb, ltb}
-use lib.ListN.{length, drop, set, getD, length-append}
-use lib.Seq.{drop-drop, drop-cons}
+use borrow.Author.Tests.{le-ltb, lt-ltb, ne-eqb}
+use lib.Dec.{eqb, ltb}
+use lib.ListN.{length, drop, set, length-append}
 use lib.IntN.{ℤ, pos}
 use Rattle.model.specs.declared.Frame.{Frame}
 use Rattle.model.specs.declared.Frame.the-variants.{Absent, Unsound, Padding, Data}
 use Rattle.model.specs.declared.Walk.{Walk}
 use Rattle.model.specs.FrameDescriptor.{align, frameAt, isUnsound, flagsAt, ends}
-use Rattle.model.specs.TermReader.{Walked, still, passed, handed, handedBy, nextAction, restActions, over, walk, walkOf, firstUnsound, laid}
+use Rattle.model.specs.TermReader.{Walked, still, handed, handedBy, nextAction, restActions, over, walk, walkOf, firstUnsound, laid}
 use Rattle.model.proofs.FrameLaws.{Lies, lies}
-use Rattle.model.proofs.WalkLaws.{joined, joined-none, joined-passed, joined-handed, walk-full, walk-end, walk-stop, walk-turn, laid-none, laid-more, laid-length}
+use Rattle.model.proofs.WalkLaws.{joined, joined-none, joined-passed, joined-handed, walk-full, walk-end, walk-stop, walk-turn, laid-none, laid-more}
 
 -- Where the loop stands: the lent slice holds the entries so far; what is done joined with the walk from here is the whole walk; and it
 -- is still at its first frame, or that one is not unsound.

@@ -1,25 +1,25 @@
 -- A walk over a log of frames goes over a front of them, hands out the data frames of that front, and moves by its size; where it may
 -- read and moves nothing, what stands there is free or being written.
 use mathlib.Core.Path.{_≡_, refl, sym, ap, ap₂, _∙_, subst}
-use mathlib.Core.Bool.{Bool, true, false, cond, _||_}
+use mathlib.Core.Bool.{Bool, cond, _||_}
 use Prim.Native.Nat.{ℕ, zero, suc, _+_, _-_, _*_, _/_, _%_, _≤_, _<_}
 use mathlib.Core.List.{List, [], _∷_, _++_, append-assoc}
 use native.Mathlib.Omega.{arith}
 use borrow.Author.Tests.{lt-ltb, le-ltb}
-use lib.Dec.{leb, ltb, eqb}
+use lib.Dec.{ltb, eqb}
 use lib.ListN.{length, drop, getD}
 use lib.Seq.{drop-at, drop-drop}
 use Rattle.model.specs.declared.Frame.{Frame}
 use Rattle.model.specs.declared.Frame.the-variants.{Absent, Unsound, Padding, Data}
-use Rattle.model.specs.declared.FrameLength.the-variants.{Free, Writing, Finished}
-use Rattle.model.specs.Bytes.{zeros, le2, le4, le8, u16, u32}
+use Rattle.model.specs.declared.FrameLength.the-variants.{Writing, Finished}
+use Rattle.model.specs.Bytes.{zeros, le2, le4, u16, u32}
 use Rattle.model.specs.FrameDescriptor.{align, frameLength, frameBy, frameAt, flagsAt, ends}
 use Rattle.model.specs.DataFrameHeader.{header24}
 use Rattle.model.specs.TermReader.{Walked, still, over, walk}
 use Rattle.model.specs.History.{Shape, State, open·, committed, aborted}
-use Rattle.model.proofs.Choice.{cond-false, le-yes, le-no, eq-yes, eq-no, le-case}
+use Rattle.model.proofs.Choice.{cond-false, le-no, eq-no, le-case}
 use Rattle.model.proofs.Fields.{u32-le4}
-use Rattle.model.proofs.Cells.{Cell, cell, stateOf, flagsOf, resOf, bodyOf, stored, typ, head, flen, fsize, solidAt, solid, enc, bytes, sizes, length-enc, flen-ge, fsize-ge}
+use Rattle.model.proofs.Cells.{Cell, cell, stateOf, stored, typ, head, flen, fsize, solidAt, solid, enc, bytes, sizes, length-enc, flen-ge}
 
 -- ---- what stands at a place
 

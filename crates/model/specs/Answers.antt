@@ -1,6 +1,6 @@
 -- Document 01's number and values for each case of each answer: 0 and the values for an answer, and for a refusal its number and no
 -- values. The contracts say which case is answered, these what that case is in the papers.
-use mathlib.Core.Bool.{Bool, cond}
+use mathlib.Core.Bool.{cond}
 use mathlib.Core.List.{List, [], _∷_}
 use lib.IntN.{ℤ, pos, negsuc}
 use Rattle.model.specs.declared.Error.{Error}
@@ -22,8 +22,6 @@ use Rattle.model.specs.declared.Located.{Located}
 use Rattle.model.specs.declared.Located.the-variants.{Span as LocatedSpan, Refused as LocatedRefused}
 use Rattle.model.specs.declared.HeaderRead.{HeaderRead}
 use Rattle.model.specs.declared.HeaderRead.the-variants.{Fields as HeaderReadFields, Refused as HeaderReadRefused}
-use Rattle.model.specs.declared.FramesRead.{FramesRead}
-use Rattle.model.specs.declared.FramesRead.the-variants.{Walked as FramesReadWalked, Refused as FramesReadRefused}
 use Rattle.model.specs.declared.TermRead.{TermRead}
 use Rattle.model.specs.declared.TermRead.the-variants.{Outcome as TermReadOutcome, Refused as TermReadRefused}
 use Rattle.model.specs.declared.Scanned.{Scanned}
@@ -107,11 +105,6 @@ locatedTold (LocatedRefused e) = refused e
 abbrev pub headerTold : HeaderRead → Told
 headerTold (HeaderReadFields f) = answered (fieldValues f)
 headerTold (HeaderReadRefused e) = refused e
-
--- a walk over frames: entries, fragments, bytes moved, bytes settled
-abbrev pub framesTold : FramesRead → Told
-framesTold (FramesReadWalked w) = answered (pos (w .entries) ∷ pos (w .fragments) ∷ pos (w .moved) ∷ pos (w .settled) ∷ [])
-framesTold (FramesReadRefused e) = refused e
 
 -- read
 abbrev pub readTold : TermRead → Told

@@ -1,6 +1,6 @@
 -- A claim's body, lent to be written; commit and abort. Each demands that the frame's header still shows minus the claim's length and
 -- its term id ("Writing" in document 01, last paragraph). In order: 1, 2, 14. Read Publication next.
-use Prim.Native.Nat.{ℕ, _+_, _-_, _*_, _%_}
+use Prim.Native.Nat.{ℕ, _+_, _*_, _%_}
 use mathlib.Core.Bool.{Bool, cond, _&&_}
 use mathlib.Core.List.{List}
 use lib.Dec.{eqb, leb}

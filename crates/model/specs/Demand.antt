@@ -23,8 +23,7 @@ use mathlib.Core.List.{List, [], _∷_}
 use lib.ListN.{length}
 use lib.IntN.{ℤ, pos}
 use lib.Signed.{ltZ}
-use Rattle.model.specs.declared.LogRecord.{LogRecord}
-use Rattle.model.specs.declared.Outcome.the-variants.{Done, Refused}
+use Rattle.model.specs.declared.Outcome.the-variants.{Done}
 use Rattle.model.specs.declared.Offered.{Offered}
 use Rattle.model.specs.declared.Offered.the-variants.{Position as OfferPosition, Refused as OfferRefused}
 use Rattle.model.specs.declared.Claimed.{Claimed}
@@ -34,8 +33,8 @@ use Rattle.model.specs.Publication.{openOf, openBytes}
 use Rattle.model.specs.TermReader.{natural, goodEntries}
 use Rattle.model.specs.Image.{newImage}
 use Rattle.model.specs.FragmentAssembler.{partLength, fresh}
-use Rattle.model.specs.History.{Call, Answer, offered, claimed, outcome, World, step, answers, left, Shape, shapeOf, Extent, message, claimed·, padding, sizeAll, tell, told, messages, AllGiven}
-use Rattle.model.specs.Replay.{Replaying, Polls, start, rounds, Quiet, replayed}
+use Rattle.model.specs.History.{Call, Answer, offered, claimed, outcome, World, answers, left, Shape, shapeOf, Extent, message, claimed·, padding, sizeAll, tell, told, messages, AllGiven}
+use Rattle.model.specs.Replay.{Polls, start, rounds, Quiet, replayed}
 
 -- ---- the answered positions
 

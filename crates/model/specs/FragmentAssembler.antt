@@ -1,6 +1,6 @@
 -- The assembler: up to 16 sessions over one lent buffer ("Reading" in document 01, third paragraph). In order: 1, 2, 17, 18.
-use Prim.Native.Nat.{ℕ, suc, _+_, _-_, _*_, _/_, _%_, min}
-use mathlib.Core.Bool.{Bool, true, false, cond, _&&_, _||_, not}
+use Prim.Native.Nat.{ℕ, suc, _+_, _-_, _*_, _/_, min}
+use mathlib.Core.Bool.{Bool, cond, _&&_, _||_}
 use mathlib.Core.List.{List, [], _∷_}
 use lib.Dec.{eqb, leb, ltb}
 use lib.ListN.{length, take, drop, getD, set, replicate}

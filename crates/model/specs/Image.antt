@@ -1,6 +1,6 @@
 -- An image: its polls, the peek, the block poll, and its position ("Reading" in document 01). A call answers and hands the next image
 -- back. In order: 1, 2, closed, 3, 15, 16, 17. Read FragmentAssembler next.
-use Prim.Native.Nat.{ℕ, _+_, _-_, _*_, _/_, _%_, min}
+use Prim.Native.Nat.{ℕ, _+_, _-_, _*_, _%_, min}
 use mathlib.Core.Bool.{Bool, true, false, cond, _&&_, _||_, not}
 use mathlib.Core.List.{List, [], _∷_}
 use lib.Dec.{eqb, leb, ltb}
@@ -24,7 +24,6 @@ use Rattle.model.specs.declared.BlockPolled.the-variants.{Block, Refused
 use Rattle.model.specs.declared.EndOfStream.{EndOfStream}
 use Rattle.model.specs.declared.EndOfStream.the-variants.{Is, Refused as EndRefused}
 use Rattle.model.specs.Bytes.{long, i32}
-use Rattle.model.specs.FrameDescriptor.{isUnsound}
 use Rattle.model.specs.LogBufferDescriptor.{partitionOf, reading, greatest, sound}
 use Rattle.model.specs.TermReader.{Walked, walk, firstUnsound, natural, goodEntries, laid}
 use Rattle.model.specs.TermScan.{scanFrom}

@@ -1,7 +1,7 @@
 -- The appenders: a message cut into frames, what is written, which way an append goes and what it answers and leaves
 -- ("Writing" in document 01). Read BufferClaim or Publication next.
 use Prim.Native.Nat.{ℕ, zero, suc, _+_, _-_, _*_, _/_, _%_}
-use mathlib.Core.Bool.{Bool, true, false, cond, _&&_}
+use mathlib.Core.Bool.{Bool, cond, _&&_}
 use mathlib.Core.List.{List, [], _∷_, _++_}
 use lib.Dec.{eqb, leb, ltb}
 use lib.ListN.{length, take, drop}
@@ -11,7 +11,6 @@ use mir.Val.{toZ}
 use Rattle.model.specs.declared.LogRecord.{LogRecord}
 use Rattle.model.specs.declared.Claim.{Claim}
 use Rattle.model.specs.declared.Reading.{Reading}
-use Rattle.model.specs.declared.Error.{Error}
 use Rattle.model.specs.declared.Error.the-variants.{IllegalArgument, IllegalRecord, TailOverflow, ActionPossiblyDelayed}
 use Rattle.model.specs.declared.Course.{Course}
 use Rattle.model.specs.declared.Course.the-variants.{Refuse, Stray, Trip, Fit}
@@ -21,7 +20,7 @@ use Rattle.model.specs.declared.AppendReply.{AppendReply}
 use Rattle.model.specs.declared.AppendedClaim.the-variants.{Claimed, Tripped as ClaimTripped, Refused as ClaimRefused}
 use Rattle.model.specs.declared.AppendClaimReply.{AppendClaimReply}
 use Rattle.model.specs.Bytes.{word, long, splice, le8}
-use Rattle.model.specs.FrameDescriptor.{align, space, negated}
+use Rattle.model.specs.FrameDescriptor.{space, negated}
 use Rattle.model.specs.DataFrameHeader.{Header, header24}
 use Rattle.model.specs.LogBufferDescriptor.{biased, readingOf, sound, goodPartition, withTail}
 

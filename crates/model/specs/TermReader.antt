@@ -1,16 +1,15 @@
 -- Reading a term: the walk over frames that every poll takes, entries, `read`, header fields, and views of bodies and blocks
 -- ("Reading" in document 01). Read TermScan or Image next.
 use Prim.Native.Nat.{ℕ, zero, suc, _+_, _-_, _*_, _/_, _%_}
-use mathlib.Core.Bool.{Bool, cond, _&&_, _||_, not}
+use mathlib.Core.Bool.{Bool, cond, _&&_, _||_}
 use mathlib.Core.List.{List, [], _∷_, _++_}
 use lib.Dec.{eqb, leb, ltb}
-use lib.ListN.{length, drop, getD}
-use lib.IntN.{ℤ, pos, negsuc, negℤ, _+ℤ_, _-ℤ_, _*ℤ_}
+use lib.ListN.{length, drop}
+use lib.IntN.{ℤ, pos, negsuc, negℤ, _+ℤ_}
 use mir.Syntax.{w32, w64}
 use mir.Val.{toZ}
 use Rattle.model.specs.declared.LogRecord.{LogRecord}
 use Rattle.model.specs.declared.Reading.{Reading}
-use Rattle.model.specs.declared.Error.{Error}
 use Rattle.model.specs.declared.Error.the-variants.{IllegalArgument, IllegalRecord, UnsoundFrame}
 use Rattle.model.specs.declared.Verdict.{Verdict}
 use Rattle.model.specs.declared.Verdict.the-variants.{Pass, Refuse}

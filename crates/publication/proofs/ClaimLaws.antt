@@ -1,12 +1,12 @@
 -- The claim's ladder taken apart, and that a claim that nothing refuses is the claiming append at the active partition with what its
 -- answer leads to.
 use mathlib.Core.Path.{_≡_, refl, sym, ap, ap₂, _∙_, subst}
-use mathlib.Core.Bool.{Bool, true, false, cond, _&&_, _||_, not}
-use Prim.Native.Nat.{ℕ, zero, suc, _+_, _-_, _*_, _/_, _%_, _≤_, _<_}
+use mathlib.Core.Bool.{Bool, true, false, cond, not}
+use Prim.Native.Nat.{ℕ, _+_, _*_, _≤_, _<_}
 use mathlib.Core.List.{List}
 use native.Mathlib.Omega.{arith}
-use borrow.Author.Tests.{le-leb, lt-leb, leb-true, leb-false, lt-ltb, le-ltb, ltb-true, ltb-false, eq-eqb}
-use lib.Dec.{eqb, leb, ltb}
+use borrow.Author.Tests.{le-leb, lt-ltb, le-ltb, ltb-false, eq-eqb}
+use lib.Dec.{leb, ltb}
 use lib.ListN.{length}
 use lib.IntN.{ℤ, pos}
 use Rattle.model.specs.declared.LogRecord.{LogRecord}
@@ -21,7 +21,6 @@ use Rattle.model.specs.declared.Course.the-variants.{Refuse as Deny, Stray, Tri
 use Rattle.model.specs.declared.AppendedClaim.{AppendedClaim}
 use Rattle.model.specs.declared.AppendedClaim.the-variants.{Claimed as Taken, Tripped, Refused}
 use Rattle.model.specs.declared.AppendClaimReply.{AppendClaimReply}
-use Rattle.model.specs.declared.Claimed.{Claimed}
 use Rattle.model.specs.declared.Claimed.the-variants.{Position, Refused as Declined}
 use Rattle.model.specs.declared.ClaimReply.{ClaimReply}
 use Rattle.model.specs.Bytes.{word}

@@ -1,26 +1,24 @@
 -- Position, limit and window: the ladder that they share, and the position as the code computes it.
 use mathlib.Core.Path.{_≡_, refl, sym, ap, ap₂, subst, _∙_}
 use mathlib.Core.Bool.{Bool, true, false, cond}
-use Prim.Native.Nat.{ℕ, _+_, _*_, _/_, _%_, _^_, _≤_, _<_, min}
+use Prim.Native.Nat.{ℕ, _/_, _%_, _^_, _≤_, _<_, min}
 use native.Mathlib.Omega.{arith}
 use borrow.Author.Tests.{le-ltb}
 use lib.Count.{trailingZeros}
 use lib.IntN.{ℤ, pos, natAbs, negℤ, _+ℤ_, _-ℤ_, _*ℤ_}
 use mir.Syntax.{w32, w64}
-use mir.Val.{SFits, ofZ, toZ}
-use mir.Facts.{ofZ-toZ, fits-ofZ, sfits-toZ}
+use mir.Val.{SFits}
+use mir.Facts.{fits-ofZ, sfits-toZ}
 use Rattle.model.specs.declared.LogRecord.{LogRecord}
 use Rattle.model.specs.declared.Reading.{Reading}
-use Rattle.model.specs.declared.Error.{Error}
 use Rattle.model.specs.declared.Error.the-variants.{IllegalRecord, PublicationClosed}
 use Rattle.model.specs.declared.Verdict.{Verdict}
 use Rattle.model.specs.declared.Verdict.the-variants.{Pass, Refuse}
 use Rattle.model.specs.declared.Positioned.{Positioned}
 use Rattle.model.specs.declared.Positioned.the-variants.{Position, Refused}
 use Rattle.model.specs.declared.Outcome.the-variants.{Done, Refused as ChangeRefused}
-use Rattle.model.specs.declared.RecordReply.{RecordReply}
-use Rattle.model.specs.Bytes.{word, long}
-use Rattle.model.specs.LogBufferDescriptor.{biased, idOf, offsetOf, termId, termOffset, tailOf, readingOf, reading, soundRecord, Sound, computePosition, publisherPosition}
+use Rattle.model.specs.Bytes.{long}
+use Rattle.model.specs.LogBufferDescriptor.{idOf, offsetOf, termId, termOffset, tailOf, readingOf, reading, soundRecord, Sound, computePosition, publisherPosition}
 use Rattle.model.specs.Publication.{openRecord, changeOf}
 use Rattle.model.proofs.Moving.{term-id-back}
 use Rattle.model.proofs.Power.{power, shift-high}

@@ -1,9 +1,7 @@
 -- The laws of offers by the numbers that the code has.
 use mathlib.Core.Path.{_≡_, refl, sym, ap, ap₂, _∙_, subst}
-use mathlib.Core.Bool.{Bool, true, false}
 use mathlib.Core.List.{List}
-use Prim.Native.Nat.{ℕ, _+_, _-_, _*_, _%_, _≤_, _<_}
-use native.Mathlib.Omega.{arith}
+use Prim.Native.Nat.{ℕ, _-_, _%_, _≤_}
 use lib.ListN.{length}
 use lib.IntN.{ℤ}
 use Rattle.model.specs.declared.LogRecord.{LogRecord}
@@ -12,7 +10,7 @@ use Rattle.model.specs.declared.Verdict.the-variants.{Pass}
 use Rattle.model.specs.declared.Appended.the-variants.{Offset, Tripped}
 use Rattle.model.specs.declared.AppendReply.{AppendReply}
 use Rattle.model.specs.Bytes.{word, long}
-use Rattle.model.specs.LogBufferDescriptor.{biased, readingOf, reading, active, payloadLimit, lastTerm}
+use Rattle.model.specs.LogBufferDescriptor.{biased, readingOf, reading, active, payloadLimit}
 use Rattle.model.specs.TermAppender.{need, course}
 use Rattle.model.specs.Publication.{beforeAppend, offerOf, offerBytes}
 use Rattle.model.proofs.Append.{appendReply, appendBytes}

@@ -1,9 +1,8 @@
 -- The reply that is built from an appender's way is the one that its definition answers.
 use mathlib.Core.Path.{_≡_, refl, sym, ap, ap₂, _∙_, subst}
 use mathlib.Core.Logic.{⊎-elim}
-use mathlib.Core.Bool.{true}
 use mathlib.Core.List.{List, [], _∷_}
-use Prim.Native.Nat.{ℕ, _+_, _*_, _%_, _≤_, _<_}
+use Prim.Native.Nat.{ℕ, _*_, _%_, _≤_, _<_}
 use native.Mathlib.Omega.{arith}
 use borrow.Author.Tests.{le-leb, lt-ltb, eq-eqb}
 use lib.ListN.{length, set}
@@ -32,7 +31,7 @@ use Rattle.model.proofs.Course.{the-type}
 use Rattle.model.proofs.Sound.{id-small}
 use Rattle.model.proofs.Append.{appendReply, appendBytes, claimingReply, claimingBytes}
 use Rattle.logbuffer.specs.declared.term_appender.Way.{Way}
-use Rattle.logbuffer.specs.Ways.{wayBy, goodAppend, courseOf, goodClaiming, claimCourse, movedWith, appendedWith}
+use Rattle.logbuffer.specs.Ways.{wayBy, courseOf, claimCourse, movedWith, appendedWith}
 use Rattle.logbuffer.proofs.Ways.{moved-with, appended-with, way-course, course-good, claim-good}
 
 -- of the four ways, all but a refusal move the tail, to whatever index the code names

@@ -11,7 +11,7 @@ use Rattle.model.specs.History.{left}
 use Rattle.model.specs.Demand.{Demand3, GivesAll, opened}
 use Rattle.model.proofs.Demand.{demand3}
 use Rattle.replay.specs.declared.Replay.{Replay}
-use Rattle.replay.specs.Replays.{stateOf, nextReplyOf}
+use Rattle.replay.specs.Replays.{stateOf}
 use Rattle.replay.specs.History.{Ran, gathered, ReplaysHistory}
 
 module _ {r : LogRecord} {log : List ℕ} {session : ℤ} {lent : List ℕ} (x : Ran r log session lent) where

@@ -1,14 +1,13 @@
 -- One turn of a replay: by the poll's answer, by the assembler's, and before what follows it.
-use mathlib.Core.Path.{_≡_, refl, sym, ap, ap₂, _∙_, subst}
+use mathlib.Core.Path.{_≡_, refl, sym, ap, ap₂, _∙_}
 use mathlib.Core.Bool.{Bool, true, false, cond}
 use mathlib.Core.List.{List}
-use Prim.Native.Nat.{ℕ, suc, _+_, _-_, _*_, _/_, _%_, _≤_, _<_}
+use Prim.Native.Nat.{ℕ, suc, _+_, _-_, _*_, _/_, _≤_, _<_}
 use native.Mathlib.Omega.{arith}
 use lib.Dec.{eqb, leb}
 use lib.ListN.{length, drop, getD}
 use lib.IntN.{ℤ, pos}
 use Rattle.model.specs.declared.LogRecord.{LogRecord}
-use Rattle.model.specs.declared.Error.{Error}
 use Rattle.model.specs.declared.Polled.{Polled}
 use Rattle.model.specs.declared.Polled.the-variants.{Fragments, Refused}
 use Rattle.model.specs.declared.Joining.{Joining}
@@ -17,23 +16,23 @@ use Rattle.model.specs.declared.Verdict.{Verdict}
 use Rattle.model.specs.declared.Verdict.the-variants.{Pass, Refuse}
 use Rattle.model.specs.declared.Assembled.{Assembled}
 use Rattle.model.specs.declared.Assembled.the-variants.{Nothing, Fragment, Message, Refused as AssemblyRefused}
-use Rattle.model.specs.declared.Replayed.the-variants.{InLog, InBuffer, End, Refused as ReplayRefused}
+use Rattle.model.specs.declared.Replayed.the-variants.{End}
 use Rattle.model.specs.Bytes.{word, long, u32, i32}
 use Rattle.model.specs.FrameDescriptor.{flagsAt}
 use Rattle.model.specs.LogBufferDescriptor.{readingOf, reading, partitionOf}
 use Rattle.model.specs.TermReader.{natural}
 use Rattle.model.specs.Image.{Image, newImage}
-use Rattle.model.specs.FragmentAssembler.{Sessions, fresh, Assembly, assembleVerdict, assembleBy, assembleOf, assembledBy, joining}
+use Rattle.model.specs.FragmentAssembler.{Sessions, fresh, assembleVerdict, assembleBy, assembleOf, assembledBy, joining}
 use Rattle.model.specs.Replay.{ReplayState, NextReply, giving, givenBy, assembledTo, pollOne, assembleOne, turnBy, nextFrom, nextOf}
 use Rattle.model.proofs.Choice.{cond-true, cond-false, le-yes, le-no, eq-yes, eq-no}
-use Rattle.logbuffer.proofs.Assembly.{verdict-passed, assembly-at, place-near}
+use Rattle.logbuffer.proofs.Assembly.{verdict-passed}
 use Rattle.image.specs.Images.{stateOf as imageState}
 use Rattle.logbuffer.specs.Assembler.{sessionsOf}
 use Rattle.replay.specs.declared.Replay.{Replay}
 use Rattle.replay.specs.declared.TurnReply.{TurnReply}
 use Rattle.model.specs.declared.Replayed.{Replayed}
 use Rattle.replay.specs.declared.Counted.the-variants.{Counts}
-use Rattle.replay.specs.Replays.{turned, Tally, addedTo, givesBy, lengthBy, countedBy, countFrom, countOf, stateOf, Turned, stops, goesOn, fragmentTurn, given, fragmentGiven, turnSaid, turnOf}
+use Rattle.replay.specs.Replays.{turned, Tally, addedTo, givesBy, lengthBy, countedBy, countFrom, countOf, stateOf, Turned, stops, goesOn, fragmentTurn, fragmentGiven, turnSaid, turnOf}
 
 -- a reply of the code, by its three parts
 pub turned-as : (t : TurnReply) (b : Bool) (a : Replayed) (p : Replay) (buffer : List ℕ) → (t .on ≡ b) × ((t .answer ≡ a) × (t .next ≡ p))

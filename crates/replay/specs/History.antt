@@ -25,7 +25,7 @@ use Rattle.model.specs.LogBufferDescriptor.{reading, publisherPosition}
 use Rattle.model.specs.Publication.{openOf}
 use Rattle.model.specs.Image.{newImage}
 use Rattle.model.specs.FragmentAssembler.{fresh, partLength}
-use Rattle.model.specs.History.{World, Call, left, messages, AllGiven}
+use Rattle.model.specs.History.{Call, left, messages, AllGiven}
 use Rattle.model.specs.Replay.{nextOf, messageBy}
 use Rattle.model.specs.Demand.{Holds, opened, shape, history}
 use Rattle.image.specs.Images.{stateOf as imageState}

@@ -2,10 +2,10 @@
 use native.Mathlib.Omega.{arith}
 use mathlib.Core.Path.{_≡_, refl, sym, ap, ap₂, subst, _∙_}
 use mathlib.Core.Logic.{⊎-elim}
-use mathlib.Core.List.{List, [], _∷_}
-use Prim.Native.Nat.{ℕ, _+_, _*_, _-_, _%_, _≤_, _<_}
+use mathlib.Core.List.{[], _∷_}
+use Prim.Native.Nat.{ℕ, _+_, _*_, _%_, _≤_, _<_}
 use lib.ListN.{length}
-use lib.IntN.{ℤ, pos}
+use lib.IntN.{ℤ}
 use mir.Syntax.{w32, w64}
 use mir.Val.{toZ, ofZ, SFits}
 use mir.Facts.{toZ-ofZ, toZ-pos}
@@ -22,7 +22,7 @@ use Rattle.model.specs.declared.ClaimReply.{ClaimReply}
 use Rattle.model.specs.declared.Claimed.the-variants.{Position, Refused as Declined}
 use Rattle.model.specs.Bytes.{word}
 use Rattle.model.specs.FrameDescriptor.{space}
-use Rattle.model.specs.LogBufferDescriptor.{biased, reading, readingOf, active, Sound}
+use Rattle.model.specs.LogBufferDescriptor.{biased, readingOf, active, Sound}
 use Rattle.model.specs.Publication.{claimOf, claimBytes}
 use Rattle.model.proofs.Append.{claimingReply, claimingBytes}
 use Rattle.model.proofs.Sound.{sound-true, bounds, begin-most}

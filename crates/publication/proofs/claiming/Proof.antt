@@ -1,11 +1,11 @@
 -- The way that the appender answers, made into the record, the answer and the claim's record, is the claiming append of the definition.
-use mathlib.Core.Path.{_≡_, refl, ap}
-use Prim.Native.Nat.{ℕ, _+_, _≤_}
+use mathlib.Core.Path.{refl, ap}
+use Prim.Native.Nat.{_+_, _≤_}
 use native.Mathlib.Omega.{arith}
 use borrow.Author.Needs.{needs}
 use mir.Syntax.{w32}
 use mir.Val.{toZ}
-use mir.Facts.{toZ-ofZ, toZ-pos}
+use mir.Facts.{toZ-pos}
 use Rattle.model.specs.FrameDescriptor.{space}
 use Rattle.model.specs.TermAppender.{claimRecord}
 use Rattle.logbuffer.proofs.Appending.{claim-record-is}

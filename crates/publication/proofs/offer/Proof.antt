@@ -7,7 +7,7 @@ use Rattle.model.specs.declared.Reading.{Reading}
 use mir.Facts.{toZ-ofZ}
 use lib.ListN.{length}
 use Prim.Native.Nat.{_<_}
-use mathlib.Core.Path.{_≡_, sym, ap, subst, _∙_}
+use mathlib.Core.Path.{sym, ap, subst, _∙_}
 use borrow.Author.Needs.{needs}
 use Rattle.publication.proofs.offer.Statement.{statement}
 use Rattle.publication.proofs.offer.Tie as tie

@@ -1,11 +1,11 @@
 -- The append's answer, taken apart, leads where `after` says; `offer-by` ties that to the offer's definition.
 use native.Mathlib.Omega.{arith}
-use mathlib.Core.Path.{_≡_, refl, sym, ap, ap₂, subst, _∙_}
+use mathlib.Core.Path.{_≡_, refl, sym, ap, ap₂, _∙_}
 use mathlib.Core.Logic.{⊎-elim}
-use mathlib.Core.List.{List, [], _∷_}
-use Prim.Native.Nat.{ℕ, _+_, _*_, _-_, _%_, _≤_, _<_}
+use mathlib.Core.List.{[], _∷_}
+use Prim.Native.Nat.{ℕ, _+_, _*_, _%_, _<_}
 use lib.ListN.{length}
-use lib.IntN.{ℤ, pos}
+use lib.IntN.{ℤ}
 use mir.Syntax.{w32, w64}
 use mir.Val.{toZ, ofZ, SFits}
 use mir.Facts.{toZ-ofZ, toZ-pos}
@@ -20,7 +20,7 @@ use Rattle.model.specs.declared.Appended.the-variants.{Offset, Tripped, Refused
 use Rattle.model.specs.declared.OfferReply.{OfferReply}
 use Rattle.model.specs.declared.Offered.the-variants.{Position, Refused as Declined}
 use Rattle.model.specs.Bytes.{word, long}
-use Rattle.model.specs.LogBufferDescriptor.{biased, reading, readingOf, active, Sound}
+use Rattle.model.specs.LogBufferDescriptor.{biased, readingOf, active, Sound}
 use Rattle.model.specs.Publication.{offerOf, offerBytes}
 use Rattle.model.proofs.Sound.{sound-true, bounds, begin-most}
 use Rattle.model.proofs.OfferLaws.{Passed, passed, after, afterBy}

@@ -5,14 +5,13 @@ use Rattle.logbuffer.proofs.Signs.{negative}
 use Rattle.model.proofs.Sound.{initial-small}
 use Rattle.model.specs.Publication.{claimVerdict, claimOf, claimBytes}
 use Rattle.model.specs.Bytes.{word}
-use Rattle.model.specs.declared.Verdict.the-variants.{Pass}
 use Rattle.model.specs.declared.Error.the-variants.{IllegalArgument}
 use Rattle.model.specs.declared.Reading.{Reading}
 use mir.Facts.{toZ-ofZ}
 use lib.ListN.{length}
 use Prim.Native.Nat.{ℕ, _<_}
 use native.Mathlib.Omega.{arith}
-use mathlib.Core.Path.{_≡_, sym, ap, ap₂, subst, _∙_}
+use mathlib.Core.Path.{sym, ap, ap₂, subst, _∙_}
 use borrow.Author.Needs.{needs}
 use Rattle.publication.proofs.try_claim.Statement.{statement}
 use Rattle.publication.proofs.try_claim.Tie as tie

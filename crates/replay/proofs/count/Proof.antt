@@ -14,15 +14,6 @@ use Rattle.replay.specs.Replays.{Tally, stateOf, nextReplyOf, addedTo, c
 use Rattle.replay.proofs.Turns.{count-none, count-stops, count-goes, count-starts}
 use Rattle.replay.proofs.count.Statement.{statement}
 use Rattle.replay.proofs.count.Tie as tie
-use Rattle.replay.proofs.count.Reads as reads
-use Rattle.replay.proofs.count.Lts as lts
-use Rattle.logbuffer.proofs.cast.word.Reads as word-reads
-use Rattle.replay.proofs.Replay.new.Reads as new-reads
-use Rattle.replay.proofs.Replay.next.Reads as next-reads
-use Rattle.replay.proofs.added.Reads as added-reads
-use Rattle.replay.proofs.count_of.Reads as count-of-reads
-use Rattle.replay.proofs.gives.Reads as gives-reads
-use Rattle.replay.proofs.length_of.Reads as length-of-reads
 
 abbrev Inv-loop : tie.InvT-loop
 Inv-loop rec log buffer₀ session-id replay₀ messages₀ bytes₀ most buffer replay messages bytes =
@@ -31,23 +22,18 @@ Inv-loop rec log buffer₀ session-id replay₀ messages₀ bytes₀ most buffer
 abbrev μ-loop : tie.MeasureT-loop
 μ-loop rec log buffer₀ session-id replay₀ messages₀ bytes₀ most buffer replay messages bytes = most - messages
 
--- src/lib.rt:256:9
 new-requires : tie.Need-new-requires Inv-loop μ-loop
 new-requires c κs = search needs
 
--- src/lib.rt:259:20
 word-requires : tie.Need-word-requires Inv-loop μ-loop
 word-requires c κs = search needs
 
--- src/lib.rt:259:16
 mul-most : tie.Need-mul-most Inv-loop μ-loop
 mul-most c = record { fits = omega (arith, c .word .ensures .1) }
 
--- src/lib.rt:259:16
 add-most : tie.Need-add-most Inv-loop μ-loop
 add-most c = record { fits = omega (arith, c .word .ensures .1) }
 
--- src/lib.rt:260:5
 loop-holds : tie.Need-loop-holds Inv-loop μ-loop
 loop-holds c =
     let a = c .before .before .before .before .before .args in
@@ -63,23 +49,18 @@ loop-holds c =
       ),
     )
 
--- src/lib.rt:261:13
 next-requires : tie.Need-next-requires Inv-loop μ-loop
 next-requires c κs = search needs
 
--- src/lib.rt:264:13
 gives-requires : tie.Need-gives-requires Inv-loop μ-loop
 gives-requires c κs = search needs
 
--- src/lib.rt:265:13
 count-of-requires : tie.Need-count-of-requires Inv-loop μ-loop
 count-of-requires c κs = search needs
 
--- src/lib.rt:265:13
 same-length : tie.Need-same-length Inv-loop μ-loop
 same-length c = search needs
 
--- src/lib.rt:265:13
 returns : tie.Need-returns Inv-loop μ-loop
 returns c =
     let a = c .before .before .before .before .before .before .before .before .before .before .before .before .before .before .before .args in
@@ -90,23 +71,18 @@ returns c =
     ∙ l .inv .1 .1 .1 ∙ ap (λ (z : ℤ). countOf (a .rec) (a .log .now) z (a .buffer .now)) (toZ-ofZ (c .before .before .before .before .before .before .before .before .before .before .before .before .before .before .before .fits .session-id)) in
     (c .count-of .ensures ∙ ap (λ (x : Tally). x .answer) t, ap (λ (x : Tally). x .buffer) t)
 
--- src/lib.rt:267:30
 length-of-requires : tie.Need-length-of-requires Inv-loop μ-loop
 length-of-requires c κs = search needs
 
--- src/lib.rt:267:9
 added-requires : tie.Need-added-requires Inv-loop μ-loop
 added-requires c κs = search needs
 
--- src/lib.rt:268:20
 add-messages : tie.Need-add-messages Inv-loop μ-loop
 add-messages c = search needs
 
--- src/lib.rt:260:5
 loop-less : tie.Need-loop-less Inv-loop μ-loop
 loop-less c = search needs
 
--- src/lib.rt:260:5
 loop-again : tie.Need-loop-again Inv-loop μ-loop
 loop-again c =
     let a = c .before .before .before .before .before .before .before .before .before .before .before .before .before .before .before .before .args in
@@ -118,11 +94,9 @@ loop-again c =
     let d = c .added .ensures ∙ ap (addedTo (l .bytes)) (c .before .length-of .ensures) in
     (search needs, (omega arith, (l .inv .1 .1 .0, ap₂ (λ (i j : ℕ). countFrom i (a .rec) (a .log .now) (stateOf (y .result .next) w) (l .messages + 1) j) m d ∙ g ∙ l .inv .1 .1 .1)))
 
--- src/lib.rt:252:1
 same-length-2 : tie.Need-same-length-2 Inv-loop μ-loop
 same-length-2 c = search needs
 
--- src/lib.rt:252:1
 returns-2 : tie.Need-returns-2 Inv-loop μ-loop
 returns-2 c =
     let a = c .before .before .before .before .before .before .before .args in

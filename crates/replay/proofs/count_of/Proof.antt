@@ -5,38 +5,28 @@ use Rattle.replay.specs.Replays.{countedBy}
 use borrow.Author.Needs.{needs}
 use Rattle.replay.proofs.count_of.Statement.{statement}
 use Rattle.replay.proofs.count_of.Tie as tie
-use Rattle.replay.proofs.count_of.Reads as reads
-use Rattle.replay.proofs.count_of.Lts as lts
 
--- src/lib.rt:244:34
 enum-told : tie.Need-enum-told
 enum-told c = search needs
 
--- src/lib.rt:245:37
 enum-told-2 : tie.Need-enum-told-2
 enum-told-2 c = search needs
 
--- src/lib.rt:246:26
 enum-told-3 : tie.Need-enum-told-3
 enum-told-3 c = search needs
 
--- src/lib.rt:247:27
 enum-known-answer : tie.Need-enum-known-answer
 enum-known-answer c = search needs
 
--- src/lib.rt:240:1
 returns : tie.Need-returns
 returns c = ap (λ (a : Replayed). countedBy a (c .before .before .args .messages) (c .before .before .args .bytes)) (sym (c .enum-told .given .1))
 
--- src/lib.rt:240:1
 returns-2 : tie.Need-returns-2
 returns-2 c = ap (λ (a : Replayed). countedBy a (c .before .before .args .messages) (c .before .before .args .bytes)) (sym (c .enum-told2 .given .1))
 
--- src/lib.rt:240:1
 returns-3 : tie.Need-returns-3
 returns-3 c = ap (λ (a : Replayed). countedBy a (c .before .before .args .messages) (c .before .before .args .bytes)) (sym (c .enum-told3 .given .1))
 
--- src/lib.rt:240:1
 returns-4 : tie.Need-returns-4
 returns-4 c = ap (λ (a : Replayed). countedBy a (c .before .before .before .args .messages) (c .before .before .before .args .bytes)) (sym (c .before .answer .given .1))
 

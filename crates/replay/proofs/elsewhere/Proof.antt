@@ -4,57 +4,43 @@ use Rattle.replay.specs.Replays.{elsewhereOn, elsewhereBy}
 use borrow.Author.Needs.{needs}
 use Rattle.replay.proofs.elsewhere.Statement.{statement}
 use Rattle.replay.proofs.elsewhere.Tie as tie
-use Rattle.replay.proofs.elsewhere.Reads as reads
-use Rattle.replay.proofs.elsewhere.Lts as lts
-use Rattle.replay.proofs.stopped.Reads as stopped-reads
 
--- src/lib.rt:104:21
 enum-told : tie.Need-enum-told
 enum-told c = search needs
 
--- src/lib.rt:107:52
 enum-told-2 : tie.Need-enum-told-2
 enum-told-2 c = search needs
 
--- src/lib.rt:107:38
 stopped-requires : tie.Need-stopped-requires
 stopped-requires c κs = search needs
 
--- src/lib.rt:108:28
 enum-known-answer : tie.Need-enum-known-answer
 enum-known-answer c = search needs
 
--- src/lib.rt:108:38
 stopped-requires-2 : tie.Need-stopped-requires-2
 stopped-requires-2 c κs = search needs
 
--- src/lib.rt:109:28
 enum-known-answer-2 : tie.Need-enum-known-answer-2
 enum-known-answer-2 c = search needs
 
--- src/lib.rt:109:34
 stopped-requires-3 : tie.Need-stopped-requires-3
 stopped-requires-3 c κs = search needs
 
--- src/lib.rt:98:1
 returns : tie.Need-returns
 returns c = search needs
 
--- src/lib.rt:98:1
 returns-2 : tie.Need-returns-2
 returns-2 c =
     let e = sym (c .before .enum-told2 .given .1) in
     let s = c .stopped .ensures in
     (s .0 ∙ ap elsewhereOn e, (s .1 .0 ∙ ap elsewhereBy e, s .1 .1))
 
--- src/lib.rt:98:1
 returns-3 : tie.Need-returns-3
 returns-3 c =
     let e = sym (c .before .before .answer .given .1) in
     let s = c .stopped2 .ensures in
     (s .0 ∙ ap elsewhereOn e, (s .1 .0 ∙ ap elsewhereBy e, s .1 .1))
 
--- src/lib.rt:98:1
 returns-4 : tie.Need-returns-4
 returns-4 c =
     let e = sym (c .before .before .answer2 .given .1) in

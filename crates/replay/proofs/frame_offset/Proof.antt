@@ -7,20 +7,14 @@ use Rattle.model.specs.TermReader.{natural}
 use borrow.Author.Needs.{needs}
 use Rattle.replay.proofs.frame_offset.Statement.{statement}
 use Rattle.replay.proofs.frame_offset.Tie as tie
-use Rattle.replay.proofs.frame_offset.Reads as reads
-use Rattle.replay.proofs.frame_offset.Lts as lts
-use Rattle.logbuffer.proofs.argument.natural.Reads as natural-reads
 
--- src/lib.rt:76:9
 natural-requires : tie.Need-natural-requires
 natural-requires c κs = search needs
 
--- src/lib.rt:73:1
 returns : tie.Need-returns
 returns c =
     let e = c .before .natural .ensures .0 ∙ ap natural (toZ-ofZ (c .before .before .fits .entry)) in (omega (arith, e), omega arith)
 
--- src/lib.rt:73:1
 returns-2 : tie.Need-returns-2
 returns-2 c =
     let e = c .before .natural .ensures .0 ∙ ap natural (toZ-ofZ (c .before .before .fits .entry)) in (ap (λ (x : ℕ). x - 32) e, omega (arith, c .before .natural .ensures .1))

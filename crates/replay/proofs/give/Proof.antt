@@ -2,8 +2,7 @@
 use types.Run.{OneOf, miss}
 use denote.Enum.Declared
 use Rattle.model.proofs.Assembled as tags
-use mathlib.Core.Bool.{Bool}
-use mathlib.Core.List.{List, [], _∷_}
+use mathlib.Core.List.{[], _∷_}
 use mathlib.Core.Path.{_≡_, refl, sym, ap, ap₂, _∙_}
 use Prim.Native.Nat.{ℕ, _+_, _-_, _*_, _≤_}
 use native.Mathlib.Omega.{arith}
@@ -19,21 +18,12 @@ use Rattle.model.specs.TermReader.{natural}
 use Rattle.model.specs.FragmentAssembler.{assembleOf}
 use Rattle.image.specs.Images.{stateOf as imageState}
 use Rattle.logbuffer.specs.Assembler.{sessionsOf}
-use Rattle.replay.specs.Replays.{Turned, stateOf, turned, elsewhereOn, elsewhereBy, fragmentTurn, fragmentGiven}
-use Rattle.replay.specs.declared.Replay.{Replay}
-use Rattle.replay.specs.declared.TurnReply.{TurnReply}
-use Rattle.model.specs.declared.Replayed.{Replayed}
+use Rattle.replay.specs.Replays.{Turned, elsewhereOn, elsewhereBy, fragmentTurn, fragmentGiven}
 use Rattle.model.specs.Replay.{ReplayState}
 use Rattle.replay.proofs.Turns.{turned-as, fragment-is, fragment-in}
 use borrow.Author.Needs.{needs}
 use Rattle.replay.proofs.give.Statement.{statement}
 use Rattle.replay.proofs.give.Tie as tie
-use Rattle.replay.proofs.give.Reads as reads
-use Rattle.replay.proofs.give.Lts as lts
-use Rattle.logbuffer.proofs.fragment_assembler.FragmentAssembler.on_fragment.Reads as on-fragment-reads
-use Rattle.logbuffer.proofs.log_buffer_descriptor.read_active.Reads as read-active-reads
-use Rattle.replay.proofs.frame_offset.Reads as frame-offset-reads
-use Rattle.replay.proofs.elsewhere.Reads as elsewhere-reads
 
 abbrev st : tie.After-on-fragment → tie.Start
 st c = c .before .before .before .before .before .before
@@ -73,60 +63,47 @@ elsewhere-is base s (Fragment at n) h = absurd (miss (0 ∷ 2 ∷ 3 ∷ []) 1 tt
 elsewhere-is base s (Message at n) h = refl
 elsewhere-is base s (Refused e) h = refl
 
--- src/lib.rt:126:9
 read-active-requires : tie.Need-read-active-requires
 read-active-requires c κs = search needs
 
--- src/lib.rt:127:57
 cast-on-fragment : tie.Need-cast-on-fragment
 cast-on-fragment c = search needs
 
--- src/lib.rt:127:67
 frame-offset-requires : tie.Need-frame-offset-requires
 frame-offset-requires c κs = search needs
 
--- src/lib.rt:127:67
 cast-on-fragment-2 : tie.Need-cast-on-fragment-2
 cast-on-fragment-2 c = search needs
 
--- src/lib.rt:127:9
 on-fragment-requires : tie.Need-on-fragment-requires
 on-fragment-requires c κs = search needs
 
--- src/lib.rt:134:29
 enum-known-answer : tie.Need-enum-known-answer
 enum-known-answer c = search needs
 
--- src/lib.rt:135:9
 elsewhere-requires : tie.Need-elsewhere-requires
 elsewhere-requires c κs = search needs
 
--- src/lib.rt:135:9
 same-length : tie.Need-same-length
 same-length c = search needs
 
--- src/lib.rt:135:9
 returns : tie.Need-returns
 returns c =
     let a = c .before .before .before .before .before .on-fragment .result .answer in
     let e = c .elsewhere .ensures in
     turned-as (c .elsewhere .result) (elsewhereOn a) (elsewhereBy a) _ (c .before .before .before .before .before .on-fragment .last .1 .1 .1 .0) e ∙ elsewhere-is (base (c .before .before .before .before .before)) _ a (c .before .match .keys2) ∙ is (c .before .before .before .before .before) a refl
 
--- src/lib.rt:139:33
 mul-t18 : tie.Need-mul-t18
 mul-t18 c =
     record { fits = omega (arith, inside (c .before .before .before .before .before .before .before) (c .before .before .answer .given .0 .0) (c .before .before .answer .given .0 .1 .0) (c .before .before .answer .given .1), st (c .before .before .before .before .before .before .before) .good) }
 
--- src/lib.rt:139:33
 add-t20 : tie.Need-add-t20
 add-t20 c =
     record { fits = omega (arith, inside (c .before .before .before .before .before .before .before) (c .before .before .answer .given .0 .0) (c .before .before .answer .given .0 .1 .0) (c .before .before .answer .given .1), st (c .before .before .before .before .before .before .before) .good) }
 
--- src/lib.rt:114:1
 same-length-2 : tie.Need-same-length-2
 same-length-2 c = search needs
 
--- src/lib.rt:114:1
 returns-2 : tie.Need-returns-2
 returns-2 c =
     is (c .before .before .before .before .before .before .before) (Fragment (c .before .before .answer .given .0 .0) (c .before .before .answer .given .0 .1 .0)) (c .before .before .answer .given .1)

@@ -8,23 +8,16 @@ use mir.Facts.{toZ-ofZ}
 use borrow.Author.Needs.{needs}
 use Rattle.replay.proofs.poll_one.Statement.{statement}
 use Rattle.replay.proofs.poll_one.Tie as tie
-use Rattle.replay.proofs.poll_one.Reads as reads
-use Rattle.replay.proofs.poll_one.Lts as lts
-use Rattle.image.proofs.Image.poll.Reads as poll-reads
 
--- src/lib.rt:54:39
 slice-aggregate-poll : tie.Need-slice-aggregate-poll
 slice-aggregate-poll c = search needs
 
--- src/lib.rt:54:9
 poll-requires : tie.Need-poll-requires
 poll-requires c κs = search needs
 
--- src/lib.rt:57:16
 array-copy-out-t10 : tie.Need-array-copy-out-t10
 array-copy-out-t10 c = search needs
 
--- src/lib.rt:50:1
 returns : tie.Need-returns
 returns c =
     let q = c .before .before .poll in

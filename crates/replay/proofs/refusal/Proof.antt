@@ -4,22 +4,16 @@ use Rattle.replay.specs.Replays.{refusalBy}
 use borrow.Author.Needs.{needs}
 use Rattle.replay.proofs.refusal.Statement.{statement}
 use Rattle.replay.proofs.refusal.Tie as tie
-use Rattle.replay.proofs.refusal.Reads as reads
-use Rattle.replay.proofs.refusal.Lts as lts
 
--- src/lib.rt:92:36
 enum-told : tie.Need-enum-told
 enum-told c = search needs
 
--- src/lib.rt:93:25
 enum-known-answer : tie.Need-enum-known-answer
 enum-known-answer c = search needs
 
--- src/lib.rt:88:1
 returns : tie.Need-returns
 returns c = search needs
 
--- src/lib.rt:88:1
 returns-2 : tie.Need-returns-2
 returns-2 c = ap refusalBy (sym (c .before .answer .given .1))
 

@@ -1,6 +1,6 @@
 -- The poll's answer says what kind of turn it is.
 use mathlib.Core.Path.{_≡_, sym, ap, ap₂, _∙_}
-use mathlib.Core.Bool.{Bool, true, false}
+use mathlib.Core.Bool.{false}
 use mathlib.Core.List.{List}
 use Prim.Native.Nat.{ℕ, _/_, _%_}
 use mir.Syntax.{w32}
@@ -9,7 +9,6 @@ use native.Mathlib.Omega.{arith}
 use Rattle.model.specs.declared.Reading.{Reading}
 use Rattle.model.specs.declared.Polled.{Polled}
 use Rattle.model.specs.declared.Polled.the-variants.{Fragments, Refused}
-use Rattle.model.specs.declared.Replayed.{Replayed}
 use Rattle.model.specs.Bytes.{long}
 use Rattle.model.specs.LogBufferDescriptor.{reading}
 use Rattle.model.specs.Image.{Image}
@@ -17,21 +16,11 @@ use Rattle.model.specs.Replay.{ReplayState, pollOne}
 use Rattle.image.specs.Images.{stateOf as imageState, pollReplyOf}
 use Rattle.image.specs.declared.PollReply.{PollReply}
 use Rattle.logbuffer.proofs.Signed.{long-by}
-use Rattle.replay.specs.declared.Replay.{Replay}
-use Rattle.replay.specs.declared.TurnReply.{TurnReply}
-use Rattle.replay.specs.Replays.{Turned, stateOf, refusalBy, turned, stops, goesOn, turnSaid, turnOf}
+use Rattle.replay.specs.Replays.{stateOf, refusalBy, stops, goesOn, turnSaid, turnOf}
 use Rattle.replay.proofs.Turns.{turned-as, fragment-one, turn-end, turn-fragment, turn-quiet, turn-padding}
 use borrow.Author.Needs.{needs}
 use Rattle.replay.proofs.turn.Statement.{statement}
 use Rattle.replay.proofs.turn.Tie as tie
-use Rattle.replay.proofs.turn.Reads as reads
-use Rattle.replay.proofs.turn.Lts as lts
-use Rattle.logbuffer.proofs.cast.long.Reads as long-reads
-use Rattle.logbuffer.proofs.log_buffer_descriptor.read_active.Reads as read-active-reads
-use Rattle.replay.proofs.give.Reads as give-reads
-use Rattle.replay.proofs.poll_one.Reads as poll-one-reads
-use Rattle.replay.proofs.stopped.Reads as stopped-reads
-use Rattle.replay.proofs.refusal.Reads as refusal-reads
 
 abbrev st : tie.After-poll-one → tie.Start
 st c = c .before .before .before .before .before .before .before .before
@@ -58,35 +47,27 @@ answered c x e = ap (turnSaid (st c .args .rec) (log c) (S c)) (sym e ∙ ap (λ
 next-is : (c : tie.After-poll-one) → imageState (c .poll-one .result .polled .next) ≡ pollOne (st c .args .rec) (log c) (S c .image) .next
 next-is c = ap (λ (y : PollReply). imageState (y .next)) (polled c)
 
--- src/lib.rt:146:9
 read-active-requires : tie.Need-read-active-requires
 read-active-requires c κs = search needs
 
--- src/lib.rt:150:9
 long-requires : tie.Need-long-requires
 long-requires c κs = search needs
 
--- src/lib.rt:151:9
 poll-one-requires : tie.Need-poll-one-requires
 poll-one-requires c κs = search needs
 
--- src/lib.rt:155:30
 enum-known-answer : tie.Need-enum-known-answer
 enum-known-answer c = search needs
 
--- src/lib.rt:156:32
 enum-told : tie.Need-enum-told
 enum-told c = search needs
 
--- src/lib.rt:156:32
 refusal-requires : tie.Need-refusal-requires
 refusal-requires c κs = search needs
 
--- src/lib.rt:156:9
 stopped-requires : tie.Need-stopped-requires
 stopped-requires c κs = search needs
 
--- src/lib.rt:156:9
 returns : tie.Need-returns
 returns c =
     let told = c .before .before .enum-told .given .1 in
@@ -94,29 +75,23 @@ returns c =
     ∙ ap (stops (S (c .before .before .before .before .before .before))) (c .before .refusal .ensures ∙ ap refusalBy told)
     ∙ answered (c .before .before .before .before .before .before) (Refused (c .before .before .enum-told .given .0 .0)) told
 
--- src/lib.rt:159:9
 stopped-requires-2 : tie.Need-stopped-requires-2
 stopped-requires-2 c κs = search needs
 
--- src/lib.rt:159:9
 returns-2 : tie.Need-returns-2
 returns-2 c =
     turned-as (c .stopped2 .result) false _ _ (st (c .before .before .before .before .before .before .before) .args .buffer .now) (c .stopped2 .ensures)
     ∙ turn-end (st (c .before .before .before .before .before .before .before) .args .rec) (log (c .before .before .before .before .before .before .before)) (S (c .before .before .before .before .before .before .before)) (c .before .before .before .answer .given .0 .0) (c .before .before .before .answer .given .0 .1 .0) (omega (arith, term-is (c .before .before .before .before .before .before .before), p-is (c .before .before .before .before .before .before .before), c .before .if1)) ∙ answered (c .before .before .before .before .before .before .before) (Fragments (c .before .before .before .answer .given .0 .0) (c .before .before .before .answer .given .0 .1 .0)) (c .before .before .before .answer .given .1)
 
--- src/lib.rt:162:56
 div-give : tie.Need-div-give
 div-give c = search needs
 
--- src/lib.rt:162:9
 give-requires : tie.Need-give-requires
 give-requires c κs = search needs
 
--- src/lib.rt:162:9
 same-length : tie.Need-same-length
 same-length c = search needs
 
--- src/lib.rt:162:9
 returns-3 : tie.Need-returns-3
 returns-3 c =
     c .before .before .give .ensures
@@ -125,21 +100,17 @@ returns-3 c =
     ∙ turn-fragment (st (c .before .before .before .before .before .before .before .before .before .before .before .before) .args .rec) (log (c .before .before .before .before .before .before .before .before .before .before .before .before)) (S (c .before .before .before .before .before .before .before .before .before .before .before .before)) (c .before .before .before .before .before .before .before .before .answer .given .0 .0) (c .before .before .before .before .before .before .before .before .answer .given .0 .1 .0) (omega (arith, term-is (c .before .before .before .before .before .before .before .before .before .before .before .before), p-is (c .before .before .before .before .before .before .before .before .before .before .before .before), c .before .before .before .before .before .before .if1 .left)) (c .before .before .before .before .before .if2 .taken)
     ∙ answered (c .before .before .before .before .before .before .before .before .before .before .before .before) (Fragments (c .before .before .before .before .before .before .before .before .answer .given .0 .0) (c .before .before .before .before .before .before .before .before .answer .given .0 .1 .0)) (c .before .before .before .before .before .before .before .before .answer .given .1)
 
--- src/lib.rt:164:8
 long-requires-2 : tie.Need-long-requires-2
 long-requires-2 c κs = search needs
 
--- src/lib.rt:165:9
 stopped-requires-3 : tie.Need-stopped-requires-3
 stopped-requires-3 c κs = search needs
 
--- src/lib.rt:165:9
 returns-4 : tie.Need-returns-4
 returns-4 c =
     turned-as (c .stopped3 .result) false _ _ (st (c .before .before .before .before .before .before .before .before .before .before .before) .args .buffer .now) (c .stopped3 .ensures)
     ∙ turn-quiet (st (c .before .before .before .before .before .before .before .before .before .before .before) .args .rec) (log (c .before .before .before .before .before .before .before .before .before .before .before)) (S (c .before .before .before .before .before .before .before .before .before .before .before)) (c .before .before .before .before .before .before .before .answer .given .0 .0) (c .before .before .before .before .before .before .before .answer .given .0 .1 .0) (omega (arith, term-is (c .before .before .before .before .before .before .before .before .before .before .before), p-is (c .before .before .before .before .before .before .before .before .before .before .before), c .before .before .before .before .before .if1 .left)) (c .before .before .before .before .if2 .left) (ap (λ (i : Image). long (i .position)) (sym (next-is (c .before .before .before .before .before .before .before .before .before .before .before))) ∙ sym (long-by (c .before .before .before .before .before .before .before .before .before .before .before .poll-one .result .polled .next .position) (c .before .before .long2 .ensures .0) (search needs)) ∙ c .before .if3 .taken ∙ p-is (c .before .before .before .before .before .before .before .before .before .before .before)) ∙ answered (c .before .before .before .before .before .before .before .before .before .before .before) (Fragments (c .before .before .before .before .before .before .before .answer .given .0 .0) (c .before .before .before .before .before .before .before .answer .given .0 .1 .0)) (c .before .before .before .before .before .before .before .answer .given .1)
 
--- src/lib.rt:143:1
 returns-5 : tie.Need-returns-5
 returns-5 c =
     ap (λ (i : Image). goesOn (record { image = i; sessions = S (c .before .before .before .before .before .before .before .before .before .before) .sessions; buffer = S (c .before .before .before .before .before .before .before .before .before .before) .buffer })) (next-is (c .before .before .before .before .before .before .before .before .before .before))

@@ -4,34 +4,25 @@ use native.Mathlib.Omega.{arith}
 use borrow.Author.Needs.{needs}
 use Rattle.replays.proofs.byte_at.Statement.{statement}
 use Rattle.replays.proofs.byte_at.Tie as tie
-use Rattle.replays.proofs.byte_at.Reads as reads
-use Rattle.replays.proofs.byte_at.Lts as lts
 
--- src/main.rt:141:9
 returns : tie.Need-returns
 returns c = search needs
 
--- src/main.rt:143:13
 sub-if2 : tie.Need-sub-if2
 sub-if2 c = search needs
 
--- src/main.rt:144:9
 returns-2 : tie.Need-returns-2
 returns-2 c = search needs
 
--- src/main.rt:146:19
 add-b : tie.Need-add-b
 add-b c = search needs
 
--- src/main.rt:146:13
 shared-slice-read-b : tie.Need-shared-slice-read-b
 shared-slice-read-b c = search needs
 
--- src/main.rt:146:13
 cast-b : tie.Need-cast-b
 cast-b c = omega (arith, c .shared-slice-known .given (c .before .before .before .args .from + c .before .before .before .args .i))
 
--- src/main.rt:138:1
 returns-3 : tie.Need-returns-3
 returns-3 c = search needs
 

@@ -1,6 +1,6 @@
 -- Both slices have n bytes; a store keeps the length.
 use mathlib.Core.Path.{_≡_}
-use lib.ListN.{length, length-set}
+use lib.ListN.{length}
 use borrow.Author.Needs.{needs}
 use Prim.Native.Nat.{_≤_, _-_}
 use Rattle.demo.proofs.writers.copy.Statement.{statement}

@@ -5,27 +5,19 @@ use native.Mathlib.Omega.{arith}
 use borrow.Author.Needs.{needs}
 use Rattle.logbuffer.proofs.buffer_builder.append.Statement.{statement}
 use Rattle.logbuffer.proofs.buffer_builder.append.Tie as tie
-use Rattle.logbuffer.proofs.buffer_builder.append.Reads as reads
-use Rattle.logbuffer.proofs.buffer_builder.append.Lts as lts
-use Rattle.logbuffer.proofs.copying.copy.Reads as copy-reads
 
--- src/buffer_builder.rt:13:27
 mul-copy : tie.Need-mul-copy
 mul-copy c = omega (arith, part-in (c .before .before .before .args .k) (c .before .before .before .args .part) (length (c .before .before .before .args .buffer .now)) (c .before .before .before .pre .0) (c .before .before .before .pre .1 .0))
 
--- src/buffer_builder.rt:13:27
 add-copy : tie.Need-add-copy
 add-copy c = omega (arith, part-in (c .before .before .before .args .k) (c .before .before .before .args .part) (length (c .before .before .before .args .buffer .now)) (c .before .before .before .pre .0) (c .before .before .before .pre .1 .0))
 
--- src/buffer_builder.rt:13:5
 copy-requires : tie.Need-copy-requires
 copy-requires c κs = omega (arith, part-in (c .before .before .before .args .k) (c .before .before .before .args .part) (length (c .before .before .before .args .buffer .now)) (c .before .before .before .pre .0) (c .before .before .before .pre .1 .0))
 
--- src/buffer_builder.rt:9:1
 same-length : tie.Need-same-length
 same-length c = search needs
 
--- src/buffer_builder.rt:9:1
 returns : tie.Need-returns
 returns c = search needs
 

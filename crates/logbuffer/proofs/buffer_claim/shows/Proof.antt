@@ -1,5 +1,4 @@
 -- The two words of the header decide.
-use Prim.Native.Nat.{_-_}
 use borrow.Author.Needs.{needs}
 use mir.Syntax.{w32}
 use mir.Val.{SFits}

@@ -1,6 +1,6 @@
 -- The first test that fails decides.
-use mathlib.Core.Path.{_≡_, sym, ap, _∙_}
-use Prim.Native.Nat.{ℕ, _+_, _-_, _*_}
+use mathlib.Core.Path.{sym, ap, _∙_}
+use Prim.Native.Nat.{ℕ, _-_}
 use native.Mathlib.Omega.{arith}
 use borrow.Author.Tests.{not-true, not-false}
 use lib.ListN.{length}
@@ -11,63 +11,46 @@ use Rattle.logbuffer.proofs.Assembly.{place-near, assembly-at, verdict-
 use borrow.Author.Needs.{needs}
 use Rattle.logbuffer.proofs.fragment_assembler.assemble_verdict.Statement.{statement}
 use Rattle.logbuffer.proofs.fragment_assembler.assemble_verdict.Tie as tie
-use Rattle.logbuffer.proofs.fragment_assembler.assemble_verdict.Reads as reads
-use Rattle.logbuffer.proofs.fragment_assembler.assemble_verdict.Lts as lts
-use Rattle.logbuffer.proofs.field.word4.Reads as word4-reads
-use Rattle.logbuffer.proofs.fragment_assembler.good_assembly.Reads as good-assembly-reads
-use Rattle.logbuffer.proofs.fragment_assembler.unsound_length.Reads as unsound-length-reads
-use Rattle.logbuffer.proofs.log_buffer_descriptor.is_sound.Reads as is-sound-reads
 
--- src/fragment_assembler.rt:207:9
 good-assembly-requires : tie.Need-good-assembly-requires
 good-assembly-requires c κs = search needs
 
--- src/fragment_assembler.rt:208:9
 returns : tie.Need-returns
 returns c =
     let a = c .before .before .before .args in verdict-argument (a .v) (a .log .now) (a .lent) (a .k) (a .at) (sym (c .before .good-assembly .ensures) ∙ not-true _ (c .if1 .taken))
 
--- src/fragment_assembler.rt:210:9
 is-sound-requires : tie.Need-is-sound-requires
 is-sound-requires c κs = search needs
 
--- src/fragment_assembler.rt:211:9
 returns-2 : tie.Need-returns-2
 returns-2 c =
     let a = c .before .before .before .before .before .args in verdict-record (a .v) (a .log .now) (a .lent) (a .k) (a .at) (sym (c .before .before .before .good-assembly .ensures) ∙ not-false _ (c .before .before .if1 .left)) (sym (c .before .is-sound .ensures) ∙ not-true _ (c .if2 .taken))
 
--- src/fragment_assembler.rt:213:41
 mul-word4 : tie.Need-mul-word4
 mul-word4 c =
     let a = c .before .before .before .before .before .before .args in record { fits = omega (arith, place-near (a .v) (a .log .now) (a .lent) (a .k) (a .at) (assembly-at (a .v) (a .log .now) (a .lent) (a .k) (a .at) (sym (c .before .before .before .before .good-assembly .ensures) ∙ not-false _ (c .before .before .before .if1 .left)) .0)) }
 
--- src/fragment_assembler.rt:213:41
 add-word4 : tie.Need-add-word4
 add-word4 c =
     let a = c .before .before .before .before .before .before .args in record { fits = omega (arith, place-near (a .v) (a .log .now) (a .lent) (a .k) (a .at) (assembly-at (a .v) (a .log .now) (a .lent) (a .k) (a .at) (sym (c .before .before .before .before .good-assembly .ensures) ∙ not-false _ (c .before .before .before .if1 .left)) .0)) }
 
--- src/fragment_assembler.rt:213:23
 word4-requires : tie.Need-word4-requires
 word4-requires c κs =
     let a = c .before .before .before .before .before .before .args in assembly-at (a .v) (a .log .now) (a .lent) (a .k) (a .at) (sym (c .before .before .before .before .good-assembly .ensures) ∙ not-false _ (c .before .before .before .if1 .left)) .1
 
--- src/fragment_assembler.rt:213:59
 sub-unsound-length : tie.Need-sub-unsound-length
 sub-unsound-length c =
     let a = c .before .before .before .before .before .before .before .before .args in omega (arith, placed (a .v) (length (a .log .now)) (a .k) (a .at) (assembly-at (a .v) (a .log .now) (a .lent) (a .k) (a .at) (sym (c .before .before .before .before .before .before .good-assembly .ensures) ∙ not-false _ (c .before .before .before .before .before .if1 .left)) .0) (sym (c .before .before .before .before .is-sound .ensures) ∙ not-false _ (c .before .before .before .if2 .left)) .below)
 
--- src/fragment_assembler.rt:213:8
 unsound-length-requires : tie.Need-unsound-length-requires
 unsound-length-requires c κs = search needs
 
--- src/fragment_assembler.rt:214:9
 returns-3 : tie.Need-returns-3
 returns-3 c =
     let a = c .before .before .before .before .before .before .before .before .before .before .args in
     sym (cond-true _ _ _ (ap (λ (w : ℕ). unsoundLength w (a .v .term - a .at)) (sym (c .before .before .before .word4 .ensures .0)) ∙ sym (c .before .unsound-length .ensures) ∙ c .if3 .taken))
     ∙ verdict-frame (a .v) (a .log .now) (a .lent) (a .k) (a .at) (sym (c .before .before .before .before .before .before .before .before .good-assembly .ensures) ∙ not-false _ (c .before .before .before .before .before .before .before .if1 .left)) (sym (c .before .before .before .before .before .before .is-sound .ensures) ∙ not-false _ (c .before .before .before .before .before .if2 .left))
 
--- src/fragment_assembler.rt:203:1
 returns-4 : tie.Need-returns-4
 returns-4 c =
     let a = c .before .before .before .before .before .before .before .before .before .before .args in

@@ -7,19 +7,14 @@ use mathlib.Core.Path.{sym, _∙_}
 use native.Mathlib.Omega.{arith}
 use Rattle.logbuffer.proofs.fragment_assembler.begun.Statement.{statement}
 use Rattle.logbuffer.proofs.fragment_assembler.begun.Tie as tie
-use Rattle.logbuffer.proofs.fragment_assembler.begun.Reads as reads
-use Rattle.logbuffer.proofs.fragment_assembler.begun.Lts as lts
 
--- src/fragment_assembler.rt:107:9
 returns : tie.Need-returns
 returns c = sym (le-yes 16 (c .before .args .k) Full _ (omega arith))
 
--- src/fragment_assembler.rt:110:9
 returns-2 : tie.Need-returns-2
 returns-2 c =
     sym (le-no 16 (c .before .before .args .k) Full _ (omega arith) ∙ cond-true (ltb (c .before .before .args .part) (c .before .before .args .n)) _ _ (lt-ltb (c .before .before .args .part) (c .before .before .args .n) (omega arith)))
 
--- src/fragment_assembler.rt:103:1
 returns-3 : tie.Need-returns-3
 returns-3 c =
     sym (le-no 16 (c .before .before .args .k) Full _ (omega arith) ∙ cond-false (ltb (c .before .before .args .part) (c .before .before .args .n)) _ _ (le-ltb (c .before .before .args .part) (c .before .before .args .n) (omega arith)))

@@ -1,40 +1,32 @@
 -- The first test that fails decides.
-use mathlib.Core.Path.{_≡_, sym, ap, ap₂, _∙_}
+use mathlib.Core.Path.{sym, ap, _∙_}
 use mathlib.Core.Bool.{_&&_}
 use Prim.Native.Nat.{ℕ}
 use native.Mathlib.Omega.{arith}
-use borrow.Author.Tests.{lt-ltb, le-ltb}
+use borrow.Author.Tests.{lt-ltb}
 use lib.Dec.{ltb}
 use Rattle.logbuffer.proofs.Assembly.{frame-short, frame-long}
 use borrow.Author.Needs.{needs}
 use Rattle.logbuffer.proofs.fragment_assembler.good_frame.Statement.{statement}
 use Rattle.logbuffer.proofs.fragment_assembler.good_frame.Tie as tie
-use Rattle.logbuffer.proofs.fragment_assembler.good_frame.Reads as reads
-use Rattle.logbuffer.proofs.fragment_assembler.good_frame.Lts as lts
-use Rattle.logbuffer.proofs.field.word4.Reads as word4-reads
 
--- src/fragment_assembler.rt:165:9
 returns : tie.Need-returns
 returns c =
     let a = c .before .before .args in frame-short (a .log .now) (a .at) (omega arith)
 
--- src/fragment_assembler.rt:168:9
 returns-2 : tie.Need-returns-2
 returns-2 c =
     let a = c .before .before .before .args in frame-short (a .log .now) (a .at) (omega arith)
 
--- src/fragment_assembler.rt:170:9
 word4-requires : tie.Need-word4-requires
 word4-requires c κs = search needs
 
--- src/fragment_assembler.rt:172:9
 returns-3 : tie.Need-returns-3
 returns-3 c =
     let a = c .before .before .before .before .before .args in
     let w = c .before .word4 in
     sym (ap (λ (x : ℕ). ltb 0 x && ltb x 2147483648) (sym (w .ensures .0) ∙ c .if3 .taken)) ∙ frame-long (a .log .now) (a .at) (omega arith)
 
--- src/fragment_assembler.rt:160:1
 returns-4 : tie.Need-returns-4
 returns-4 c =
     let a = c .before .before .before .before .before .args in

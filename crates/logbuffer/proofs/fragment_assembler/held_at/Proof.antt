@@ -6,22 +6,16 @@ use mathlib.Core.Path.{sym, _∙_, _≡_}
 use borrow.Author.Needs.{needs}
 use Rattle.logbuffer.proofs.fragment_assembler.held_at.Statement.{statement}
 use Rattle.logbuffer.proofs.fragment_assembler.held_at.Tie as tie
-use Rattle.logbuffer.proofs.fragment_assembler.held_at.Reads as reads
-use Rattle.logbuffer.proofs.fragment_assembler.held_at.Lts as lts
 
--- src/fragment_assembler.rt:139:9
 mul-result : tie.Need-mul-result
 mul-result c = search needs
 
--- src/fragment_assembler.rt:139:9
 element-copy-out-result : tie.Need-element-copy-out-result
 element-copy-out-result c = search needs
 
--- src/fragment_assembler.rt:135:1
 returns : tie.Need-returns
 returns c = search needs
 
--- src/fragment_assembler.rt:135:1
 returns-2 : tie.Need-returns-2
 returns-2 c =
     let a = c .before .args .t1 in

@@ -17,14 +17,6 @@ use Rattle.logbuffer.proofs.Assembly.{three, Fit, join-fits, Done, done
 use borrow.Author.Needs.{needs}
 use Rattle.logbuffer.proofs.fragment_assembler.join_frame.Statement.{statement}
 use Rattle.logbuffer.proofs.fragment_assembler.join_frame.Tie as tie
-use Rattle.logbuffer.proofs.fragment_assembler.join_frame.Reads as reads
-use Rattle.logbuffer.proofs.fragment_assembler.join_frame.Lts as lts
-use Rattle.logbuffer.proofs.buffer_builder.append.Reads as append-reads
-use Rattle.logbuffer.proofs.cast.to_i32.Reads as to-i32-reads
-use Rattle.logbuffer.proofs.field.byte.Reads as byte-reads
-use Rattle.logbuffer.proofs.field.word4.Reads as word4-reads
-use Rattle.logbuffer.proofs.fragment_assembler.FragmentAssembler.holding.Reads as holding-reads
-use Rattle.logbuffer.proofs.fragment_assembler.joining.Reads as joining-reads
 
 -- the numbers read from the header
 abbrev st : tie.After-joining → tie.Start
@@ -59,150 +51,117 @@ fits c x e = subst (Fit (w c - 32) (part c)) (sym (joins c) ∙ e) (join-fits (s
 body-in : (c : tie.After-joining) → st c .args .place + 32 + (w c - 32) ≤ length (st c .args .log .now)
 body-in c = omega (arith, st c .pre, c .before .before .before .before .word4 .ensures .0)
 
--- src/fragment_assembler.rt:231:13
 word4-requires : tie.Need-word4-requires
 word4-requires c κs = search needs
 
--- src/fragment_assembler.rt:231:13
 sub-n : tie.Need-sub-n
 sub-n c = search needs
 
--- src/fragment_assembler.rt:232:50
 add-word4 : tie.Need-add-word4
 add-word4 c = search needs
 
--- src/fragment_assembler.rt:232:32
 word4-requires-2 : tie.Need-word4-requires-2
 word4-requires-2 c κs = search needs
 
--- src/fragment_assembler.rt:232:9
 to-i32-requires : tie.Need-to-i32-requires
 to-i32-requires c κs = search needs
 
--- src/fragment_assembler.rt:233:34
 add-byte : tie.Need-add-byte
 add-byte c = search needs
 
--- src/fragment_assembler.rt:233:9
 byte-requires : tie.Need-byte-requires
 byte-requires c κs = search needs
 
--- src/fragment_assembler.rt:235:11
 joining-requires : tie.Need-joining-requires
 joining-requires c κs = search needs
 
--- src/fragment_assembler.rt:236:82
 enum-told : tie.Need-enum-told
 enum-told c = search needs
 
--- src/fragment_assembler.rt:236:82
 add-t19 : tie.Need-add-t19
 add-t19 c = search needs
 
--- src/fragment_assembler.rt:237:61
 enum-told-2 : tie.Need-enum-told-2
 enum-told-2 c = search needs
 
--- src/fragment_assembler.rt:238:78
 enum-told-3 : tie.Need-enum-told-3
 enum-told-3 c = search needs
 
--- src/fragment_assembler.rt:239:26
 enum-known-k : tie.Need-enum-known-k
 enum-known-k c = search needs
 
--- src/fragment_assembler.rt:240:19
 holding-requires : tie.Need-holding-requires
 holding-requires c κs =
     fits (c .before .before .before) (TooLong (c .before .k .given .0 .0)) (c .before .k .given .1)
 
--- src/fragment_assembler.rt:243:23
 enum-known-k-2 : tie.Need-enum-known-k-2
 enum-known-k-2 c = search needs
 
--- src/fragment_assembler.rt:244:64
 add-append : tie.Need-add-append
 add-append c = search needs
 
--- src/fragment_assembler.rt:244:13
 append-requires : tie.Need-append-requires
 append-requires c κs =
     let f = fits (c .before .before .before .before) (Join (c .before .before .k2 .given .0 .0) (c .before .before .k2 .given .0 .1 .0)) (c .before .before .k2 .given .1) in (refl, (f .0, (f .1, body-in (c .before .before .before .before))))
 
--- src/fragment_assembler.rt:245:57
 add-holding : tie.Need-add-holding
 add-holding c =
     record { fits = omega (arith, fits (c .before .before .before .before .before .before .before) (Join (c .before .before .before .before .before .k2 .given .0 .0) (c .before .before .before .before .before .k2 .given .0 .1 .0)) (c .before .before .before .before .before .k2 .given .1) .1, st (c .before .before .before .before .before .before .before) .good) }
 
--- src/fragment_assembler.rt:245:35
 holding-requires-2 : tie.Need-holding-requires-2
 holding-requires-2 c κs =
     fits (c .before .before .before .before .before .before .before) (Join (c .before .before .before .before .before .k2 .given .0 .0) (c .before .before .before .before .before .k2 .given .0 .1 .0)) (c .before .before .before .before .before .k2 .given .1) .0
 
--- src/fragment_assembler.rt:247:27
 enum-known-k-3 : tie.Need-enum-known-k-3
 enum-known-k-3 c = search needs
 
--- src/fragment_assembler.rt:248:64
 add-append-2 : tie.Need-add-append-2
 add-append-2 c = search needs
 
--- src/fragment_assembler.rt:248:13
 append-requires-2 : tie.Need-append-requires-2
 append-requires-2 c κs =
     let f = fits (c .before .before .before .before) (Complete (c .before .before .k3 .given .0 .0) (c .before .before .k3 .given .0 .1 .0)) (c .before .before .k3 .given .1) in (refl, (f .0, (f .1, body-in (c .before .before .before .before))))
 
--- src/fragment_assembler.rt:249:35
 holding-requires-3 : tie.Need-holding-requires-3
 holding-requires-3 c κs =
     fits (c .before .before .before .before .before .before .before) (Complete (c .before .before .before .before .before .k3 .given .0 .0) (c .before .before .before .before .before .k3 .given .0 .1 .0)) (c .before .before .before .before .before .k3 .given .1) .0
 
--- src/fragment_assembler.rt:249:88
 mul-t36 : tie.Need-mul-t36
 mul-t36 c =
     record { fits = omega (arith, part-in (c .before .before .before .before .before .before .k3 .given .0 .0) (part (c .before .before .before .before .before .before .before .before)) (length (st (c .before .before .before .before .before .before .before .before) .args .buffer .now)) refl (fits (c .before .before .before .before .before .before .before .before) (Complete (c .before .before .before .before .before .before .k3 .given .0 .0) (c .before .before .before .before .before .before .k3 .given .0 .1 .0)) (c .before .before .before .before .before .before .k3 .given .1) .0), st (c .before .before .before .before .before .before .before .before) .good) }
 
--- src/fragment_assembler.rt:249:98
 add-t38 : tie.Need-add-t38
 add-t38 c =
     record { fits = omega (arith, fits (c .before .before .before .before .before .before .before .before) (Complete (c .before .before .before .before .before .before .k3 .given .0 .0) (c .before .before .before .before .before .before .k3 .given .0 .1 .0)) (c .before .before .before .before .before .before .k3 .given .1) .1, st (c .before .before .before .before .before .before .before .before) .good) }
 
--- src/fragment_assembler.rt:220:1
 returns : tie.Need-returns
 returns c =
     three _ _ (does (c .before .before) Through (c .enum-told .given .1))
 
--- src/fragment_assembler.rt:220:1
 returns-2 : tie.Need-returns-2
 returns-2 c =
     three _ _ (does (c .before .before) Ignore (c .enum-told2 .given .1))
 
--- src/fragment_assembler.rt:220:1
 returns-3 : tie.Need-returns-3
 returns-3 c =
     three _ _ (does (c .before .before) Full (c .enum-told3 .given .1))
 
--- src/fragment_assembler.rt:220:1
 returns-4 : tie.Need-returns-4
 returns-4 c =
     let t = three _ _ (does (c .before .before .before .before) (TooLong (c .before .before .k .given .0 .0)) (c .before .before .k .given .1)) in
     ((t .0 .0, c .holding .ensures ∙ t .0 .1), t .1)
 
--- src/fragment_assembler.rt:220:1
 same-length : tie.Need-same-length
 same-length c = search needs
 
--- src/fragment_assembler.rt:220:1
 returns-5 : tie.Need-returns-5
 returns-5 c =
     let t = three _ _ (does (c .before .before .before .before .before .before .before .before) (Join (c .before .before .before .before .before .before .k2 .given .0 .0) (c .before .before .before .before .before .before .k2 .given .0 .1 .0)) (c .before .before .before .before .before .before .k2 .given .1)) in
     ((t .0 .0, c .holding2 .ensures ∙ t .0 .1), c .before .before .before .append .ensures ∙ t .1)
 
--- src/fragment_assembler.rt:220:1
 same-length-2 : tie.Need-same-length-2
 same-length-2 c = search needs
 
--- src/fragment_assembler.rt:220:1
 returns-6 : tie.Need-returns-6
 returns-6 c =
     let t = three _ _ (does (c .before .before .before .before .before .before .before .before) (Complete (c .before .before .before .before .before .before .k3 .given .0 .0) (c .before .before .before .before .before .before .k3 .given .0 .1 .0)) (c .before .before .before .before .before .before .k3 .given .1)) in

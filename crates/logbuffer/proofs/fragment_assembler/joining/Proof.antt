@@ -1,5 +1,5 @@
 -- The flags pick the case; the rest is `begun` or `continued`.
-use mathlib.Core.Path.{sym, ap, ap₂, _∙_}
+use mathlib.Core.Path.{ap, ap₂, _∙_}
 use Prim.Native.Nat.{ℕ}
 use lib.ListN.{getD}
 use mir.Facts.{toZ-ofZ}
@@ -10,29 +10,18 @@ use Rattle.logbuffer.specs.Assembler.{sessionsOf}
 use Rattle.logbuffer.proofs.Sessions.{join-through, join-begun, join-more, Begun, More}
 use Rattle.logbuffer.proofs.fragment_assembler.joining.Statement.{statement}
 use Rattle.logbuffer.proofs.fragment_assembler.joining.Tie as tie
-use Rattle.logbuffer.proofs.fragment_assembler.joining.Reads as reads
-use Rattle.logbuffer.proofs.fragment_assembler.joining.Lts as lts
-use Rattle.logbuffer.proofs.fragment_assembler.FragmentAssembler.entered.Reads as entered-reads
-use Rattle.logbuffer.proofs.fragment_assembler.FragmentAssembler.place.Reads as place-reads
-use Rattle.logbuffer.proofs.fragment_assembler.begun.Reads as begun-reads
-use Rattle.logbuffer.proofs.fragment_assembler.continued.Reads as continued-reads
-use Rattle.logbuffer.proofs.fragment_assembler.held_at.Reads as held-at-reads
 
--- src/fragment_assembler.rt:153:13
 returns : tie.Need-returns
 returns c =
     let a = c .before .before .args in
     join-through (sessionsOf (a .a)) (a .session) (a .flags) (a .n) (a .part) (c .before .if1 .taken) (c .if2 .taken)
 
--- src/fragment_assembler.rt:155:22
 place-requires : tie.Need-place-requires
 place-requires c κs = search needs
 
--- src/fragment_assembler.rt:155:9
 begun-requires : tie.Need-begun-requires
 begun-requires c κs = search needs
 
--- src/fragment_assembler.rt:155:9
 returns-2 : tie.Need-returns-2
 returns-2 c =
     let a = c .before .before .before .before .args in
@@ -40,23 +29,18 @@ returns-2 c =
     c .begun .ensures ∙ ap (λ (k : ℕ). Begun k (a .n) (a .part)) k
     ∙ join-begun (sessionsOf (a .a)) (a .session) (a .flags) (a .n) (a .part) (c .before .before .before .if1 .taken) (c .before .before .if2 .left)
 
--- src/fragment_assembler.rt:157:9
 place-requires-2 : tie.Need-place-requires-2
 place-requires-2 c κs = search needs
 
--- src/fragment_assembler.rt:158:18
 entered-requires : tie.Need-entered-requires
 entered-requires c κs = search needs
 
--- src/fragment_assembler.rt:158:31
 held-at-requires : tie.Need-held-at-requires
 held-at-requires c κs = search needs
 
--- src/fragment_assembler.rt:158:5
 continued-requires : tie.Need-continued-requires
 continued-requires c κs = search needs
 
--- src/fragment_assembler.rt:146:1
 returns-3 : tie.Need-returns-3
 returns-3 c =
     let a = c .before .before .before .before .before .args in

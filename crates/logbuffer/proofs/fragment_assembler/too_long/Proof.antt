@@ -6,14 +6,10 @@ use mathlib.Core.Path.{sym}
 use native.Mathlib.Omega.{arith}
 use Rattle.logbuffer.proofs.fragment_assembler.too_long.Statement.{statement}
 use Rattle.logbuffer.proofs.fragment_assembler.too_long.Tie as tie
-use Rattle.logbuffer.proofs.fragment_assembler.too_long.Reads as reads
-use Rattle.logbuffer.proofs.fragment_assembler.too_long.Lts as lts
 
--- src/fragment_assembler.rt:96:9
 returns : tie.Need-returns
 returns c = sym (lt-ltb (c .before .args .part) (c .before .args .held + c .before .args .n) (omega arith))
 
--- src/fragment_assembler.rt:92:1
 returns-2 : tie.Need-returns-2
 returns-2 c = long-by (c .before .args .part) (c .before .args .held) (c .before .args .n) (omega arith)
 

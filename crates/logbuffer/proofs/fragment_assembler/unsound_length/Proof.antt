@@ -1,30 +1,23 @@
 -- The tests pick the case of the definition.
-use mathlib.Core.Path.{_≡_, sym, ap, ap₂, _∙_}
+use mathlib.Core.Path.{sym, ap}
 use mathlib.Core.Bool.{Bool, _||_}
-use native.Mathlib.Omega.{arith}
 use borrow.Author.Tests.{lt-ltb, le-ltb}
 use lib.Dec.{ltb}
 use Rattle.model.specs.FrameDescriptor.{align}
 use borrow.Author.Needs.{needs}
 use Rattle.logbuffer.proofs.fragment_assembler.unsound_length.Statement.{statement}
 use Rattle.logbuffer.proofs.fragment_assembler.unsound_length.Tie as tie
-use Rattle.logbuffer.proofs.fragment_assembler.unsound_length.Reads as reads
-use Rattle.logbuffer.proofs.fragment_assembler.unsound_length.Lts as lts
 
--- src/fragment_assembler.rt:183:9
 returns : tie.Need-returns
 returns c =
     let a = c .before .args in ap (λ (x : Bool). x || ltb (a .room) (align (a .n))) (sym (lt-ltb (a .n) 32 (c .if1 .taken)))
 
--- src/fragment_assembler.rt:185:13
 add-result : tie.Need-add-result
 add-result c = search needs
 
--- src/fragment_assembler.rt:185:12
 mul-result : tie.Need-mul-result
 mul-result c = search needs
 
--- src/fragment_assembler.rt:178:1
 returns-2 : tie.Need-returns-2
 returns-2 c =
     let a = c .before .args in ap (λ (x : Bool). x || ltb (a .room) (align (a .n))) (sym (le-ltb (a .n) 32 (c .if1 .left)))

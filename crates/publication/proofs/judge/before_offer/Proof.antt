@@ -1,9 +1,8 @@
 -- The tests that were passed lead to the rung.
 use native.Mathlib.Omega.{arith}
-use mathlib.Core.Path.{_≡_, refl, sym, ap, _∙_}
-use mathlib.Core.Bool.{Bool, true, false}
-use Prim.Native.Nat.{ℕ, _+_, _≤_, _<_}
-use borrow.Author.Tests.{not-true, not-false, lt-ltb, le-ltb}
+use mathlib.Core.Path.{_≡_, sym, _∙_}
+use mathlib.Core.Bool.{true, false}
+use borrow.Author.Tests.{not-true, not-false}
 use Rattle.model.specs.LogBufferDescriptor.{sound, Sound}
 use Rattle.model.proofs.Sound.{sound-true, bounds}
 use Rattle.model.proofs.OfferLaws.{rung-1, rung-2, rung-5, rung-7, rung-10}

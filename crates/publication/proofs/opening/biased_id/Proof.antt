@@ -9,9 +9,9 @@ use mir.Syntax.{w32, w64}
 use lib.Signed.{nonNeg}
 use lib.IntN.{ℤ, pos, natAbs, _+ℤ_}
 use lib.Dec.{T}
-use Prim.Native.Nat.{ℕ, _<_}
+use Prim.Native.Nat.{_<_}
 use native.Mathlib.Omega.{arith}
-use mathlib.Core.Path.{_≡_, refl, sym, ap, ap₂, subst, _∙_}
+use mathlib.Core.Path.{_≡_, sym, ap, subst, _∙_}
 use Rattle.publication.proofs.opening.biased_id.Statement.{statement}
 use Rattle.publication.proofs.opening.biased_id.Tie as tie
 

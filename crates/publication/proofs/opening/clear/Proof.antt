@@ -7,7 +7,7 @@ use Rattle.model.specs.Bytes.{zeros}
 use Prim.Native.Nat.{ℕ, _-_, _≤_}
 use native.Mathlib.Omega.{arith}
 use mathlib.Core.List.{List, _++_}
-use mathlib.Core.Path.{_≡_, refl, sym, ap, _∙_}
+use mathlib.Core.Path.{_≡_, refl, ap, _∙_}
 use Rattle.publication.proofs.opening.clear.Statement.{statement}
 use Rattle.publication.proofs.opening.clear.Tie as tie
 

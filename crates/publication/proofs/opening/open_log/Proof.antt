@@ -2,7 +2,6 @@
 use Rattle.publication.proofs.OpenLaws.{open-no, open-done}
 use Rattle.model.specs.Publication.{openedRecord}
 use Rattle.model.specs.LogBufferDescriptor.{reading, sound}
-use Rattle.model.specs.declared.RecordReply.{RecordReply}
 use Rattle.model.specs.declared.Reading.{Reading}
 use Rattle.model.specs.declared.Outcome.the-variants.{Done, Refused}
 use Rattle.model.specs.declared.Error.the-variants.{IllegalRecord}
@@ -11,7 +10,7 @@ use borrow.Author.Tests.{not-true, not-false}
 use mir.Facts.{toZ-ofZ}
 use lib.ListN.{length}
 use mathlib.Core.Bool.{Bool, true, false}
-use mathlib.Core.Path.{_≡_, sym, ap, ap₂, _∙_}
+use mathlib.Core.Path.{_≡_, sym, ap, _∙_}
 use borrow.Author.Needs.{needs}
 use Rattle.publication.proofs.opening.open_log.Statement.{statement}
 use Rattle.publication.proofs.opening.open_log.Tie as tie

@@ -1,16 +1,12 @@
 -- Each signed number that is handed on is itself, and each raw tail that of its id.
 use Rattle.publication.proofs.OpenLaws.{opened-by}
-use Rattle.model.specs.Publication.{openedRecord}
 use Rattle.model.specs.LogBufferDescriptor.{biased, rawOf}
 use Rattle.model.specs.Bytes.{word}
-use Rattle.model.specs.declared.LogRecord.{LogRecord}
 use mir.Facts.{toZ-ofZ}
-use mir.Val.{SFits, toZ, ofZ}
-use mir.Syntax.{w32, w64}
-use lib.IntN.{ℤ, pos}
+use mir.Syntax.{w64}
+use lib.IntN.{ℤ}
 use Prim.Native.Nat.{ℕ, _-_}
-use mathlib.Core.List.{List, [], _∷_}
-use mathlib.Core.Path.{_≡_, refl, sym, ap, ap₂, subst, _∙_}
+use mathlib.Core.Path.{_≡_, ap, _∙_}
 use borrow.Author.Needs.{needs}
 use Rattle.publication.proofs.opening.opened.Statement.{statement}
 use Rattle.publication.proofs.opening.opened.Tie as tie

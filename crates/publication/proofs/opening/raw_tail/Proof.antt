@@ -2,13 +2,13 @@
 use Rattle.publication.proofs.Ids.{raw-fits, raw-fits-whole, raw-bits}
 use Rattle.logbuffer.proofs.Signed.{lands, asks}
 use Rattle.model.specs.LogBufferDescriptor.{rawOf}
-use mir.Facts.{toZ-ofZ, toZ-pos}
-use mir.Val.{SFits, toZ, ofZ}
+use mir.Facts.{toZ-pos}
+use mir.Val.{toZ, ofZ}
 use mir.Syntax.{w64}
 use lib.IntN.{ℤ, pos, _+ℤ_, _-ℤ_, _*ℤ_, -ℤ-+ℤ-cancel}
-use Prim.Native.Nat.{ℕ, _<_}
+use Prim.Native.Nat.{_<_}
 use native.Mathlib.Omega.{arith}
-use mathlib.Core.Path.{_≡_, refl, sym, ap, ap₂, subst, _∙_}
+use mathlib.Core.Path.{_≡_, ap, _∙_}
 use borrow.Author.Needs.{needs}
 use Rattle.publication.proofs.opening.raw_tail.Statement.{statement}
 use Rattle.publication.proofs.opening.raw_tail.Tie as tie

@@ -12,7 +12,7 @@ use mir.Facts.{toZ-ofZ}
 use mir.Val.{SFits, toZ, ofZ}
 use mir.Syntax.{w64}
 use lib.IntN.{ℤ, _-ℤ_}
-use mathlib.Core.Path.{_≡_, refl, sym, ap, ap₂, subst, _∙_}
+use mathlib.Core.Path.{_≡_, sym, ap, ap₂, _∙_}
 use borrow.Author.Needs.{needs}
 use Rattle.publication.proofs.positions.available_window.Statement.{statement}
 use Rattle.publication.proofs.positions.available_window.Tie as tie

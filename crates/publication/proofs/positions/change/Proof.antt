@@ -1,10 +1,8 @@
 -- The record that would be made is judged.
 use Rattle.publication.proofs.Numbers.{change-no, change-done}
 use Rattle.model.specs.LogBufferDescriptor.{soundRecord}
-use Rattle.model.specs.declared.Reading.{Reading}
 use borrow.Author.Tests.{not-true, not-false}
-use mathlib.Core.Bool.{Bool, true, false}
-use mathlib.Core.Path.{_≡_, refl, sym, ap, ap₂, subst, _∙_}
+use mathlib.Core.Path.{sym, ap, _∙_}
 use borrow.Author.Needs.{needs}
 use Rattle.publication.proofs.positions.change.Statement.{statement}
 use Rattle.publication.proofs.positions.change.Tie as tie

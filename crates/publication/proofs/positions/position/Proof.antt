@@ -7,8 +7,7 @@ use Rattle.model.specs.LogBufferDescriptor.{publisherPosition}
 use Rattle.model.specs.declared.Reading.{Reading}
 use mir.Facts.{toZ-ofZ}
 use mir.Syntax.{w64}
-use lib.IntN.{ℤ}
-use mathlib.Core.Path.{_≡_, refl, sym, ap, ap₂, subst, _∙_}
+use mathlib.Core.Path.{sym, ap, _∙_}
 use borrow.Author.Needs.{needs}
 use Rattle.publication.proofs.positions.position.Statement.{statement}
 use Rattle.publication.proofs.positions.position.Tie as tie

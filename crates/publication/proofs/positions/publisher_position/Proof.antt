@@ -1,12 +1,11 @@
 -- Each callee's promise is a part of the position; a shift past 30 is that of no sound term.
 use native.Mathlib.Omega.{arith}
-use mathlib.Core.Path.{_≡_, refl, sym, ap, ap₂, subst, _∙_}
+use mathlib.Core.Path.{_≡_, refl, ap, _∙_}
 use Prim.Native.Nat.{ℕ, _*_, _%_}
 use lib.IntN.{ℤ}
 use mir.Syntax.{w32, w64}
 use mir.Val.{SFits, toZ, ofZ}
 use mir.Facts.{toZ-ofZ}
-use Rattle.model.specs.declared.Positioned.{Positioned}
 use Rattle.model.specs.declared.Positioned.the-variants.{Position}
 use Rattle.model.specs.LogBufferDescriptor.{termId, termOffset, tailOf, Sound, publisherPosition}
 use Rattle.model.proofs.SoundRecord.{sound-record-true}

@@ -1,7 +1,7 @@
 -- The tests pick the case.
 use Rattle.publication.proofs.Numbers.{number-2, number-5, number-last}
 use borrow.Author.Tests.{not-true, not-false}
-use mathlib.Core.Path.{_≡_, refl, sym, ap, ap₂, subst, _∙_}
+use mathlib.Core.Path.{sym, _∙_}
 use borrow.Author.Needs.{needs}
 use Rattle.publication.proofs.positions.refusal.Statement.{statement}
 use Rattle.publication.proofs.positions.refusal.Tie as tie

@@ -3,7 +3,7 @@ use Rattle.model.specs.Publication.{changeOf}
 use Rattle.model.specs.LogBufferDescriptor.{withLimit, changed}
 use mir.Facts.{toZ-ofZ}
 use lib.IntN.{ℤ}
-use mathlib.Core.Path.{_≡_, refl, sym, ap, ap₂, subst, _∙_}
+use mathlib.Core.Path.{ap, _∙_}
 use borrow.Author.Needs.{needs}
 use Rattle.publication.proofs.positions.set_publication_limit.Statement.{statement}
 use Rattle.publication.proofs.positions.set_publication_limit.Tie as tie

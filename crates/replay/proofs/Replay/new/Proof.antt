@@ -7,20 +7,13 @@ use Rattle.image.specs.Images.{stateOf as imageState}
 use borrow.Author.Needs.{needs}
 use Rattle.replay.proofs.Replay.new.Statement.{statement}
 use Rattle.replay.proofs.Replay.new.Tie as tie
-use Rattle.replay.proofs.Replay.new.Reads as reads
-use Rattle.replay.proofs.Replay.new.Lts as lts
-use Rattle.image.proofs.Image.new.Reads as Image-new-reads
-use Rattle.logbuffer.proofs.fragment_assembler.FragmentAssembler.new.Reads as fragment-assembler-FragmentAssembler-new-reads
 
--- src/lib.rt:168:20
 new-requires : tie.Need-new-requires
 new-requires c κs = search needs
 
--- src/lib.rt:169:24
 new-requires-2 : tie.Need-new-requires-2
 new-requires-2 c κs = search needs
 
--- src/lib.rt:164:5
 returns : tie.Need-returns
 returns c =
     (ap imageState (c .before .new .ensures) ∙ ap (newImage (pos 0)) (toZ-ofZ (c .before .before .fits .session-id)), c .new2 .ensures)

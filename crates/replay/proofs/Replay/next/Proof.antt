@@ -1,5 +1,5 @@
 -- The turns left and the replay as it stands give what was asked for.
-use mathlib.Core.Path.{_≡_, refl, sym, ap, _∙_}
+use mathlib.Core.Path.{_≡_, refl, _∙_}
 use native.Mathlib.Omega.{arith}
 use borrow.Author.Needs.{needs}
 use borrow.Author.Tests.{not-true, not-false}
@@ -10,10 +10,6 @@ use Rattle.replay.specs.Replays.{stateOf, turned}
 use Rattle.replay.proofs.Turns.{next-none, next-stops, next-goes, next-starts}
 use Rattle.replay.proofs.Replay.next.Statement.{statement}
 use Rattle.replay.proofs.Replay.next.Tie as tie
-use Rattle.replay.proofs.Replay.next.Reads as reads
-use Rattle.replay.proofs.Replay.next.Lts as lts
-use Rattle.logbuffer.proofs.cast.word.Reads as word-reads
-use Rattle.replay.proofs.turn.Reads as turn-reads
 
 abbrev Inv-loop : tie.InvT-loop
 Inv-loop rec log buffer₀ replay₀ left₀ buffer replay left =
@@ -22,33 +18,26 @@ Inv-loop rec log buffer₀ replay₀ left₀ buffer replay left =
 abbrev μ-loop : tie.MeasureT-loop
 μ-loop rec log buffer₀ replay₀ left₀ buffer replay left = left
 
--- src/lib.rt:179:28
 word-requires : tie.Need-word-requires Inv-loop μ-loop
 word-requires c κs = search needs
 
--- src/lib.rt:179:24
 mul-left : tie.Need-mul-left Inv-loop μ-loop
 mul-left c = record { fits = omega (arith, c .word .ensures .1) }
 
--- src/lib.rt:179:24
 add-left : tie.Need-add-left Inv-loop μ-loop
 add-left c = record { fits = omega (arith, c .word .ensures .1) }
 
--- src/lib.rt:180:9
 loop-holds : tie.Need-loop-holds Inv-loop μ-loop
 loop-holds c =
     let a = c .before .before .before .before .args in
     (refl, next-starts (a .rec) (a .log .now) (stateOf (a .self) (a .buffer .now)) (c .word .result) (word-by (a .rec .«term_length») (c .word .ensures .0) (search needs)))
 
--- src/lib.rt:181:17
 turn-requires : tie.Need-turn-requires Inv-loop μ-loop
 turn-requires c κs = search needs
 
--- src/lib.rt:185:17
 same-length : tie.Need-same-length Inv-loop μ-loop
 same-length c = search needs
 
--- src/lib.rt:185:17
 returns : tie.Need-returns Inv-loop μ-loop
 returns c =
     let a = c .before .before .before .before .before .before .before .before .before .before .before .before .before .args in
@@ -57,15 +46,12 @@ returns c =
     let w = c .before .before .before .before .before .turn .last .1 .1 .1 .0 in
     next-stops (a .rec) (a .log .now) (stateOf (l .replay) (l .buffer)) (turned (t .result) w) (t .ensures) (l .left) (omega arith) (not-true _ (c .if1 .taken)) ∙ l .inv .1
 
--- src/lib.rt:190:20
 sub-left : tie.Need-sub-left Inv-loop μ-loop
 sub-left c = search needs
 
--- src/lib.rt:180:9
 loop-less : tie.Need-loop-less Inv-loop μ-loop
 loop-less c = search needs
 
--- src/lib.rt:180:9
 loop-again : tie.Need-loop-again Inv-loop μ-loop
 loop-again c =
     let a = c .before .before .before .before .before .before .before .before .before .before .before .before .before .args in
@@ -74,11 +60,9 @@ loop-again c =
     let w = c .before .before .before .before .before .turn .last .1 .1 .1 .0 in
     (search needs, next-goes (a .rec) (a .log .now) (stateOf (l .replay) (l .buffer)) (turned (t .result) w) (t .ensures) (l .left) (omega arith) (not-false _ (c .if1 .left)) ∙ l .inv .1)
 
--- src/lib.rt:175:5
 same-length-2 : tie.Need-same-length-2 Inv-loop μ-loop
 same-length-2 c = search needs
 
--- src/lib.rt:175:5
 returns-2 : tie.Need-returns-2 Inv-loop μ-loop
 returns-2 c =
     let a = c .before .before .before .before .before .before .args in

@@ -1,6 +1,6 @@
 -- The slice has n bytes; a store keeps the length.
 use mathlib.Core.Path.{_≡_}
-use lib.ListN.{length, length-set}
+use lib.ListN.{length}
 use borrow.Author.Needs.{needs}
 use Prim.Native.Nat.{_≤_, _-_}
 use Rattle.vectors.proofs.patch.zero.Statement.{statement}

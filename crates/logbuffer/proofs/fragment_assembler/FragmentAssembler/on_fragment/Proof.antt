@@ -1,5 +1,5 @@
 -- The rows are judged on the numbers without signs; a frame that passes them is joined.
-use mathlib.Core.Path.{_≡_, sym, ap, _∙_}
+use mathlib.Core.Path.{_≡_, sym, _∙_}
 use Prim.Native.Nat.{ℕ, _+_, _*_}
 use native.Mathlib.Omega.{arith}
 use lib.ListN.{length, drop}
@@ -15,12 +15,6 @@ use Rattle.logbuffer.proofs.fragment_assembler.FragmentAssembler.on_fra
   statement,
 }
 use Rattle.logbuffer.proofs.fragment_assembler.FragmentAssembler.on_fragment.Tie as tie
-use Rattle.logbuffer.proofs.fragment_assembler.FragmentAssembler.on_fragment.Reads as reads
-use Rattle.logbuffer.proofs.fragment_assembler.FragmentAssembler.on_fragment.Lts as lts
-use Rattle.logbuffer.proofs.cast.word.Reads as word-reads
-use Rattle.logbuffer.proofs.fragment_assembler.assemble_verdict.Reads as assemble-verdict-reads
-use Rattle.logbuffer.proofs.fragment_assembler.join_frame.Reads as join-frame-reads
-use Rattle.logbuffer.proofs.log_buffer_descriptor.read_active.Reads as read-active-reads
 
 abbrev st : tie.After-assemble-verdict → tie.Start
 st c = c .before .before .before .before .before .before
@@ -45,55 +39,43 @@ is c x e =
 framed : (c : tie.After-assemble-verdict) → c .assemble-verdict .result ≡ Pass → Framed (st c .args .log .now) (k c * v c .term + at c)
 framed c e = verdict-passed (v c) (st c .args .log .now) (length (st c .args .buffer .now)) (k c) (at c) (sym e ∙ c .assemble-verdict .ensures)
 
--- src/fragment_assembler.rt:268:13
 read-active-requires : tie.Need-read-active-requires
 read-active-requires c κs = search needs
 
--- src/fragment_assembler.rt:269:13
 word-requires : tie.Need-word-requires
 word-requires c κs = search needs
 
--- src/fragment_assembler.rt:270:13
 word-requires-2 : tie.Need-word-requires-2
 word-requires-2 c κs = search needs
 
--- src/fragment_assembler.rt:271:15
 assemble-verdict-requires : tie.Need-assemble-verdict-requires
 assemble-verdict-requires c κs = search needs
 
--- src/fragment_assembler.rt:272:29
 enum-known-e : tie.Need-enum-known-e
 enum-known-e c = search needs
 
--- src/fragment_assembler.rt:273:52
 enum-told : tie.Need-enum-told
 enum-told c = search needs
 
--- src/fragment_assembler.rt:273:60
 mul-join-frame : tie.Need-mul-join-frame
 mul-join-frame c =
     let f = framed (c .before .before .before .before) (c .before .before .enum-told .given .1) in record { fits = omega (arith, f .whole, st (c .before .before .before .before) .good) }
 
--- src/fragment_assembler.rt:273:60
 add-join-frame : tie.Need-add-join-frame
 add-join-frame c =
     let f = framed (c .before .before .before .before) (c .before .before .enum-told .given .1) in record { fits = omega (arith, f .whole, st (c .before .before .before .before) .good) }
 
--- src/fragment_assembler.rt:273:30
 join-frame-requires : tie.Need-join-frame-requires
 join-frame-requires c κs =
     let f = framed (c .before .before .before .before) (c .before .before .enum-told .given .1) in (c .before .before .before .before .before .word2 .ensures .1, (f .header, f .whole))
 
--- src/fragment_assembler.rt:257:5
 returns : tie.Need-returns
 returns c =
     three _ _ (is (c .before .before .before) (Refuse (c .before .e .given .0 .0)) (c .before .e .given .1))
 
--- src/fragment_assembler.rt:257:5
 same-length : tie.Need-same-length
 same-length c = search needs
 
--- src/fragment_assembler.rt:257:5
 returns-2 : tie.Need-returns-2
 returns-2 c =
     let t = three _ _ (is (c .before .before .before .before .before .before .before) Pass (c .before .before .before .before .before .enum-told .given .1)) in

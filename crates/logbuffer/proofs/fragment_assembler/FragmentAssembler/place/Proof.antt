@@ -9,8 +9,7 @@ use lib.IntN.{ℤ}
 use mir.Syntax.{w32}
 use mir.Val.{toZ, ofZ}
 use mir.Facts.{toZ-ofZ}
-use Rattle.model.specs.FragmentAssembler.{placeIn, placeOf}
-use Rattle.logbuffer.specs.Assembler.{sessionsOf}
+use Rattle.model.specs.FragmentAssembler.{placeIn}
 use Rattle.logbuffer.proofs.Sessions.{Left, left-all, left-here, left-on, left-none}
 use Rattle.logbuffer.proofs.fragment_assembler.FragmentAssembler.place.Statement.{statement}
 use Rattle.logbuffer.proofs.fragment_assembler.FragmentAssembler.place.Tie as tie
