@@ -12,21 +12,22 @@ use lib.Seq.{drop-drop, getD-drop}
 use lib.IntN.{ℤ}
 use Rattle.model.specs.declared.LogRecord.{LogRecord}
 use Rattle.model.specs.declared.Reading.{Reading}
+use Rattle.model.specs.declared.Place.{Place}
 use Rattle.model.specs.declared.Error.{Error}
-use Rattle.model.specs.declared.Error.the-variants.{IllegalArgument, IllegalRecord, UnsoundFrame}
+use Rattle.model.specs.declared.Error.the-variants.{UnsoundFrame}
 use Rattle.model.specs.declared.Verdict.{Verdict}
 use Rattle.model.specs.declared.Verdict.the-variants.{Pass, Refuse}
 use Rattle.model.specs.declared.Joining.{Joining}
 use Rattle.model.specs.declared.Joining.the-variants.{Through, Ignore, Full, TooLong, Join, Complete}
-use Rattle.model.specs.Bytes.{word, u32, i32}
+use Rattle.model.specs.Bytes.{u32, i32}
 use Rattle.model.specs.FrameDescriptor.{align, unsoundLength, flagsAt, begins, ends}
-use Rattle.model.specs.LogBufferDescriptor.{reading, sound, goodPartition, goodOffset}
+use Rattle.model.specs.LogBufferDescriptor.{sound, goodPartition, goodOffset, placeOf as placeRead, firstRows}
 use Rattle.model.specs.FragmentAssembler.{Sessions, Assembly, entered, placeOf, joining, sessionsBy, bufferBy, assembledBy, joinedAt, goodFrame, goodAssembly, assembleVerdict, assembleBy, assembleOf}
-use Rattle.model.proofs.Choice.{cond-true, cond-false, cond-case}
+use Rattle.model.proofs.Choice.{cond-true, cond-case}
 use Rattle.model.proofs.ReaderLaws.{and-not, and-then}
 use Rattle.model.proofs.Both.{and-true, or-false, test}
-use Rattle.model.proofs.ReadLaws.{and-and}
-use Rattle.model.proofs.PlaceLaws.{placed}
+use Rattle.model.proofs.PlaceLaws.{and-and, placed}
+use Rattle.model.proofs.Rows.{rows-refuse, rows-pass, rows-then, rows-passed}
 use Rattle.logbuffer.proofs.Sessions.{Begun, More}
 
 -- a whole frame at an index of a log: its length word, and the bytes that it tells
@@ -71,18 +72,19 @@ module _ (v : Reading) (log : List ℕ) (lent k at : ℕ) where
 
   -- ---- rows 1, 2, 17
 
-  pub verdict-argument : goodAssembly v log lent k at ≡ false → Refuse IllegalArgument ≡ assembleVerdict v log lent k at
-  unfolding assembleVerdict
-  verdict-argument g = sym (cond-false (goodAssembly v log lent k at) _ _ g)
+  abbrev rows : Verdict
+  rows = firstRows (goodAssembly v log lent k at) (sound v (length log)) Pass
 
-  pub verdict-record : goodAssembly v log lent k at ≡ true → sound v (length log) ≡ false → Refuse IllegalRecord ≡ assembleVerdict v log lent k at
-  unfolding assembleVerdict
-  verdict-record g s = sym (cond-true (goodAssembly v log lent k at) _ _ g ∙ cond-false (sound v (length log)) _ _ s)
+  abbrev row17 : Verdict
+  row17 = cond (unsoundLength (u32 (drop (k * v .term + at) log)) (v .term - at)) (Refuse UnsoundFrame) Pass
 
-  pub verdict-frame : goodAssembly v log lent k at ≡ true → sound v (length log) ≡ true
-      → cond (unsoundLength (u32 (drop (k * v .term + at) log)) (v .term - at)) (Refuse UnsoundFrame) Pass ≡ assembleVerdict v log lent k at
+  pub verdict-refused : {e : Error} → rows ≡ Refuse e → Refuse e ≡ assembleVerdict v log lent k at
   unfolding assembleVerdict
-  verdict-frame g s = sym (cond-true (goodAssembly v log lent k at) _ _ g ∙ cond-true (sound v (length log)) _ _ s)
+  verdict-refused h = rows-refuse (goodAssembly v log lent k at) (sound v (length log)) row17 h
+
+  pub verdict-goes : rows ≡ Pass → row17 ≡ assembleVerdict v log lent k at
+  unfolding assembleVerdict
+  verdict-goes h = rows-then (goodAssembly v log lent k at) (sound v (length log)) row17 h
 
   -- a frame that passes them lies in its term, and its length word is that of a whole frame
   pub passed-frame : goodAssembly v log lent k at ≡ true → sound v (length log) ≡ true → unsoundLength (u32 (drop (k * v .term + at) log)) (v .term - at) ≡ false
@@ -95,16 +97,14 @@ module _ (v : Reading) (log : List ℕ) (lent k at : ℕ) where
       let m : align w ≤ v .term - at = ltb-false (v .term - at) (align w) (q .1) in
       record { header = l; whole = omega (arith, p .inside, p .below) }
 
-  pub verdict-passed : Pass ≡ assembleVerdict v log lent k at → Framed log (k * v .term + at)
+  pub verdict-passed : assembleVerdict v log lent k at ≡ Pass → Framed log (k * v .term + at)
   unfolding assembleVerdict
   verdict-passed e =
-      test (goodAssembly v log lent k at)
-      (λ g. test (sound v (length log))
-      (λ s. test (unsoundLength (u32 (drop (k * v .term + at) log)) (v .term - at))
-      (λ u. absurd (no-pass (e ∙ sym (verdict-frame g s) ∙ cond-true _ _ _ u)))
-      (λ u. passed-frame g s u))
-      (λ s. absurd (no-pass (e ∙ sym (verdict-record g s)))))
-      (λ g. absurd (no-pass (e ∙ sym (verdict-argument g))))
+      let q = rows-passed (goodAssembly v log lent k at) (sound v (length log)) row17 e in
+      let g = rows-pass (goodAssembly v log lent k at) (sound v (length log)) (q .0) in
+      test (unsoundLength (u32 (drop (k * v .term + at) log)) (v .term - at))
+      (λ u. absurd (no-pass (sym (q .1) ∙ cond-true _ _ _ u)))
+      (λ u. passed-frame (g .0) (g .1) u)
 
 -- ---- a frame joined
 
@@ -166,13 +166,12 @@ module _ (s : Sessions) (buffer log : List ℕ) (place at w flags : ℕ) (z : �
       ff : flags ≡ flagsAt (drop place log)
       ff = ef ∙ sym (getD-drop place log 5 0)
 
--- ---- the whole call, by the numbers without signs
+-- ---- the whole call, at the place that its code reads
 
-pub assembles : (r : LogRecord) (log : List ℕ) (s : Sessions) (buffer : List ℕ) (p o : ℤ) (v : Reading) (k at : ℕ) (x : Verdict)
-    → v ≡ reading r → k ≡ word p → at ≡ word o → x ≡ assembleVerdict v log (length buffer) k at
-    → assembleBy s buffer (drop (k * v .term + at) log) at x ≡ assembleOf r log s buffer p o
+pub assembles : (r : LogRecord) (log : List ℕ) (s : Sessions) (buffer : List ℕ) (partition offset : ℤ) (p : Place) (x : Verdict)
+    → p ≡ placeRead r partition offset → x ≡ assembleVerdict (p .read) log (length buffer) (p .partition) (p .offset)
+    → assembleBy s buffer (drop (p .partition * p .read .term + p .offset) log) (p .offset) x ≡ assembleOf r log s buffer partition offset
 unfolding assembleOf
-assembles r log s buffer p o v k at x ev ek ea ex =
-    ap (assembleBy s buffer (drop (k * v .term + at) log) at) ex
-    ∙ ap (λ (y : Reading). assembleBy s buffer (drop (k * y .term + at) log) at (assembleVerdict y log (length buffer) k at)) ev
-    ∙ ap₂ (λ (i j : ℕ). assembleBy s buffer (drop (i * reading r .term + j) log) j (assembleVerdict (reading r) log (length buffer) i j)) ek ea
+assembles r log s buffer partition offset p x ep ex =
+    ap (assembleBy s buffer (drop (p .partition * p .read .term + p .offset) log) (p .offset)) ex
+    ∙ ap (λ (y : Place). assembleBy s buffer (drop (y .partition * y .read .term + y .offset) log) (y .offset) (assembleVerdict (y .read) log (length buffer) (y .partition) (y .offset))) ep

@@ -1,11 +1,17 @@
-// What row 1 asks of a reader's numbers.
+// The place that a reader names, and what rows 1 and 2 ask of its numbers.
 ghost use mathlib.Core.Path.{_≡_};
 ghost use mathlib.Core.Bool.{_&&_};
 ghost use Prim.Native.Nat.{_<_};
-ghost use Rattle.model.specs.LogBufferDescriptor.{withinTerm, goodPartition, goodOffset};
+ghost use Rattle.model.specs.declared.Verdict.the-variants.{Pass};
+ghost use Rattle.model.specs.LogBufferDescriptor.{sound, withinTerm, goodPartition, goodOffset, placeOf, firstRows};
 ghost use Rattle.model.specs.TermReader.{natural as naturalOf};
 use crate::cast;
+use crate::log_buffer_descriptor;
+use model::Error;
+use model::LogRecord;
+use model::Place;
 use model::Reading;
+use model::Verdict;
 
 // A limit; one below 0 is 0.
 pub fn natural(limit: i32) -> usize
@@ -26,16 +32,40 @@ pub fn within_term(n: usize, v: Reading) -> bool
     term <= 2147483647
 }
 
-// A partition, and the place of a frame in it.
-pub(crate) fn good_place(k: usize, at: usize, v: Reading) -> bool
-    requires { ⌜ at < 4294967296 ⌝ }
-    ensures { λ r. ⌜ r ≡ (goodPartition k && goodOffset at v) ⌝ }
+// The place that a reader names.
+pub(crate) fn place(rec: LogRecord, partition: i32, offset: i32) -> Place
+    ensures { λ r. ⌜ (r ≡ placeOf rec partition offset) × ((r .partition < 4294967296) × (r .offset < 4294967296)) ⌝ }
 {
-    if k > 2 {
+    Place {
+        read: log_buffer_descriptor::read_active(rec),
+        partition: cast::word(partition),
+        offset: cast::word(offset),
+    }
+}
+
+// Its partition is one, and its offset the place of a frame there.
+pub(crate) fn good_place(p: Place) -> bool
+    requires { ⌜ p .offset < 4294967296 ⌝ }
+    ensures { λ r. ⌜ r ≡ (goodPartition (p .partition) && goodOffset (p .offset) (p .read)) ⌝ }
+{
+    if p.partition > 2 {
         return false;
     }
-    if at % 32 != 0 {
+    if p.offset % 32 != 0 {
         return false;
     }
-    within_term(at + 1, v)
+    within_term(p.offset + 1, p.read)
+}
+
+// Rows 1 and 2: whether the arguments are good, and whether the record is sound for a log of n bytes.
+pub(crate) fn first_rows(good: bool, v: Reading, n: usize) -> Verdict
+    ensures { λ r. ⌜ r ≡ firstRows good (sound v n) Pass ⌝ }
+{
+    if !good {
+        return Verdict::Refuse(Error::IllegalArgument);
+    }
+    if !log_buffer_descriptor::is_sound(v, n) {
+        return Verdict::Refuse(Error::IllegalRecord);
+    }
+    Verdict::Pass
 }

@@ -14,12 +14,11 @@ use crate::argument;
 use crate::buffer_builder;
 use crate::cast;
 use crate::field;
-use crate::log_buffer_descriptor;
 use model::Assembled;
 use model::Error;
 use model::Joining;
 use model::LogRecord;
-use model::Reading;
+use model::Place;
 use model::Verdict;
 
 // How many sessions are entered, their ids, and how many bytes each holds.
@@ -185,31 +184,33 @@ fn unsound_length(n: usize, room: usize) -> bool
 }
 
 // Row 1: the lent buffer, the place, the frame there.
-fn good_assembly(v: Reading, log: &[u8], lent: usize, k: usize, at: usize) -> bool
-    requires { ⌜ at < 4294967296 ⌝ }
-    ensures { λ r. ⌜ r ≡ goodAssembly v (now (log .entry)) lent k at ⌝ }
+fn good_assembly(p: Place, log: &[u8], lent: usize) -> bool
+    requires { ⌜ p .offset < 4294967296 ⌝ }
+    ensures { λ r. ⌜ r ≡ goodAssembly (p .read) (now (log .entry)) lent (p .partition) (p .offset) ⌝ }
 {
     if lent > 2147483647 {
         return false;
     }
-    if !argument::good_place(k, at, v) {
+    if !argument::good_place(p) {
         return false;
     }
-    good_frame(log, k * v.term + at)
+    good_frame(log, p.partition * p.read.term + p.offset)
 }
 
 // Rows 1, 2, 17.
-fn assemble_verdict(v: Reading, log: &[u8], lent: usize, k: usize, at: usize) -> Verdict
-    requires { ⌜ at < 4294967296 ⌝ }
-    ensures { λ r. ⌜ r ≡ assembleVerdict v (now (log .entry)) lent k at ⌝ }
+fn assemble_verdict(p: Place, log: &[u8], lent: usize) -> Verdict
+    requires { ⌜ p .offset < 4294967296 ⌝ }
+    ensures { λ r. ⌜ r ≡ assembleVerdict (p .read) (now (log .entry)) lent (p .partition) (p .offset) ⌝ }
 {
-    if !good_assembly(v, log, lent, k, at) {
-        return Verdict::Refuse(Error::IllegalArgument);
+    let good = good_assembly(p, log, lent);
+    if let Verdict::Refuse(e) = argument::first_rows(good, p.read, log.len()) {
+        return Verdict::Refuse(e);
     }
-    if !log_buffer_descriptor::is_sound(v, log.len()) {
-        return Verdict::Refuse(Error::IllegalRecord);
-    }
-    if unsound_length(field::word4(log, k * v.term + at), v.term - at) {
+    let term = p.read.term;
+    if unsound_length(
+        field::word4(log, p.partition * term + p.offset),
+        term - p.offset,
+    ) {
         return Verdict::Refuse(Error::UnsoundFrame);
     }
     Verdict::Pass
@@ -279,15 +280,16 @@ impl FragmentAssembler {
         ensures { λ r. ⌜ (r .answer ≡ assembleOf rec (now (log .entry)) (sessionsOf self) (now (buffer .entry)) partition offset .answer) × (sessionsOf (r .next) ≡ assembleOf rec (now (log .entry)) (sessionsOf self) (now (buffer .entry)) partition offset .next) ⌝ }
         ensures { λ _. ⌜ now (buffer .exit) ≡ assembleOf rec (now (log .entry)) (sessionsOf self) (now (buffer .entry)) partition offset .buffer ⌝ }
     {
-        let v = log_buffer_descriptor::read_active(rec);
-        let k = cast::word(partition);
-        let at = cast::word(offset);
-        match assemble_verdict(v, log, buffer.len(), k, at) {
+        let p = argument::place(rec, partition, offset);
+        match assemble_verdict(p, log, buffer.len()) {
             Verdict::Refuse(e) => AssemblyReply {
                 next: self,
                 answer: Assembled::Refused(e),
             },
-            Verdict::Pass => join_frame(self, log, buffer, k * v.term + at, at),
+            Verdict::Pass => {
+                let index = p.partition * p.read.term + p.offset;
+                join_frame(self, log, buffer, index, p.offset)
+            }
         }
     }
 }

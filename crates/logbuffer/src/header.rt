@@ -13,12 +13,11 @@ use crate::argument;
 use crate::cast;
 use crate::copying;
 use crate::field;
-use crate::log_buffer_descriptor;
-use model::Error;
 use model::HeaderFields;
 use model::HeaderRead;
 use model::LogRecord;
 use model::Reading;
+use model::Verdict;
 
 // A header at an offset of the record's term. The second word holds version 0, flags and type.
 fn write_header(
@@ -137,15 +136,12 @@ fn fields_at(v: Reading, log: &[u8], index: usize, at: usize) -> HeaderFields
 pub fn fields(rec: LogRecord, log: &[u8], partition: i32, offset: i32) -> HeaderRead
     ensures { λ r. ⌜ r ≡ headerCall rec (now (log .entry)) partition offset ⌝ }
 {
-    let v = log_buffer_descriptor::read_active(rec);
-    let k = cast::word(partition);
-    let at = cast::word(offset);
-    if !argument::good_place(k, at, v) {
-        return HeaderRead::Refused(Error::IllegalArgument);
+    let p = argument::place(rec, partition, offset);
+    match argument::first_rows(argument::good_place(p), p.read, log.len()) {
+        Verdict::Refuse(e) => HeaderRead::Refused(e),
+        Verdict::Pass => {
+            let index = p.partition * p.read.term + p.offset;
+            HeaderRead::Fields(fields_at(p.read, log, index, p.offset))
+        }
     }
-    if !log_buffer_descriptor::is_sound(v, log.len()) {
-        return HeaderRead::Refused(Error::IllegalRecord);
-    }
-    let term = v.term;
-    HeaderRead::Fields(fields_at(v, log, k * term + at, at))
 }

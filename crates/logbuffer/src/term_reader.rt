@@ -14,14 +14,14 @@ use crate::argument;
 use crate::cast;
 use crate::errors;
 use crate::frame_descriptor;
-use crate::log_buffer_descriptor;
 use model::Error;
 use model::Frame;
 use model::FramesRead;
 use model::Located;
 use model::LogRecord;
-use model::Reading;
+use model::Place;
 use model::TermRead;
+use model::Verdict;
 use model::Walk;
 
 // The handler's answer to the fragment after `passed` others; 4, continue, where none is given.
@@ -174,11 +174,11 @@ pub fn read_frames(
 }
 
 // Row 1 of `read`.
-fn good_read(v: Reading, k: usize, at: usize, limit: usize, slots: usize) -> bool
-    requires { ⌜ at < 4294967296 ⌝ }
-    ensures { λ r. ⌜ r ≡ (goodPartition k && (goodOffset at v && goodEntries slots limit)) ⌝ }
+fn good_read(p: Place, limit: usize, slots: usize) -> bool
+    requires { ⌜ p .offset < 4294967296 ⌝ }
+    ensures { λ r. ⌜ r ≡ (goodPartition (p .partition) && (goodOffset (p .offset) (p .read) && goodEntries slots limit)) ⌝ }
 {
-    if !argument::good_place(k, at, v) {
+    if !argument::good_place(p) {
         return false;
     }
     if slots > 2147483647 {
@@ -199,62 +199,47 @@ pub fn read(
     ensures { λ r. ⌜ r ≡ readOf rec (now (log .entry)) partition offset limit (now (entries .entry)) ⌝ }
     ensures { λ _. ⌜ now (entries .exit) ≡ readEntries rec (now (log .entry)) partition offset limit (now (entries .entry)) ⌝ }
 {
-    let v = log_buffer_descriptor::read_active(rec);
-    let k = cast::word(partition);
-    let at = cast::word(offset);
+    let p = argument::place(rec, partition, offset);
     let most = argument::natural(limit);
-    if !good_read(v, k, at, most, entries.len()) {
-        return TermRead::Refused(Error::IllegalArgument);
+    let good = good_read(p, most, entries.len());
+    if let Verdict::Refuse(e) = argument::first_rows(good, p.read, log.len()) {
+        return TermRead::Refused(e);
     }
-    if !log_buffer_descriptor::is_sound(v, log.len()) {
-        return TermRead::Refused(Error::IllegalRecord);
+    let term = p.read.term;
+    let at = p.offset;
+    let base = p.partition * term;
+    match read_frames(log, base, term, term, at, most, &log[0..0], entries) {
+        FramesRead::Refused(e) => TermRead::Refused(e),
+        FramesRead::Walked(walked) => TermRead::Outcome(at + walked.moved, walked.fragments),
     }
-    let term = v.term;
-    let FramesRead::Walked(walked) = read_frames(
-        log,
-        k * term,
-        term,
-        term,
-        at,
-        most,
-        &log[0..0],
-        entries,
-    ) else {
-        return TermRead::Refused(Error::UnsoundFrame);
-    };
-    TermRead::Outcome(at + walked.moved, walked.fragments)
 }
 
 // ---- views
 
 // Row 1 of a view.
-fn good_view(v: Reading, k: usize, at: usize, size: usize) -> bool
-    requires { ⌜ (at < 4294967296) × (size < 4294967296) ⌝ }
-    ensures { λ r. ⌜ r ≡ goodView v k at size ⌝ }
+fn good_view(p: Place, size: usize) -> bool
+    requires { ⌜ (p .offset < 4294967296) × (size < 4294967296) ⌝ }
+    ensures { λ r. ⌜ r ≡ goodView (p .read) (p .partition) (p .offset) size ⌝ }
 {
-    if k > 2 {
+    if p.partition > 2 {
         return false;
     }
-    argument::within_term(at + size, v)
+    argument::within_term(p.offset + size, p.read)
 }
 
 // Where a body or a block lies in the log: an offset of a partition's term and a length.
 pub fn view_span(rec: LogRecord, log: &[u8], partition: i32, offset: i32, length: i32) -> Located
     ensures { λ r. ⌜ r ≡ viewOf rec (now (log .entry)) partition offset length ⌝ }
 {
-    let v = log_buffer_descriptor::read_active(rec);
-    let k = cast::word(partition);
-    let at = cast::word(offset);
+    let p = argument::place(rec, partition, offset);
     let size = cast::word(length);
-    if !good_view(v, k, at, size) {
-        return Located::Refused(Error::IllegalArgument);
+    match argument::first_rows(good_view(p, size), p.read, log.len()) {
+        Verdict::Refuse(e) => Located::Refused(e),
+        Verdict::Pass => {
+            let from = p.partition * p.read.term + p.offset;
+            Located::Span(from, from + size)
+        }
     }
-    if !log_buffer_descriptor::is_sound(v, log.len()) {
-        return Located::Refused(Error::IllegalRecord);
-    }
-    let term = v.term;
-    let from = k * term + at;
-    Located::Span(from, from + size)
 }
 
 // A body or a block as a part of the log; the empty part for a refusal.

@@ -15,14 +15,14 @@ use crate::argument;
 use crate::cast;
 use crate::field;
 use crate::frame_descriptor;
-use crate::log_buffer_descriptor;
 use model::AvailabilityScanned;
 use model::Error;
 use model::Frame;
 use model::GapScanned;
 use model::LogRecord;
-use model::Reading;
+use model::Place;
 use model::Scanned;
+use model::Verdict;
 
 // Whole data frames up to the limit; a padding frame only at the start, even one that ends past the limit.
 fn scan_frames(log: &[u8], base: usize, term: usize, limit: usize, at: usize) -> Scanned
@@ -63,32 +63,29 @@ fn scan_frames(log: &[u8], base: usize, term: usize, limit: usize, at: usize) ->
 }
 
 // Row 1 of `scan`.
-fn good_scan(k: usize, at: usize, limit: usize, v: Reading) -> bool
-    requires { ⌜ at < 4294967296 ⌝ }
-    ensures { λ r. ⌜ r ≡ (goodPartition k && (goodOffset at v && withinTerm limit v)) ⌝ }
+fn good_scan(p: Place, limit: usize) -> bool
+    requires { ⌜ p .offset < 4294967296 ⌝ }
+    ensures { λ r. ⌜ r ≡ (goodPartition (p .partition) && (goodOffset (p .offset) (p .read) && withinTerm limit (p .read))) ⌝ }
 {
-    if !argument::good_place(k, at, v) {
+    if !argument::good_place(p) {
         return false;
     }
-    argument::within_term(limit, v)
+    argument::within_term(limit, p.read)
 }
 
 // How far whole frames reach from an offset, at most to the limit: any number up to the term length.
 pub fn scan(rec: LogRecord, log: &[u8], partition: i32, offset: i32, limit: i32) -> Scanned
     ensures { λ r. ⌜ r ≡ scanOf rec (now (log .entry)) partition offset limit ⌝ }
 {
-    let v = log_buffer_descriptor::read_active(rec);
-    let k = cast::word(partition);
-    let at = cast::word(offset);
+    let p = argument::place(rec, partition, offset);
     let most = argument::natural(limit);
-    if !good_scan(k, at, most, v) {
-        return Scanned::Refused(Error::IllegalArgument);
+    match argument::first_rows(good_scan(p, most), p.read, log.len()) {
+        Verdict::Refuse(e) => Scanned::Refused(e),
+        Verdict::Pass => {
+            let term = p.read.term;
+            scan_frames(log, p.partition * term, term, most, p.offset)
+        }
     }
-    if !log_buffer_descriptor::is_sound(v, log.len()) {
-        return Scanned::Refused(Error::IllegalRecord);
-    }
-    let term = v.term;
-    scan_frames(log, k * term, term, most, at)
 }
 
 // ---- scan_for_gap
@@ -156,17 +153,17 @@ fn gap_frames(
 }
 
 // Row 1 of `scan_for_gap`.
-fn good_gap(k: usize, at: usize, mark: usize, v: Reading) -> bool
-    requires { ⌜ at < 4294967296 ⌝ }
-    ensures { λ r. ⌜ r ≡ (goodPartition k && (goodOffset at v && (eqb (mark % 32) 0 && withinTerm mark v))) ⌝ }
+fn good_gap(p: Place, mark: usize) -> bool
+    requires { ⌜ p .offset < 4294967296 ⌝ }
+    ensures { λ r. ⌜ r ≡ (goodPartition (p .partition) && (goodOffset (p .offset) (p .read) && (eqb (mark % 32) 0 && withinTerm mark (p .read)))) ⌝ }
 {
-    if !argument::good_place(k, at, v) {
+    if !argument::good_place(p) {
         return false;
     }
     if mark % 32 != 0 {
         return false;
     }
-    argument::within_term(mark, v)
+    argument::within_term(mark, p.read)
 }
 
 // The first gap from an offset on, before a high mark: a multiple of 32 up to the term length. The term id is handed back.
@@ -180,18 +177,15 @@ pub fn scan_for_gap(
 ) -> GapScanned
     ensures { λ r. ⌜ r ≡ gapOf rec (now (log .entry)) partition «term_id» offset high ⌝ }
 {
-    let v = log_buffer_descriptor::read_active(rec);
-    let k = cast::word(partition);
-    let at = cast::word(offset);
+    let p = argument::place(rec, partition, offset);
     let mark = cast::word(high);
-    if !good_gap(k, at, mark, v) {
-        return GapScanned::Refused(Error::IllegalArgument);
+    match argument::first_rows(good_gap(p, mark), p.read, log.len()) {
+        Verdict::Refuse(e) => GapScanned::Refused(e),
+        Verdict::Pass => {
+            let term = p.read.term;
+            gap_frames(log, p.partition * term, term, term_id, mark, p.offset)
+        }
     }
-    if !log_buffer_descriptor::is_sound(v, log.len()) {
-        return GapScanned::Refused(Error::IllegalRecord);
-    }
-    let term = v.term;
-    gap_frames(log, k * term, term, term_id, mark, at)
 }
 
 // ---- scan_for_availability
@@ -270,16 +264,14 @@ pub fn scan_for_availability(
 ) -> AvailabilityScanned
     ensures { λ r. ⌜ r ≡ availabilityOf rec (now (log .entry)) partition offset maximum ⌝ }
 {
-    let v = log_buffer_descriptor::read_active(rec);
-    let k = cast::word(partition);
-    let at = cast::word(offset);
+    let p = argument::place(rec, partition, offset);
     let most = argument::natural(maximum);
-    if !argument::good_place(k, at, v) {
-        return AvailabilityScanned::Refused(Error::IllegalArgument);
+    match argument::first_rows(argument::good_place(p), p.read, log.len()) {
+        Verdict::Refuse(e) => AvailabilityScanned::Refused(e),
+        Verdict::Pass => {
+            let term = p.read.term;
+            let at = p.offset;
+            available_frames(log, p.partition * term, term, at, at_most(most, term - at))
+        }
     }
-    if !log_buffer_descriptor::is_sound(v, log.len()) {
-        return AvailabilityScanned::Refused(Error::IllegalRecord);
-    }
-    let term = v.term;
-    available_frames(log, k * term, term, at, at_most(most, term - at))
 }

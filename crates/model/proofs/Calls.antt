@@ -1,6 +1,6 @@
 -- Every call keeps the invariant: offers and claims, accepted, refused and tripped.
 use mathlib.Core.Path.{_≡_, refl, sym, ap, ap₂, _∙_, subst}
-use mathlib.Core.Bool.{Bool, true, false, cond, not}
+use mathlib.Core.Bool.{Bool, true, false, cond, not, _&&_}
 use Prim.Native.Nat.{ℕ, _+_, _*_, _%_, _≤_, _<_, min}
 use native.Mathlib.Nat.{mod-eq-of-lt, mul-le-mul-right}
 use mathlib.Core.List.{List, [], _∷_, _++_}

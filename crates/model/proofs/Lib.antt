@@ -1,6 +1,7 @@
 -- Laws about the definitions, and proofs. Cases holds the marked positions of document 01; Demand proves demand 3.
 pub mod Cases
 pub mod Both
+pub mod Handed
 pub mod Splice
 pub mod Fields
 pub mod Power
@@ -34,6 +35,7 @@ pub mod FrameLaws
 pub mod WalkLaws
 pub mod WalkLoop
 pub mod ReaderLaws
+pub mod Rows
 pub mod PlaceLaws
 pub mod ReadLaws
 pub mod ScanLaws

@@ -1,4 +1,4 @@
--- `read` by way of the walk that the leaf library offers: what each of its rows answers, with the numbers as its code has them.
+-- `read` by way of the walk that the leaf library offers: what each of its rows answers, at the place that its code reads.
 use mathlib.Core.Path.{_≡_, refl, sym, ap, ap₂, _∙_}
 use mathlib.Core.Bool.{Bool, true, false, cond, _&&_, _||_}
 use mathlib.Core.List.{List, [], _∷_}
@@ -9,23 +9,24 @@ use lib.Dec.{eqb, leb, ltb}
 use lib.ListN.{length, drop}
 use lib.IntN.{ℤ}
 use Rattle.model.specs.declared.LogRecord.{LogRecord}
-use Rattle.model.specs.declared.Reading.{Reading}
+use Rattle.model.specs.declared.Place.{Place}
 use Rattle.model.specs.declared.Error.{Error}
-use Rattle.model.specs.declared.Error.the-variants.{IllegalArgument, IllegalRecord, UnsoundFrame}
+use Rattle.model.specs.declared.Error.the-variants.{UnsoundFrame}
 use Rattle.model.specs.declared.Frame.{Frame}
 use Rattle.model.specs.declared.Frame.the-variants.{Absent, Unsound, Padding, Data}
+use Rattle.model.specs.declared.Verdict.{Verdict}
 use Rattle.model.specs.declared.Verdict.the-variants.{Pass, Refuse}
 use Rattle.model.specs.declared.Walk.{Walk}
 use Rattle.model.specs.declared.FramesRead.{FramesRead}
 use Rattle.model.specs.declared.FramesRead.the-variants.{Walked as AllWalked, Refused as WalkRefused}
 use Rattle.model.specs.declared.TermRead.{TermRead}
 use Rattle.model.specs.declared.TermRead.the-variants.{Outcome, Refused}
-use Rattle.model.specs.Bytes.{word}
 use Rattle.model.specs.FrameDescriptor.{align, frameAt}
-use Rattle.model.specs.LogBufferDescriptor.{reading, sound, goodPartition, goodOffset}
-use Rattle.model.specs.TermReader.{Walked, still, over, handed, goodWalk, nextAction, restActions, walk, walkOf, firstUnsound, natural, goodEntries, framesBy, framesOf, framesEntries, readVerdict, readBy, readOf, readEntries, entriesBy}
+use Rattle.model.specs.LogBufferDescriptor.{sound, goodPartition, goodOffset, placeOf, firstRows}
+use Rattle.model.specs.TermReader.{Walked, still, over, handed, goodWalk, nextAction, restActions, walk, walkOf, firstUnsound, natural, goodEntries, framesBy, framesOf, framesEntries, readWalk, readVerdict, readBy, readOf, readEntries, entriesBy}
 use Rattle.model.proofs.FrameLaws.{Lies, lies}
-use Rattle.model.proofs.PlaceLaws.{Placed, placed}
+use Rattle.model.proofs.Rows.{rows-refuse, rows-pass, rows-then}
+use Rattle.model.proofs.PlaceLaws.{Placed, and-and, placed}
 use Rattle.model.proofs.ReaderLaws.{good-walk-by, frames-by}
 use Rattle.model.proofs.Both.{and-true}
 
@@ -85,82 +86,72 @@ walk-settled fuel log base term end at limit acts = walk-within fuel log base te
 -- ---- the rows of `read`
 
 -- row 1
-abbrev pub goodRead : Reading → ℕ → ℕ → ℕ → ℕ → Bool
-goodRead v k at limit slots = goodPartition k && (goodOffset at v && goodEntries slots limit)
+abbrev pub goodRead : Place → ℕ → ℕ → Bool
+goodRead p limit slots = goodPartition (p .partition) && (goodOffset (p .offset) (p .read) && goodEntries slots limit)
 
 -- the walk's answer as `read` gives it
 abbrev pub readFrom : ℕ → FramesRead → TermRead
 readFrom at (AllWalked w) = Outcome (at + w .moved) (w .fragments)
 readFrom at (WalkRefused e) = Refused e
 
-pub and-and : (a b c : Bool) → (a && (b && c)) ≡ true → ((a && b) ≡ true) × (c ≡ true)
-and-and a b c h = let p = and-true a (b && c) h in let q = and-true b c (p .1) in (ap₂ (λ (x y : Bool). x && y) (p .0) (q .0), q .1)
-
-pub read-placed : (v : Reading) (n k at limit slots : ℕ) → goodRead v k at limit slots ≡ true → sound v n ≡ true → Placed v n k at
-read-placed v n k at limit slots g s = placed v n k at (and-and (leb k 2) (goodOffset at v) (goodEntries slots limit) g .0) s
+pub read-placed : (p : Place) (n limit slots : ℕ) → goodRead p limit slots ≡ true → sound (p .read) n ≡ true → Placed (p .read) n (p .partition) (p .offset)
+read-placed p n limit slots g s = placed (p .read) n (p .partition) (p .offset) (and-and (leb (p .partition) 2) (goodOffset (p .offset) (p .read)) (goodEntries slots limit) g .0) s
 
 -- the walk's own row 1 is met
-pub read-walk : (v : Reading) (n k at limit slots : ℕ) → goodRead v k at limit slots ≡ true → sound v n ≡ true → goodWalk n (k * v .term) (v .term) (v .term) at limit slots ≡ true
-read-walk v n k at limit slots g s =
-    let p = read-placed v n k at limit slots g s in
-    let e = and-and (leb k 2) (goodOffset at v) (goodEntries slots limit) g .1 in
+pub read-walk : (p : Place) (n limit slots : ℕ) → goodRead p limit slots ≡ true → sound (p .read) n ≡ true
+    → goodWalk n (p .partition * p .read .term) (p .read .term) (p .read .term) (p .offset) limit slots ≡ true
+read-walk p n limit slots g s =
+    let q = read-placed p n limit slots g s in
+    let e = and-and (leb (p .partition) 2) (goodOffset (p .offset) (p .read)) (goodEntries slots limit) g .1 in
     let f = and-true (leb slots 2147483647) _ e in
-    sym (good-walk-by n (k * v .term) (v .term) (v .term) at limit slots (p .inside) (p .term-high) (p .term-32) (omega arith) (p .at-32) (leb-true _ _ (f .0))) ∙ f .1
+    sym (good-walk-by n (p .partition * p .read .term) (p .read .term) (p .read .term) (p .offset) limit slots (q .inside) (q .term-high) (q .term-32) (omega arith) (q .at-32) (leb-true _ _ (f .0))) ∙ f .1
 
-module _ (r : LogRecord) (log : List ℕ) (partition offset limit : ℤ) (slots : List ℤ) (v : Reading) (k at most : ℕ) (ev : v ≡ reading r) (ek : k ≡ word partition)
-    (ea : at ≡ word offset) (em : most ≡ natural limit) where
-  -- both answers over the code's numbers
-  abbrev reads : Type 0
-  reads =
-      (readBy at (walk (v .term) log (k * v .term) (v .term) (v .term) at most []) (readVerdict v log k at most (length slots)) ≡ readOf r log partition offset limit slots)
-      × (entriesBy slots (walk (v .term) log (k * v .term) (v .term) (v .term) at most []) (readVerdict v log k at most (length slots)) ≡ readEntries r log partition offset limit slots)
+module _ (r : LogRecord) (log : List ℕ) (partition offset limit : ℤ) (slots : List ℤ) (p : Place) (most : ℕ) (ep : p ≡ placeOf r partition offset) (em : most ≡ natural limit) where
+  abbrev walkAt : Place → ℕ → Walked
+  walkAt x l = readWalk (x .read) log (x .partition) (x .offset) l
 
-  as-read : reads
+  abbrev judgedAt : Place → ℕ → Verdict
+  judgedAt x l = readVerdict (x .read) log (x .partition) (x .offset) l (length slots)
+
+  -- both answers by one verdict, at the place and with the limit that the code reads
+  by-verdict : {v : Verdict} → v ≡ judgedAt p most
+      → (readBy (p .offset) (walkAt p most) v ≡ readOf r log partition offset limit slots) × (entriesBy slots (walkAt p most) v ≡ readEntries r log partition offset limit slots)
   unfolding readOf readEntries
-  as-read =
-      let q = reading r in
-      let f : Reading → ℕ → ℕ → ℕ → TermRead = λ (x : Reading) (j o l : ℕ). readBy o (walk (x .term) log (j * x .term) (x .term) (x .term) o l []) (readVerdict x log j o l (length slots)) in
-      let g : Reading → ℕ → ℕ → ℕ → List ℤ = λ (x : Reading) (j o l : ℕ). entriesBy slots (walk (x .term) log (j * x .term) (x .term) (x .term) o l []) (readVerdict x log j o l (length slots)) in
-      (cc, cc)
+  by-verdict h = (
+    ap (readBy (p .offset) (walkAt p most)) h ∙ ap₂ (λ (x : Place) (l : ℕ). readBy (x .offset) (walkAt x l) (judgedAt x l)) ep em,
+    ap (entriesBy slots (walkAt p most)) h ∙ ap₂ (λ (x : Place) (l : ℕ). entriesBy slots (walkAt x l) (judgedAt x l)) ep em,
+  )
 
-  pub read-argument : goodRead v k at most (length slots) ≡ false → (Refused IllegalArgument ≡ readOf r log partition offset limit slots) × (slots ≡ readEntries r log partition offset limit slots)
+  abbrev rows : Verdict
+  rows = firstRows (goodRead p most (length slots)) (sound (p .read) (length log)) Pass
+
+  abbrev row17 : Bool → Verdict
+  row17 first = cond first (Refuse UnsoundFrame) Pass
+
+  abbrev first : Bool
+  first = firstUnsound log (p .partition * p .read .term) (p .read .term) (p .read .term) (p .offset) most
+
+  pub read-refused : {e : Error} → rows ≡ Refuse e → (Refused e ≡ readOf r log partition offset limit slots) × (slots ≡ readEntries r log partition offset limit slots)
   unfolding readVerdict
-  read-argument h = (sym (rw h) ∙ as-read .0, sym (rw h) ∙ as-read .1)
+  read-refused h = by-verdict (rows-refuse (goodRead p most (length slots)) (sound (p .read) (length log)) (row17 first) h)
 
-  pub read-record : goodRead v k at most (length slots) ≡ true → sound v (length log) ≡ false
-      → (Refused IllegalRecord ≡ readOf r log partition offset limit slots) × (slots ≡ readEntries r log partition offset limit slots)
-  unfolding readVerdict
-  read-record h s = (sym (rw (h, s)) ∙ as-read .0, sym (rw (h, s)) ∙ as-read .1)
-
-  by-first : (b : Bool) (w : Walked) → readFrom at (framesBy w (cond b (Refuse UnsoundFrame) Pass)) ≡ readBy at w (cond b (Refuse UnsoundFrame) Pass)
+  by-first : (b : Bool) (w : Walked) → readFrom (p .offset) (framesBy w (row17 b)) ≡ readBy (p .offset) w (row17 b)
   by-first true w = refl
   by-first false w = refl
 
-  judged : goodRead v k at most (length slots) ≡ true → sound v (length log) ≡ true
-      → cond (firstUnsound log (k * v .term) (v .term) (v .term) at most) (Refuse UnsoundFrame) Pass ≡ readVerdict v log k at most (length slots)
-  unfolding readVerdict
-  judged h s = sym (rw (h, s))
-
   -- after rows 1 and 2: the walk
-  pub read-goes : goodRead v k at most (length slots) ≡ true → sound v (length log) ≡ true
-      → (readFrom at (framesOf log (k * v .term) (v .term) (v .term) at most [] slots) ≡ readOf r log partition offset limit slots)
-      × (framesEntries log (k * v .term) (v .term) (v .term) at most [] slots ≡ readEntries r log partition offset limit slots)
-  read-goes h s =
-      let w = walk (v .term) log (k * v .term) (v .term) (v .term) at most [] in
-      let f = frames-by log (k * v .term) (v .term) (v .term) at most [] slots (read-walk v (length log) k at most (length slots) h s) in (
-        ap (readFrom at) (sym (f .0)) ∙ by-first (firstUnsound log (k * v .term) (v .term) (v .term) at most) w ∙ ap (readBy at w) (judged h s) ∙ as-read .0,
-        sym (f .1) ∙ ap (entriesBy slots w) (judged h s) ∙ as-read .1,
-      )
+  pub read-goes : rows ≡ Pass
+      → (readFrom (p .offset) (framesOf log (p .partition * p .read .term) (p .read .term) (p .read .term) (p .offset) most [] slots) ≡ readOf r log partition offset limit slots)
+      × (framesEntries log (p .partition * p .read .term) (p .read .term) (p .read .term) (p .offset) most [] slots ≡ readEntries r log partition offset limit slots)
+  unfolding readVerdict
+  read-goes h =
+      let g = rows-pass (goodRead p most (length slots)) (sound (p .read) (length log)) h in
+      let f = frames-by log (p .partition * p .read .term) (p .read .term) (p .read .term) (p .offset) most [] slots (read-walk p (length log) most (length slots) (g .0) (g .1)) in
+      let b = by-verdict (rows-then (goodRead p most (length slots)) (sound (p .read) (length log)) (row17 first) h) in
+      (ap (readFrom (p .offset)) (sym (f .0)) ∙ by-first first (walkAt p most) ∙ b .0, sym (f .1) ∙ b .1)
 
--- where the walk goes at all, it refuses only 17, and moves inside the term
+-- where the walk goes at all, it moves inside the term
 module _ (log : List ℕ) (base term end at limit : ℕ) (acts : List ℕ) (slots : List ℤ) (h : goodWalk (length log) base term end at limit (length slots) ≡ true) where
-  pub frames-refuse : (e : Error) → framesOf log base term end at limit acts slots ≡ WalkRefused e → e ≡ UnsoundFrame
-  frames-refuse e q = go (firstUnsound log base term end at limit) (frames-by log base term end at limit acts slots h .0 ∙ q)
-    where
-      go : (b : Bool) → framesBy (walk term log base term end at limit acts) (cond b (Refuse UnsoundFrame) Pass) ≡ WalkRefused e → e ≡ UnsoundFrame
-      go true t = cc
-      go false t = absurd (let z : _≡_ {A = ℕ} 0 1 = cc in omega arith)
-
   pub frames-moved : (w : Walk) → framesOf log base term end at limit acts slots ≡ AllWalked w → w .moved ≤ term - at
   frames-moved w q = go (firstUnsound log base term end at limit) (frames-by log base term end at limit acts slots h .0 ∙ q)
     where

@@ -1,14 +1,16 @@
--- The rows of the three scans, with the numbers as their code has them: what row 1 and row 2 answer, and that the scan follows.
-use mathlib.Core.Path.{_≡_, sym, ap, _∙_}
-use mathlib.Core.Bool.{Bool, true, false, cond, _&&_}
+-- The rows of the three scans at the place that their code reads: what rows 1 and 2 refuse, and that the scan follows where they pass.
+use mathlib.Core.Path.{_≡_, ap, ap₂, _∙_}
+use mathlib.Core.Bool.{Bool, true, cond, _&&_}
 use mathlib.Core.List.{List}
 use Prim.Native.Nat.{ℕ, _+_, _-_, _*_, _%_, min}
 use lib.Dec.{eqb, ltb}
 use lib.ListN.{length, drop}
 use lib.IntN.{ℤ}
 use Rattle.model.specs.declared.LogRecord.{LogRecord}
-use Rattle.model.specs.declared.Reading.{Reading}
-use Rattle.model.specs.declared.Error.the-variants.{IllegalArgument, IllegalRecord, UnsoundFrame}
+use Rattle.model.specs.declared.Place.{Place}
+use Rattle.model.specs.declared.Error.{Error}
+use Rattle.model.specs.declared.Error.the-variants.{UnsoundFrame}
+use Rattle.model.specs.declared.Verdict.{Verdict}
 use Rattle.model.specs.declared.Verdict.the-variants.{Pass, Refuse}
 use Rattle.model.specs.declared.Scanned.{Scanned}
 use Rattle.model.specs.declared.Scanned.the-variants.{Refused}
@@ -16,102 +18,103 @@ use Rattle.model.specs.declared.GapScanned.{GapScanned}
 use Rattle.model.specs.declared.GapScanned.the-variants.{Refused as GapRefused}
 use Rattle.model.specs.declared.AvailabilityScanned.{AvailabilityScanned}
 use Rattle.model.specs.declared.AvailabilityScanned.the-variants.{Refused as AvailabilityRefused}
-use Rattle.model.specs.Bytes.{word}
 use Rattle.model.specs.FrameDescriptor.{frameAt, isUnsound}
-use Rattle.model.specs.LogBufferDescriptor.{reading, sound, goodPartition, goodOffset, withinTerm}
+use Rattle.model.specs.LogBufferDescriptor.{sound, goodPartition, goodOffset, withinTerm, placeOf, firstRows}
+use Rattle.model.specs.Bytes.{word}
 use Rattle.model.specs.TermReader.{natural}
 use Rattle.model.proofs.GapLaws.{gapFound}
+use Rattle.model.proofs.Rows.{rows-refuse, rows-then}
 use Rattle.model.specs.TermScan.{scanVerdict, scanFrom, scanJudge, scanBy, scanOf, rebuild, gapJudge, gapBy, gapOf, Available, availableFrom, availabilityJudge, availabilityBy, availabilityOf}
 
--- the ladder
-argument : (g s f : Bool) → g ≡ false → scanVerdict g s f ≡ Refuse IllegalArgument
-unfolding scanVerdict
-argument g s f h = rw h
+-- where the place's term starts
+abbrev base : Place → ℕ
+base p = p .partition * p .read .term
 
-unsound-record : (g s f : Bool) → g ≡ true → s ≡ false → scanVerdict g s f ≡ Refuse IllegalRecord
-unfolding scanVerdict
-unsound-record g s f h k = rw (h, k)
+-- row 17, at the first frame
+abbrev unsoundAt : List ℕ → Place → Bool
+unsoundAt log p = isUnsound (frameAt (drop (base p + p .offset) log) (p .read .term - p .offset))
 
-passed : (g s f : Bool) → g ≡ true → s ≡ true → cond f (Refuse UnsoundFrame) Pass ≡ scanVerdict g s f
-unfolding scanVerdict
-passed g s f h k = sym (rw (h, k))
+abbrev row17 : Bool → Verdict
+row17 first = cond first (Refuse UnsoundFrame) Pass
 
--- what row 17 looks at
-abbrev unsoundAt : List ℕ → Reading → ℕ → ℕ → Bool
-unsoundAt log v k at = isUnsound (frameAt (drop (k * v .term + at) log) (v .term - at))
+-- rows 1 and 2, with what row 1 asks
+abbrev rows : List ℕ → Place → Bool → Verdict
+rows log p good = firstRows good (sound (p .read) (length log)) Pass
 
-module _ (r : LogRecord) (log : List ℕ) (partition offset : ℤ) (v : Reading) (k at : ℕ) (ev : v ≡ reading r) (ek : k ≡ word partition) (ea : at ≡ word offset) where
+module _ {A : Type 0} (by : Verdict → A) (log : List ℕ) (p : Place) (good first : Bool) where
+  refused : {e : Error} → rows log p good ≡ Refuse e → by (Refuse e) ≡ by (scanVerdict good (sound (p .read) (length log)) first)
+  unfolding scanVerdict
+  refused h = ap by (rows-refuse good (sound (p .read) (length log)) (row17 first) h)
+
+  passed : rows log p good ≡ Pass → by (row17 first) ≡ by (scanVerdict good (sound (p .read) (length log)) first)
+  unfolding scanVerdict
+  passed h = ap by (rows-then good (sound (p .read) (length log)) (row17 first) h)
+
+module _ (r : LogRecord) (log : List ℕ) (partition offset : ℤ) (p : Place) (ep : p ≡ placeOf r partition offset) where
   -- ---- scan
 
   module _ (limit : ℤ) (most : ℕ) (em : most ≡ natural limit) where
     abbrev goodScan : Bool
-    goodScan = goodPartition k && (goodOffset at v && withinTerm most v)
+    goodScan = goodPartition (p .partition) && (goodOffset (p .offset) (p .read) && withinTerm most (p .read))
 
-    as-scan : scanBy (scanFrom (v .term) log (k * v .term) (v .term) most true at) (scanVerdict goodScan (sound v (length log)) (ltb at most && unsoundAt log v k at)) ≡ scanOf r log partition offset limit
+    abbrev scanned : Place → ℕ → Verdict → Scanned
+    scanned x l = scanBy (scanFrom (x .read .term) log (base x) (x .read .term) l true (x .offset))
+
+    abbrev scanFirst : Place → ℕ → Bool
+    scanFirst x l = ltb (x .offset) l && unsoundAt log x
+
+    as-scan : scanned p most (scanVerdict goodScan (sound (p .read) (length log)) (scanFirst p most)) ≡ scanOf r log partition offset limit
     unfolding scanOf scanJudge
     as-scan =
-        let f : Reading → ℕ → ℕ → ℕ → Scanned = λ (x : Reading) (j o l : ℕ). scanBy (scanFrom (x .term) log (j * x .term) (x .term) l true o)
-        (scanVerdict (goodPartition j && (goodOffset o x && withinTerm l x)) (sound x (length log)) (ltb o l && unsoundAt log x j o)) in
-        cc
+        ap₂
+        (λ (x : Place) (l : ℕ). scanned x l (scanVerdict (goodPartition (x .partition) && (goodOffset (x .offset) (x .read) && withinTerm l (x .read))) (sound (x .read) (length log)) (scanFirst x l)))
+        ep em
 
-    pub scan-argument : goodScan ≡ false → Refused IllegalArgument ≡ scanOf r log partition offset limit
-    scan-argument h = sym (ap (scanBy _) (argument goodScan _ _ h)) ∙ as-scan
+    pub scan-refused : {e : Error} → rows log p goodScan ≡ Refuse e → Refused e ≡ scanOf r log partition offset limit
+    scan-refused h = refused (scanned p most) log p goodScan (scanFirst p most) h ∙ as-scan
 
-    pub scan-record : goodScan ≡ true → sound v (length log) ≡ false → Refused IllegalRecord ≡ scanOf r log partition offset limit
-    scan-record h s = sym (ap (scanBy _) (unsound-record goodScan _ _ h s)) ∙ as-scan
-
-    pub scan-goes : goodScan ≡ true → sound v (length log) ≡ true
-        → scanBy (scanFrom (v .term) log (k * v .term) (v .term) most true at) (cond (ltb at most && unsoundAt log v k at) (Refuse UnsoundFrame) Pass) ≡ scanOf r log partition offset limit
-    scan-goes h s = ap (scanBy (scanFrom (v .term) log (k * v .term) (v .term) most true at)) (passed goodScan (sound v (length log)) (ltb at most && unsoundAt log v k at) h s) ∙ as-scan
+    pub scan-goes : rows log p goodScan ≡ Pass → scanned p most (row17 (scanFirst p most)) ≡ scanOf r log partition offset limit
+    scan-goes h = passed (scanned p most) log p goodScan (scanFirst p most) h ∙ as-scan
 
   -- ---- scan_for_gap
 
   module _ (id high : ℤ) (mark : ℕ) (em : mark ≡ word high) where
     abbrev goodGap : Bool
-    goodGap = goodPartition k && (goodOffset at v && (eqb (mark % 32) 0 && withinTerm mark v))
+    goodGap = goodPartition (p .partition) && (goodOffset (p .offset) (p .read) && (eqb (mark % 32) 0 && withinTerm mark (p .read)))
 
-    as-gap : gapBy (gapFound id log (k * v .term) (v .term) mark (rebuild (v .term) log (k * v .term) (v .term) mark at)) (scanVerdict goodGap (sound v (length log)) (unsoundAt log v k at))
-        ≡ gapOf r log partition id offset high
+    abbrev gapped : Place → ℕ → Verdict → GapScanned
+    gapped x m = gapBy (gapFound id log (base x) (x .read .term) m (rebuild (x .read .term) log (base x) (x .read .term) m (x .offset)))
+
+    as-gap : gapped p mark (scanVerdict goodGap (sound (p .read) (length log)) (unsoundAt log p)) ≡ gapOf r log partition id offset high
     unfolding gapOf gapJudge
     as-gap =
-        let f : Reading → ℕ → ℕ → ℕ → GapScanned = λ (x : Reading) (j o m : ℕ). gapBy (gapFound id log (j * x .term) (x .term) m (rebuild (x .term) log (j * x .term) (x .term) m o))
-        (scanVerdict (goodPartition j && (goodOffset o x && (eqb (m % 32) 0 && withinTerm m x))) (sound x (length log)) (unsoundAt log x j o)) in
-        cc
+        ap₂
+        (λ (x : Place) (m : ℕ). gapped x m (scanVerdict (goodPartition (x .partition) && (goodOffset (x .offset) (x .read) && (eqb (m % 32) 0 && withinTerm m (x .read)))) (sound (x .read) (length log)) (unsoundAt log x)))
+        ep em
 
-    pub gap-argument : goodGap ≡ false → GapRefused IllegalArgument ≡ gapOf r log partition id offset high
-    gap-argument h = sym (ap (gapBy _) (argument goodGap _ _ h)) ∙ as-gap
+    pub gap-refused : {e : Error} → rows log p goodGap ≡ Refuse e → GapRefused e ≡ gapOf r log partition id offset high
+    gap-refused h = refused (gapped p mark) log p goodGap (unsoundAt log p) h ∙ as-gap
 
-    pub gap-record : goodGap ≡ true → sound v (length log) ≡ false → GapRefused IllegalRecord ≡ gapOf r log partition id offset high
-    gap-record h s = sym (ap (gapBy _) (unsound-record goodGap _ _ h s)) ∙ as-gap
-
-    pub gap-goes : goodGap ≡ true → sound v (length log) ≡ true
-        → gapBy (gapFound id log (k * v .term) (v .term) mark (rebuild (v .term) log (k * v .term) (v .term) mark at)) (cond (unsoundAt log v k at) (Refuse UnsoundFrame) Pass)
-        ≡ gapOf r log partition id offset high
-    gap-goes h s =
-        ap (gapBy (gapFound id log (k * v .term) (v .term) mark (rebuild (v .term) log (k * v .term) (v .term) mark at))) (passed goodGap (sound v (length log)) (unsoundAt log v k at) h s) ∙ as-gap
+    pub gap-goes : rows log p goodGap ≡ Pass → gapped p mark (row17 (unsoundAt log p)) ≡ gapOf r log partition id offset high
+    gap-goes h = passed (gapped p mark) log p goodGap (unsoundAt log p) h ∙ as-gap
 
   -- ---- scan_for_availability
 
-  module _ (maximum : ℤ) (most : ℕ) (em : most ≡ min (natural maximum) (v .term - at)) where
+  module _ (maximum : ℤ) (most : ℕ) (em : most ≡ min (natural maximum) (p .read .term - p .offset)) where
     abbrev goodAvailability : Bool
-    goodAvailability = goodPartition k && goodOffset at v
+    goodAvailability = goodPartition (p .partition) && goodOffset (p .offset) (p .read)
 
-    abbrev reached : Available
-    reached = availableFrom (v .term) log (k * v .term) (v .term) at most 0 0
+    abbrev reached : Place → ℕ → Available
+    reached x m = availableFrom (x .read .term) log (base x) (x .read .term) (x .offset) m 0 0
 
-    as-available : availabilityBy reached (scanVerdict goodAvailability (sound v (length log)) (unsoundAt log v k at)) ≡ availabilityOf r log partition offset maximum
+    as-available : availabilityBy (reached p most) (scanVerdict goodAvailability (sound (p .read) (length log)) (unsoundAt log p)) ≡ availabilityOf r log partition offset maximum
     unfolding availabilityOf availabilityJudge
     as-available =
-        let f : Reading → ℕ → ℕ → ℕ → AvailabilityScanned = λ (x : Reading) (j o m : ℕ). availabilityBy (availableFrom (x .term) log (j * x .term) (x .term) o m 0 0)
-        (scanVerdict (goodPartition j && goodOffset o x) (sound x (length log)) (unsoundAt log x j o)) in
-        cc
+        let f : Place → ℕ → AvailabilityScanned = λ (x : Place) (m : ℕ). availabilityBy (reached x m) (scanVerdict (goodPartition (x .partition) && goodOffset (x .offset) (x .read)) (sound (x .read) (length log)) (unsoundAt log x)) in
+        ap (f p) em ∙ ap (λ (x : Place). f x (min (natural maximum) (x .read .term - x .offset))) ep
 
-    pub available-argument : goodAvailability ≡ false → AvailabilityRefused IllegalArgument ≡ availabilityOf r log partition offset maximum
-    available-argument h = sym (ap (availabilityBy _) (argument goodAvailability _ _ h)) ∙ as-available
+    pub available-refused : {e : Error} → rows log p goodAvailability ≡ Refuse e → AvailabilityRefused e ≡ availabilityOf r log partition offset maximum
+    available-refused h = refused (availabilityBy (reached p most)) log p goodAvailability (unsoundAt log p) h ∙ as-available
 
-    pub available-record : goodAvailability ≡ true → sound v (length log) ≡ false → AvailabilityRefused IllegalRecord ≡ availabilityOf r log partition offset maximum
-    available-record h s = sym (ap (availabilityBy _) (unsound-record goodAvailability _ _ h s)) ∙ as-available
-
-    pub available-goes : goodAvailability ≡ true → sound v (length log) ≡ true
-        → availabilityBy reached (cond (unsoundAt log v k at) (Refuse UnsoundFrame) Pass) ≡ availabilityOf r log partition offset maximum
-    available-goes h s = ap (availabilityBy reached) (passed goodAvailability (sound v (length log)) (unsoundAt log v k at) h s) ∙ as-available
+    pub available-goes : rows log p goodAvailability ≡ Pass → availabilityBy (reached p most) (row17 (unsoundAt log p)) ≡ availabilityOf r log partition offset maximum
+    available-goes h = passed (availabilityBy (reached p most)) log p goodAvailability (unsoundAt log p) h ∙ as-available

@@ -1,5 +1,5 @@
--- Views: the rows of `viewOf` with the numbers as the code has them, and that what is located lies in the log.
-use mathlib.Core.Path.{_≡_, refl, sym, _∙_}
+-- Views: the rows of `viewOf` at the place that the code reads, and that what is located lies in the log.
+use mathlib.Core.Path.{_≡_, refl, ap₂}
 use mathlib.Core.Bool.{Bool, true, false, cond}
 use mathlib.Core.List.{List}
 use Prim.Native.Nat.{ℕ, _+_, _*_, _≤_}
@@ -10,14 +10,14 @@ use lib.ListN.{length}
 use lib.IntN.{ℤ}
 use Rattle.model.specs.declared.LogRecord.{LogRecord}
 use Rattle.model.specs.declared.Reading.{Reading}
+use Rattle.model.specs.declared.Place.{Place}
 use Rattle.model.specs.declared.Error.{Error}
 use Rattle.model.specs.declared.Error.the-variants.{IllegalArgument, IllegalRecord}
 use Rattle.model.specs.declared.Verdict.the-variants.{Pass, Refuse}
-use Rattle.model.specs.declared.Located.{Located}
 use Rattle.model.specs.declared.Located.the-variants.{Span, Refused}
 use Rattle.model.specs.Bytes.{word}
 use Rattle.model.specs.Parts.{locatedBy}
-use Rattle.model.specs.LogBufferDescriptor.{reading, sound}
+use Rattle.model.specs.LogBufferDescriptor.{reading, sound, placeOf, firstRows}
 use Rattle.model.specs.TermReader.{goodView, viewVerdict, viewOf}
 use Rattle.model.proofs.Sound.{sound-true}
 use Rattle.model.proofs.Both.{and-true}
@@ -35,25 +35,15 @@ view-in v m k at n g h =
     let i : k * v .term + v .term ≤ m = part-in v m k s j in
     (omega arith, j)
 
-module _ (r : LogRecord) (log : List ℕ) (partition offset size : ℤ) (v : Reading) (k at n : ℕ) (ev : v ≡ reading r) (ek : k ≡ word partition) (ea : at ≡ word offset)
-    (en : n ≡ word size) where
-  as-view : locatedBy (k * v .term + at) (k * v .term + at + n) (viewVerdict v (length log) k at n) ≡ viewOf r log partition offset size
-  unfolding viewOf
-  as-view =
-      let f : Reading → ℕ → ℕ → ℕ → Located = λ (x : Reading) (j o l : ℕ). locatedBy (j * x .term + o) (j * x .term + o + l) (viewVerdict x (length log) j o l) in
-      cc
-
-  pub view-argument : goodView v k at n ≡ false → Refused IllegalArgument ≡ viewOf r log partition offset size
-  unfolding viewVerdict
-  view-argument h = sym (rw h) ∙ as-view
-
-  pub view-record : goodView v k at n ≡ true → sound v (length log) ≡ false → Refused IllegalRecord ≡ viewOf r log partition offset size
-  unfolding viewVerdict
-  view-record h s = sym (rw (h, s)) ∙ as-view
-
-  pub view-span : goodView v k at n ≡ true → sound v (length log) ≡ true → Span (k * v .term + at) (k * v .term + at + n) ≡ viewOf r log partition offset size
-  unfolding viewVerdict
-  view-span h s = sym (rw (h, s)) ∙ as-view
+-- rows 1 and 2 are all that a view has, at the place and with the length that its code reads
+pub view-by : (r : LogRecord) (log : List ℕ) (partition offset size : ℤ) (p : Place) (n : ℕ) → p ≡ placeOf r partition offset → n ≡ word size
+    → locatedBy (p .partition * p .read .term + p .offset) (p .partition * p .read .term + p .offset + n)
+    (firstRows (goodView (p .read) (p .partition) (p .offset) n) (sound (p .read) (length log)) Pass) ≡ viewOf r log partition offset size
+unfolding viewOf viewVerdict
+view-by r log partition offset size p n e en =
+    ap₂
+    (λ (x : Place) (l : ℕ). locatedBy (x .partition * x .read .term + x .offset) (x .partition * x .read .term + x .offset + l) (firstRows (goodView (x .read) (x .partition) (x .offset) l) (sound (x .read) (length log)) Pass))
+    e en
 
 -- a span that a view answers lies in the log
 pub span-in : (r : LogRecord) (log : List ℕ) (partition offset size : ℤ) (from to : ℕ) → viewOf r log partition offset size ≡ Span from to → (from ≤ to) × (to ≤ length log)

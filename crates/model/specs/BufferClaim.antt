@@ -8,7 +8,7 @@ use lib.ListN.{length, drop}
 use Rattle.model.specs.declared.LogRecord.{LogRecord}
 use Rattle.model.specs.declared.Claim.{Claim}
 use Rattle.model.specs.declared.Reading.{Reading}
-use Rattle.model.specs.declared.Error.the-variants.{IllegalArgument, IllegalRecord, ClaimMismatch}
+use Rattle.model.specs.declared.Error.the-variants.{ClaimMismatch}
 use Rattle.model.specs.declared.Verdict.{Verdict}
 use Rattle.model.specs.declared.Verdict.the-variants.{Pass, Refuse}
 use Rattle.model.specs.declared.Outcome.{Outcome}
@@ -17,7 +17,7 @@ use Rattle.model.specs.declared.Located.{Located}
 use Rattle.model.specs.Bytes.{word, u32, le2, le4, splice}
 use Rattle.model.specs.Parts.{locatedBy}
 use Rattle.model.specs.FrameDescriptor.{align, negated}
-use Rattle.model.specs.LogBufferDescriptor.{reading, sound, withinTerm, goodPartition}
+use Rattle.model.specs.LogBufferDescriptor.{reading, sound, withinTerm, goodPartition, firstRows}
 
 -- where the claim's frame starts in the log
 abbrev pub claimStart : Reading → Claim → ℕ
@@ -35,11 +35,8 @@ matches log at c = eqb (u32 (drop at log)) (negated (word (c .length))) && eqb (
 
 unfoldable pub claimCheck : LogRecord → List ℕ → Claim → Verdict
 claimCheck r log c =
-    cond (goodClaim (reading r) c)
-    (cond (sound (reading r) (length log))
+    firstRows (goodClaim (reading r) c) (sound (reading r) (length log))
     (cond (matches log (claimStart (reading r) c) c) Pass (Refuse ClaimMismatch))
-    (Refuse IllegalRecord))
-    (Refuse IllegalArgument)
 
 -- ---- the body: between the header and the slack
 

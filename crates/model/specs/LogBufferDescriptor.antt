@@ -17,6 +17,7 @@ use mir.Syntax.{w32, w64}
 use mir.Val.{toZ}
 use Rattle.model.specs.declared.LogRecord.{LogRecord}
 use Rattle.model.specs.declared.Reading.{Reading}
+use Rattle.model.specs.declared.Place.{Place}
 use Rattle.model.specs.declared.Error.the-variants.{IllegalArgument, IllegalRecord, LastTerm}
 use Rattle.model.specs.declared.Verdict.{Verdict}
 use Rattle.model.specs.declared.Verdict.the-variants.{Pass, Refuse}
@@ -164,6 +165,14 @@ goodPartition k = leb k 2
 
 abbrev pub goodOffset : ℕ → Reading → Bool
 goodOffset at v = eqb (at % 32) 0 && withinTerm (at + 1) v
+
+-- the place that a reader names: the record as it is read, and the partition and the offset without signs
+abbrev pub placeOf : LogRecord → ℤ → ℤ → Place
+placeOf r partition offset = record { read = reading r; partition = word partition; offset = word offset }
+
+-- the rows that the readers' calls share, before their own: 1 for an illegal argument, then 2 for an unsound record
+abbrev pub firstRows : Bool → Bool → Verdict → Verdict
+firstRows good sound own = cond good (cond sound own (Refuse IllegalRecord)) (Refuse IllegalArgument)
 
 -- ---- the record, changed
 

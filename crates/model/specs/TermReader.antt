@@ -10,7 +10,7 @@ use mir.Syntax.{w32, w64}
 use mir.Val.{toZ}
 use Rattle.model.specs.declared.LogRecord.{LogRecord}
 use Rattle.model.specs.declared.Reading.{Reading}
-use Rattle.model.specs.declared.Error.the-variants.{IllegalArgument, IllegalRecord, UnsoundFrame}
+use Rattle.model.specs.declared.Error.the-variants.{IllegalArgument, UnsoundFrame}
 use Rattle.model.specs.declared.Verdict.{Verdict}
 use Rattle.model.specs.declared.Verdict.the-variants.{Pass, Refuse}
 use Rattle.model.specs.declared.Frame.{Frame}
@@ -28,7 +28,7 @@ use Rattle.model.specs.Bytes.{word}
 use Rattle.model.specs.Parts.{locatedBy}
 use Rattle.model.specs.FrameDescriptor.{align, frameAt, isUnsound, flagsAt, ends}
 use Rattle.model.specs.DataFrameHeader.{Header, headerAt}
-use Rattle.model.specs.LogBufferDescriptor.{biased, positionOf, reading, sound, withinTerm, goodPartition, goodOffset}
+use Rattle.model.specs.LogBufferDescriptor.{biased, positionOf, reading, sound, withinTerm, goodPartition, goodOffset, firstRows}
 
 -- ---- the walk
 
@@ -153,11 +153,8 @@ framesEntries log base term end at limit acts slots =
 
 unfoldable pub readVerdict : Reading → List ℕ → ℕ → ℕ → ℕ → ℕ → Verdict
 readVerdict v log k at limit slots =
-    cond (goodPartition k && (goodOffset at v && goodEntries slots limit))
-    (cond (sound v (length log))
+    firstRows (goodPartition k && (goodOffset at v && goodEntries slots limit)) (sound v (length log))
     (cond (firstUnsound log (k * v .term) (v .term) (v .term) at limit) (Refuse UnsoundFrame) Pass)
-    (Refuse IllegalRecord))
-    (Refuse IllegalArgument)
 
 abbrev pub readWalk : Reading → List ℕ → ℕ → ℕ → ℕ → Walked
 readWalk v log k at limit = walk (v .term) log (k * v .term) (v .term) (v .term) at limit []
@@ -200,8 +197,7 @@ fieldsOf v at h =
     }
 
 unfoldable pub headerVerdict : Reading → ℕ → ℕ → ℕ → Verdict
-headerVerdict v n k at =
-    cond (goodPartition k && goodOffset at v) (cond (sound v n) Pass (Refuse IllegalRecord)) (Refuse IllegalArgument)
+headerVerdict v n k at = firstRows (goodPartition k && goodOffset at v) (sound v n) Pass
 
 abbrev pub headerBy : HeaderFields → Verdict → HeaderRead
 headerBy f Pass = Fields f
@@ -218,7 +214,7 @@ unfoldable pub goodView : Reading → ℕ → ℕ → ℕ → Bool
 goodView v k at n = goodPartition k && withinTerm (at + n) v
 
 unfoldable pub viewVerdict : Reading → ℕ → ℕ → ℕ → ℕ → Verdict
-viewVerdict v m k at n = cond (goodView v k at n) (cond (sound v m) Pass (Refuse IllegalRecord)) (Refuse IllegalArgument)
+viewVerdict v m k at n = firstRows (goodView v k at n) (sound v m) Pass
 
 -- where it lies; `partOf` of Parts is the part, and `locatedNumber` what the companion call answers
 unfoldable pub viewOf : LogRecord → List ℕ → ℤ → ℤ → ℤ → Located

@@ -64,6 +64,13 @@ pub struct Reading {
     pub closed: bool,
 }
 
+// A place that a reader names: the record as it is read, a partition, and an offset of its term.
+pub struct Place {
+    pub read: Reading,
+    pub partition: usize,
+    pub offset: usize,
+}
+
 // Whether a call may go on to its work.
 pub enum Verdict {
     Pass,

@@ -6,10 +6,10 @@ use Rattle.logbuffer.proofs.argument.good_place.Statement.{statement}
 use Rattle.logbuffer.proofs.argument.good_place.Tie as tie
 
 returns : tie.Need-returns
-returns c = let a = c .before .args in rw (lt-leb (a .k) 2 (c .if1 .taken))
+returns c = let a = c .before .before .args in rw (lt-leb (a .p .partition) 2 (c .if1 .taken))
 
 returns-2 : tie.Need-returns-2
-returns-2 c = let a = c .before .before .args in rw (le-leb (a .k) 2 (c .before .if1 .left), ne-eqb (a .at % 32) 0 (c .if2 .taken))
+returns-2 c = let a = c .before .before .before .before .args in rw (le-leb (a .p .partition) 2 (c .before .before .if1 .left), ne-eqb (a .p .offset % 32) 0 (c .if2 .taken))
 
 add-within-term : tie.Need-add-within-term
 add-within-term c = search needs
@@ -19,8 +19,8 @@ within-term-requires c κs = search needs
 
 returns-3 : tie.Need-returns-3
 returns-3 c =
-    let a = c .before .before .before .args in
-    rw (le-leb (a .k) 2 (c .before .before .if1 .left), eq-eqb (a .at % 32) 0 (c .before .if2 .left)) (c .within-term .ensures)
+    let a = c .before .before .before .before .before .before .args in
+    rw (le-leb (a .p .partition) 2 (c .before .before .before .before .if1 .left), eq-eqb (a .p .offset % 32) 0 (c .before .before .if2 .left)) (c .within-term .ensures)
 
 pub good-place-spec : {M : Type 1} → statement M
 good-place-spec =

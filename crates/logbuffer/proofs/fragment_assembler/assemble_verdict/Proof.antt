@@ -1,74 +1,115 @@
--- The first test that fails decides.
-use mathlib.Core.Path.{sym, ap, _∙_}
-use Prim.Native.Nat.{ℕ, _-_}
+-- Rows 1 and 2 go by `first_rows`; row 17 looks at the frame.
+use mathlib.Core.Path.{_≡_, sym, ap, _∙_}
+use mathlib.Core.Bool.{Bool}
+use Prim.Native.Nat.{ℕ, _+_, _-_, _*_, _≤_, _<_}
 use native.Mathlib.Omega.{arith}
-use borrow.Author.Tests.{not-true, not-false}
+use borrow.Author.Needs.{needs}
 use lib.ListN.{length}
+use Rattle.model.specs.declared.Verdict.the-variants.{Pass}
 use Rattle.model.specs.FrameDescriptor.{unsoundLength}
+use Rattle.model.specs.LogBufferDescriptor.{sound, firstRows}
+use Rattle.model.specs.FragmentAssembler.{goodAssembly}
 use Rattle.model.proofs.Choice.{cond-true, cond-false}
 use Rattle.model.proofs.PlaceLaws.{placed}
-use Rattle.logbuffer.proofs.Assembly.{place-near, assembly-at, verdict-argument, verdict-record, verdict-frame}
-use borrow.Author.Needs.{needs}
+use Rattle.model.proofs.Rows.{rows-pass}
+use Rattle.logbuffer.proofs.Assembly.{place-near, assembly-at, verdict-refused, verdict-goes}
 use Rattle.logbuffer.proofs.fragment_assembler.assemble_verdict.Statement.{statement}
 use Rattle.logbuffer.proofs.fragment_assembler.assemble_verdict.Tie as tie
+
+abbrev st : tie.After-first-rows → tie.Start
+st c = c .before .before .before
+
+abbrev good : tie.After-first-rows → Bool
+good c = let a = st c .args in goodAssembly (a .p .read) (a .log .now) (a .lent) (a .p .partition) (a .p .offset)
+
+abbrev is-sound : tie.After-first-rows → Bool
+is-sound c = sound (st c .args .p .read) (length (st c .args .log .now))
+
+rows : (c : tie.After-first-rows) → firstRows (good c) (is-sound c) Pass ≡ c .first-rows .result
+rows c = ap (λ (g : Bool). firstRows g (is-sound c) Pass) (sym (c .before .good-assembly .ensures)) ∙ sym (c .first-rows .ensures)
+
+-- what their passing says of the place: its index, its length word, its offset
+record At (c : tie.After-first-rows) : Type 0 where
+  near : st c .args .p .partition * st c .args .p .read .term + st c .args .p .offset < 6442450944
+  word-in : st c .args .p .partition * st c .args .p .read .term + st c .args .p .offset + 4 ≤ length (st c .args .log .now)
+  below : st c .args .p .offset < st c .args .p .read .term
+
+at : (c : tie.After-first-rows) → c .first-rows .result ≡ Pass → At c
+at c h =
+    let a = st c .args in
+    let g = rows-pass (good c) (is-sound c) (rows c ∙ h) in
+    let i = assembly-at (a .p .read) (a .log .now) (a .lent) (a .p .partition) (a .p .offset) (g .0) in
+    record {
+      near = place-near (a .p .read) (a .log .now) (a .lent) (a .p .partition) (a .p .offset) (i .0);
+      word-in = i .1;
+      below = placed (a .p .read) (length (a .log .now)) (a .p .partition) (a .p .offset) (i .0) (g .1) .below;
+    }
 
 good-assembly-requires : tie.Need-good-assembly-requires
 good-assembly-requires c κs = search needs
 
+first-rows-requires : tie.Need-first-rows-requires
+first-rows-requires c κs = search needs
+
+enum-known-e : tie.Need-enum-known-e
+enum-known-e c = search needs
+
 returns : tie.Need-returns
 returns c =
-    let a = c .before .before .before .args in verdict-argument (a .v) (a .log .now) (a .lent) (a .k) (a .at) (sym (c .before .good-assembly .ensures) ∙ not-true _ (c .if1 .taken))
+    let q = c .before .before .before in
+    let a = st q .args in
+    verdict-refused (a .p .read) (a .log .now) (a .lent) (a .p .partition) (a .p .offset) (rows q ∙ c .before .e .given .1)
 
-is-sound-requires : tie.Need-is-sound-requires
-is-sound-requires c κs = search needs
-
-returns-2 : tie.Need-returns-2
-returns-2 c =
-    let a = c .before .before .before .before .before .args in verdict-record (a .v) (a .log .now) (a .lent) (a .k) (a .at) (sym (c .before .before .before .good-assembly .ensures) ∙ not-false _ (c .before .before .if1 .left)) (sym (c .before .is-sound .ensures) ∙ not-true _ (c .if2 .taken))
+enum-told : tie.Need-enum-told
+enum-told c = search needs
 
 mul-word4 : tie.Need-mul-word4
-mul-word4 c =
-    let a = c .before .before .before .before .before .before .args in record { fits = omega (arith, place-near (a .v) (a .log .now) (a .lent) (a .k) (a .at) (assembly-at (a .v) (a .log .now) (a .lent) (a .k) (a .at) (sym (c .before .before .before .before .good-assembly .ensures) ∙ not-false _ (c .before .before .before .if1 .left)) .0)) }
+mul-word4 c = record { fits = omega (arith, at (c .before .before .before) (c .before .enum-told .given .1) .near) }
 
 add-word4 : tie.Need-add-word4
-add-word4 c =
-    let a = c .before .before .before .before .before .before .args in record { fits = omega (arith, place-near (a .v) (a .log .now) (a .lent) (a .k) (a .at) (assembly-at (a .v) (a .log .now) (a .lent) (a .k) (a .at) (sym (c .before .before .before .before .good-assembly .ensures) ∙ not-false _ (c .before .before .before .if1 .left)) .0)) }
+add-word4 c = record { fits = omega (arith, at (c .before .before .before .before) (c .before .before .enum-told .given .1) .near) }
 
 word4-requires : tie.Need-word4-requires
-word4-requires c κs =
-    let a = c .before .before .before .before .before .before .args in assembly-at (a .v) (a .log .now) (a .lent) (a .k) (a .at) (sym (c .before .before .before .before .good-assembly .ensures) ∙ not-false _ (c .before .before .before .if1 .left)) .1
+word4-requires c κs = at (c .before .before .before .before) (c .before .before .enum-told .given .1) .word-in
 
 sub-unsound-length : tie.Need-sub-unsound-length
 sub-unsound-length c =
-    let a = c .before .before .before .before .before .before .before .before .args in omega (arith, placed (a .v) (length (a .log .now)) (a .k) (a .at) (assembly-at (a .v) (a .log .now) (a .lent) (a .k) (a .at) (sym (c .before .before .before .before .before .before .good-assembly .ensures) ∙ not-false _ (c .before .before .before .before .before .if1 .left)) .0) (sym (c .before .before .before .before .is-sound .ensures) ∙ not-false _ (c .before .before .before .if2 .left)) .below)
+    omega (arith, at (c .before .before .before .before .before .before) (c .before .before .before .before .enum-told .given .1) .below)
 
 unsound-length-requires : tie.Need-unsound-length-requires
 unsound-length-requires c κs = search needs
 
+-- row 17 by the length word that was read
+abbrev asked : tie.After-first-rows → ℕ → Bool
+asked c w = unsoundLength w (st c .args .p .read .term - st c .args .p .offset)
+
+returns-2 : tie.Need-returns-2
+returns-2 c =
+    let q = c .before .before .before .before .before .before .before .before in
+    let a = st q .args in
+    sym (cond-true _ _ _ (ap (asked q) (sym (c .before .before .before .word4 .ensures .0)) ∙ sym (c .before .unsound-length .ensures) ∙ c .if1 .taken))
+    ∙ verdict-goes (a .p .read) (a .log .now) (a .lent) (a .p .partition) (a .p .offset) (rows q ∙ c .before .before .before .before .before .before .enum-told .given .1)
+
 returns-3 : tie.Need-returns-3
 returns-3 c =
-    let a = c .before .before .before .before .before .before .before .before .before .before .args in
-    sym (cond-true _ _ _ (ap (λ (w : ℕ). unsoundLength w (a .v .term - a .at)) (sym (c .before .before .before .word4 .ensures .0)) ∙ sym (c .before .unsound-length .ensures) ∙ c .if3 .taken))
-    ∙ verdict-frame (a .v) (a .log .now) (a .lent) (a .k) (a .at) (sym (c .before .before .before .before .before .before .before .before .good-assembly .ensures) ∙ not-false _ (c .before .before .before .before .before .before .before .if1 .left)) (sym (c .before .before .before .before .before .before .is-sound .ensures) ∙ not-false _ (c .before .before .before .before .before .if2 .left))
-
-returns-4 : tie.Need-returns-4
-returns-4 c =
-    let a = c .before .before .before .before .before .before .before .before .before .before .args in
-    sym (cond-false _ _ _ (ap (λ (w : ℕ). unsoundLength w (a .v .term - a .at)) (sym (c .before .before .before .word4 .ensures .0)) ∙ sym (c .before .unsound-length .ensures) ∙ c .if3 .left))
-    ∙ verdict-frame (a .v) (a .log .now) (a .lent) (a .k) (a .at) (sym (c .before .before .before .before .before .before .before .before .good-assembly .ensures) ∙ not-false _ (c .before .before .before .before .before .before .before .if1 .left)) (sym (c .before .before .before .before .before .before .is-sound .ensures) ∙ not-false _ (c .before .before .before .before .before .if2 .left))
+    let q = c .before .before .before .before .before .before .before .before in
+    let a = st q .args in
+    sym (cond-false _ _ _ (ap (asked q) (sym (c .before .before .before .word4 .ensures .0)) ∙ sym (c .before .unsound-length .ensures) ∙ c .if1 .left))
+    ∙ verdict-goes (a .p .read) (a .log .now) (a .lent) (a .p .partition) (a .p .offset) (rows q ∙ c .before .before .before .before .before .before .enum-told .given .1)
 
 pub assemble-verdict-spec : {M : Type 1} → statement M
 assemble-verdict-spec =
     tie.close
     (tie.spec
     good-assembly-requires
+    first-rows-requires
+    enum-known-e
     returns
-    is-sound-requires
-    returns-2
+    enum-told
     mul-word4
     add-word4
     word4-requires
     sub-unsound-length
     unsound-length-requires
-    returns-3
-    returns-4)
+    returns-2
+    returns-3)

@@ -1,111 +1,100 @@
--- Rows 1 and 2 are judged on the numbers without signs; then the fields are read.
+-- Rows 1 and 2 are judged at the place that is read; then the fields are read there.
 use mathlib.Core.Path.{_≡_, sym, ap, _∙_, subst}
-use mathlib.Core.Bool.{true, _&&_}
-use Prim.Native.Nat.{ℕ, _<_}
+use mathlib.Core.Bool.{Bool, _&&_}
+use Prim.Native.Nat.{_+_, _*_, _<_}
 use native.Mathlib.Omega.{arith}
-use borrow.Author.Tests.{not-true, not-false}
 use borrow.Author.Needs.{needs}
-use lib.ListN.{length}
-use Rattle.model.specs.declared.Reading.{Reading}
-use Rattle.model.specs.Bytes.{word}
-use Rattle.model.specs.LogBufferDescriptor.{sound, goodPartition, goodOffset, active}
-use Rattle.model.proofs.PlaceLaws.{Placed, placed}
+use lib.ListN.{length, drop}
+use Rattle.model.specs.declared.Place.{Place}
+use Rattle.model.specs.declared.Verdict.{Verdict}
+use Rattle.model.specs.declared.Verdict.the-variants.{Pass, Refuse}
 use Rattle.model.specs.declared.HeaderRead.the-variants.{Fields}
+use Rattle.model.specs.DataFrameHeader.{headerAt}
+use Rattle.model.specs.LogBufferDescriptor.{sound, goodPartition, goodOffset, active, placeOf, firstRows}
+use Rattle.model.specs.TermReader.{fieldsOf, headerBy, headerCall}
+use Rattle.model.proofs.Handed.{handed2}
+use Rattle.model.proofs.PlaceLaws.{Placed, passed-place}
 use Rattle.model.proofs.Sound.{initial-small}
-use Rattle.model.proofs.HeaderRows.{header-argument, header-record, header-fields}
-use Rattle.logbuffer.proofs.Signed.{word-by}
+use Rattle.model.proofs.HeaderRows.{header-by}
 use Rattle.logbuffer.proofs.header.fields.Statement.{statement}
 use Rattle.logbuffer.proofs.header.fields.Tie as tie
 
--- the numbers as they are judged
-abbrev st : tie.After-word2 → tie.Start
+abbrev st : tie.After-first-rows → tie.Start
 st c = c .before .before .before .before
 
-abbrev v : tie.After-word2 → Reading
-v c = c .before .before .read-active .result
+abbrev p : tie.After-first-rows → Place
+p c = c .before .before .place .result
 
-abbrev k : tie.After-word2 → ℕ
-k c = c .before .word .result
+p-is : (c : tie.After-first-rows) → p c ≡ placeOf (st c .args .rec) (st c .args .partition) (st c .args .offset)
+p-is c = c .before .before .place .ensures .0 ∙ handed2 (placeOf (st c .args .rec)) (st c .fits .partition) (st c .fits .offset)
 
-abbrev at : tie.After-word2 → ℕ
-at c = c .word2 .result
+rows : (c : tie.After-first-rows)
+    → firstRows (goodPartition (p c .partition) && goodOffset (p c .offset) (p c .read)) (sound (p c .read) (length (st c .args .log .now))) Pass ≡ c .first-rows .result
+rows c = ap (λ (g : Bool). firstRows g (sound (p c .read) (length (st c .args .log .now))) Pass) (sym (c .before .good-place .ensures)) ∙ sym (c .first-rows .ensures)
 
-k-is : (c : tie.After-word2) → k c ≡ word (st c .args .partition)
-k-is c = word-by (st c .args .partition) (c .before .word .ensures .0) (st c .fits .partition)
-
-at-is : (c : tie.After-word2) → at c ≡ word (st c .args .offset)
-at-is c = word-by (st c .args .offset) (c .word2 .ensures .0) (st c .fits .offset)
-
--- rows 1 and 2 passed
-abbrev num : tie.Else2 → tie.After-word2
-num c = c .before .before .before .before
-
-is-sound : (c : tie.Else2) → sound (v (num c)) (length (st (num c) .args .log .now)) ≡ true
-is-sound c = sym (c .before .is-sound .ensures) ∙ not-false _ (c .if2 .left)
-
-good : (c : tie.Else2) → (goodPartition (k (num c)) && goodOffset (at (num c)) (v (num c))) ≡ true
-good c = sym (c .before .before .before .good-place .ensures) ∙ not-false _ (c .before .before .if1 .left)
-
-place : (c : tie.Else2) → Placed (v (num c)) (length (st (num c) .args .log .now)) (k (num c)) (at (num c))
-place c = placed _ _ (k (num c)) (at (num c)) (good c) (is-sound c)
+place : (c : tie.After-first-rows) → c .first-rows .result ≡ Pass → Placed (p c .read) (length (st c .args .log .now)) (p c .partition) (p c .offset)
+place c h = passed-place (p c) (length (st c .args .log .now)) (rows c ∙ h)
 
 -- a biased id has 32 bits
-initial-in : (c : tie.Else2) → v (num c) .initial < 4294967296
-initial-in c =
-    let r = st (num c) .args .rec in
-    subst (λ (x : Reading). x .initial < 4294967296) (sym (num c .before .before .read-active .ensures)) (initial-small r (active r))
+initial-in : (c : tie.After-first-rows) → p c .read .initial < 4294967296
+initial-in c = let r = st c .args .rec in subst (λ (x : Place). x .read .initial < 4294967296) (sym (p-is c)) (initial-small r (active r))
 
-read-active-requires : tie.Need-read-active-requires
-read-active-requires c κs = search needs
+by : (c : tie.After-first-rows) (x : Verdict) → c .first-rows .result ≡ x
+    → headerBy (fieldsOf (p c .read) (p c .offset) (headerAt (drop (p c .partition * p c .read .term + p c .offset) (st c .args .log .now)))) x
+    ≡ headerCall (st c .args .rec) (st c .args .log .now) (st c .args .partition) (st c .args .offset)
+by c x h =
+    let a = st c .args in
+    ap (headerBy (fieldsOf (p c .read) (p c .offset) (headerAt (drop (p c .partition * p c .read .term + p c .offset) (a .log .now))))) (sym (rows c ∙ h))
+    ∙ header-by (a .rec) (a .log .now) (a .partition) (a .offset) (p c) (p-is c)
 
-word-requires : tie.Need-word-requires
-word-requires c κs = search needs
-
-word-requires-2 : tie.Need-word-requires-2
-word-requires-2 c κs = search needs
+place-requires : tie.Need-place-requires
+place-requires c κs = search needs
 
 good-place-requires : tie.Need-good-place-requires
 good-place-requires c κs = search needs
 
-returns : tie.Need-returns
-returns c =
-    let q = c .before .before in
-    let a = st q .args in
-    header-argument (a .rec) (a .log .now) (a .partition) (a .offset) (v q) (k q) (at q) (q .before .before .read-active .ensures) (k-is q) (at-is q) (sym (c .before .good-place .ensures) ∙ not-true _ (c .if1 .taken))
+first-rows-requires : tie.Need-first-rows-requires
+first-rows-requires c κs = search needs
 
-is-sound-requires : tie.Need-is-sound-requires
-is-sound-requires c κs = search needs
+enum-known-e : tie.Need-enum-known-e
+enum-known-e c = search needs
 
-returns-2 : tie.Need-returns-2
-returns-2 c =
+enum-told : tie.Need-enum-told
+enum-told c = search needs
+
+mul-index : tie.Need-mul-index
+mul-index c =
+    let q = c .before .before .before in record { fits = omega (arith, place q (c .before .enum-told .given .1) .inside, st q .good) }
+
+add-index : tie.Need-add-index
+add-index c =
     let q = c .before .before .before .before in
-    let a = st q .args in
-    header-record (a .rec) (a .log .now) (a .partition) (a .offset) (v q) (k q) (at q) (q .before .before .read-active .ensures) (k-is q) (at-is q) (sym (c .before .before .before .good-place .ensures) ∙ not-false _ (c .before .before .if1 .left)) (sym (c .before .is-sound .ensures) ∙ not-true _ (c .if2 .taken))
-
-mul-fields-at : tie.Need-mul-fields-at
-mul-fields-at c = record { fits = omega (arith, place c .inside, st (num c) .good) }
-
-add-fields-at : tie.Need-add-fields-at
-add-fields-at c = record { fits = omega (arith, place c .inside, place c .below, st (num c) .good) }
+    let f = place q (c .before .before .enum-told .given .1) in
+    record { fits = omega (arith, f .inside, f .below, st q .good) }
 
 fields-at-requires : tie.Need-fields-at-requires
-fields-at-requires c κs = let p = place c in (omega (arith, p .inside, p .header), (initial-in c, (p .term-high, num c .word2 .ensures .1)))
+fields-at-requires c κs =
+    let q = c .before .before .before .before in
+    let f = place q (c .before .before .enum-told .given .1) in
+    (omega (arith, f .inside, f .header), (initial-in q, (f .term-high, q .before .before .place .ensures .1 .1)))
 
-returns-3 : tie.Need-returns-3
-returns-3 c = ap Fields (c .fields-at .ensures) ∙ (let q = c .before .before .before .before .before in let a = st q .args in header-fields (a .rec) (a .log .now) (a .partition) (a .offset) (v q) (k q) (at q) (q .before .before .read-active .ensures) (k-is q) (at-is q) (good (c .before)) (is-sound (c .before)))
+returns : tie.Need-returns
+returns c = by (c .before .before .before) (Refuse (c .before .e .given .0 .0)) (c .before .e .given .1)
+
+returns-2 : tie.Need-returns-2
+returns-2 c = ap Fields (c .fields-at .ensures) ∙ by (c .before .before .before .before .before) Pass (c .before .before .before .enum-told .given .1)
 
 pub fields-spec : {M : Type 1} → statement M
 fields-spec =
     tie.close
     (tie.spec
-    read-active-requires
-    word-requires
-    word-requires-2
+    place-requires
     good-place-requires
-    returns
-    is-sound-requires
-    returns-2
-    mul-fields-at
-    add-fields-at
+    first-rows-requires
+    enum-known-e
+    enum-told
+    mul-index
+    add-index
     fields-at-requires
-    returns-3)
+    returns
+    returns-2)

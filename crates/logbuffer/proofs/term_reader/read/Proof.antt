@@ -1,88 +1,60 @@
--- Rows 1 and 2 are judged on the numbers without signs; then `read_frames` walks, and its answer is opened.
+-- Rows 1 and 2 are judged at the place that is read; then `read_frames` walks, and its answer is opened.
 use mathlib.Core.Path.{_≡_, sym, ap, _∙_}
-use mathlib.Core.Bool.{true}
-use mathlib.Core.List.{[]}
-use Prim.Native.Nat.{ℕ, _*_}
+use mathlib.Core.Bool.{Bool}
+use Prim.Native.Nat.{ℕ}
 use native.Mathlib.Omega.{arith}
-use borrow.Author.Tests.{not-true, not-false}
 use borrow.Author.Needs.{needs}
 use lib.ListN.{length}
-use mir.Facts.{toZ-ofZ}
-use Rattle.model.specs.declared.Reading.{Reading}
-use Rattle.model.specs.declared.TermRead.the-variants.{Refused as TermRefused}
-use Rattle.model.specs.Bytes.{word}
-use Rattle.model.specs.LogBufferDescriptor.{sound}
-use Rattle.model.specs.TermReader.{natural, framesOf, framesEntries, goodWalk, readOf, readEntries}
-use Rattle.model.proofs.PlaceLaws.{Placed}
-use Rattle.model.proofs.ReadLaws.{goodRead, readFrom, read-argument, read-record, read-goes, read-placed, read-walk, frames-refuse, frames-moved}
-use Rattle.logbuffer.proofs.Signed.{word-by}
+use Rattle.model.specs.declared.Place.{Place}
+use Rattle.model.specs.declared.Verdict.the-variants.{Pass}
+use Rattle.model.specs.LogBufferDescriptor.{sound, placeOf, firstRows}
+use Rattle.model.specs.TermReader.{natural, readOf, readEntries}
+use Rattle.model.proofs.Handed.{handed1, handed2}
+use Rattle.model.proofs.Rows.{rows-pass}
+use Rattle.model.proofs.PlaceLaws.{Placed, rows-placed}
+use Rattle.model.proofs.ReadLaws.{goodRead, readFrom, read-refused, read-goes, read-walk, frames-moved}
 use Rattle.logbuffer.proofs.term_reader.read.Statement.{statement}
 use Rattle.logbuffer.proofs.term_reader.read.Tie as tie
 
--- the numbers as they are judged
-abbrev st : tie.After-natural → tie.Start
+abbrev st : tie.After-first-rows → tie.Start
 st c = c .before .before .before .before .before
 
-abbrev v : tie.After-natural → Reading
-v c = c .before .before .before .read-active .result
+abbrev p : tie.After-first-rows → Place
+p c = c .before .before .before .place .result
 
-abbrev k : tie.After-natural → ℕ
-k c = c .before .before .word .result
+abbrev most : tie.After-first-rows → ℕ
+most c = c .before .before .natural .result
 
-abbrev at : tie.After-natural → ℕ
-at c = c .before .word2 .result
+p-is : (c : tie.After-first-rows) → p c ≡ placeOf (st c .args .rec) (st c .args .partition) (st c .args .offset)
+p-is c = c .before .before .before .place .ensures .0 ∙ handed2 (placeOf (st c .args .rec)) (st c .fits .partition) (st c .fits .offset)
 
-abbrev most : tie.After-natural → ℕ
-most c = c .natural .result
+most-is : (c : tie.After-first-rows) → most c ≡ natural (st c .args .limit)
+most-is c = c .before .before .natural .ensures .0 ∙ handed1 natural (st c .fits .limit)
 
-k-is : (c : tie.After-natural) → k c ≡ word (st c .args .partition)
-k-is c = word-by (st c .args .partition) (c .before .before .word .ensures .0) (st c .fits .partition)
+rows : (c : tie.After-first-rows)
+    → firstRows (goodRead (p c) (most c) (length (st c .args .entries .now))) (sound (p c .read) (length (st c .args .log .now))) Pass ≡ c .first-rows .result
+rows c = ap (λ (g : Bool). firstRows g (sound (p c .read) (length (st c .args .log .now))) Pass) (sym (c .before .good-read .ensures)) ∙ sym (c .first-rows .ensures)
 
-at-is : (c : tie.After-natural) → at c ≡ word (st c .args .offset)
-at-is c = word-by (st c .args .offset) (c .before .word2 .ensures .0) (st c .fits .offset)
-
-most-is : (c : tie.After-natural) → most c ≡ natural (st c .args .limit)
-most-is c = c .natural .ensures .0 ∙ ap natural (toZ-ofZ (st c .fits .limit))
-
--- rows 1 and 2 passed
-good : (c : tie.Else2) → goodRead (v (c .before .before .before .before)) (k (c .before .before .before .before)) (at (c .before .before .before .before)) (most (c .before .before .before .before)) (length (st (c .before .before .before .before) .args .entries .now)) ≡ true
-good c = sym (c .before .before .before .good-read .ensures) ∙ not-false _ (c .before .before .if1 .left)
-
-is-sound : (c : tie.Else2) → sound (v (c .before .before .before .before)) (length (st (c .before .before .before .before) .args .log .now)) ≡ true
-is-sound c = sym (c .before .is-sound .ensures) ∙ not-false _ (c .if2 .left)
-
-place : (c : tie.Else2) → Placed (v (c .before .before .before .before)) (length (st (c .before .before .before .before) .args .log .now)) (k (c .before .before .before .before)) (at (c .before .before .before .before))
-place c = read-placed _ _ _ _ (most (c .before .before .before .before)) (length (st (c .before .before .before .before) .args .entries .now)) (good c) (is-sound c)
+place : (c : tie.After-first-rows) → c .first-rows .result ≡ Pass → Placed (p c .read) (length (st c .args .log .now)) (p c .partition) (p c .offset)
+place c h = rows-placed (p c) _ _ (rows c ∙ h) .0
 
 -- the walk's answer
-abbrev num : tie.After-read-frames → tie.After-natural
-num c = c .before .before .before .before .before .before .before
+abbrev num : tie.After-read-frames → tie.After-first-rows
+num c = c .before .before .before .before .before .before
 
-went : (c : tie.After-read-frames) → c .read-frames .result ≡ framesOf (st (num c) .args .log .now) (k (num c) * v (num c) .term) (v (num c) .term) (v (num c) .term) (at (num c)) (most (num c)) [] (st (num c) .args .entries .now)
-went c = c .read-frames .ensures .0
+passed : (c : tie.After-read-frames) → num c .first-rows .result ≡ Pass
+passed c = c .before .before .before .before .enum-told .given .1
 
-wrote : (c : tie.After-read-frames) → c .read-frames .last .1 .1 .1 .1 .1 .1 .1 .0 ≡ framesEntries (st (num c) .args .log .now) (k (num c) * v (num c) .term) (v (num c) .term) (v (num c) .term) (at (num c)) (most (num c)) [] (st (num c) .args .entries .now)
-wrote c = c .read-frames .ensures .1
-
-goes : (c : tie.After-read-frames) → (readFrom (at (num c)) (c .read-frames .result) ≡ readOf (st (num c) .args .rec) (st (num c) .args .log .now) (st (num c) .args .partition) (st (num c) .args .offset) (st (num c) .args .limit) (st (num c) .args .entries .now))
+goes : (c : tie.After-read-frames) → (readFrom (p (num c) .offset) (c .read-frames .result) ≡ readOf (st (num c) .args .rec) (st (num c) .args .log .now) (st (num c) .args .partition) (st (num c) .args .offset) (st (num c) .args .limit) (st (num c) .args .entries .now))
     × (c .read-frames .last .1 .1 .1 .1 .1 .1 .1 .0 ≡ readEntries (st (num c) .args .rec) (st (num c) .args .log .now) (st (num c) .args .partition) (st (num c) .args .offset) (st (num c) .args .limit) (st (num c) .args .entries .now))
 goes c =
     let q = num c in
     let a = st q .args in
-    let e = read-goes (a .rec) (a .log .now) (a .partition) (a .offset) (a .limit) (a .entries .now) (v q) (k q) (at q) (most q) (q .before .before .before .read-active .ensures) (k-is q) (at-is q) (most-is q) (good (c .before .before .before)) (is-sound (c .before .before .before)) in
-    (ap (readFrom (at q)) (went c) ∙ e .0, wrote c ∙ e .1)
+    let e = read-goes (a .rec) (a .log .now) (a .partition) (a .offset) (a .limit) (a .entries .now) (p q) (most q) (p-is q) (most-is q) (rows q ∙ passed c) in
+    (ap (readFrom (p q .offset)) (c .read-frames .ensures .0) ∙ e .0, c .read-frames .ensures .1 ∙ e .1)
 
-walks : (c : tie.After-read-frames) → goodWalk (length (st (num c) .args .log .now)) (k (num c) * v (num c) .term) (v (num c) .term) (v (num c) .term) (at (num c)) (most (num c)) (length (st (num c) .args .entries .now)) ≡ true
-walks c = read-walk (v (num c)) (length (st (num c) .args .log .now)) (k (num c)) (at (num c)) (most (num c)) (length (st (num c) .args .entries .now)) (good (c .before .before .before)) (is-sound (c .before .before .before))
-
-read-active-requires : tie.Need-read-active-requires
-read-active-requires c κs = search needs
-
-word-requires : tie.Need-word-requires
-word-requires c κs = search needs
-
-word-requires-2 : tie.Need-word-requires-2
-word-requires-2 c κs = search needs
+place-requires : tie.Need-place-requires
+place-requires c κs = search needs
 
 natural-requires : tie.Need-natural-requires
 natural-requires c κs = search needs
@@ -90,23 +62,24 @@ natural-requires c κs = search needs
 good-read-requires : tie.Need-good-read-requires
 good-read-requires c κs = search needs
 
+first-rows-requires : tie.Need-first-rows-requires
+first-rows-requires c κs = search needs
+
+enum-known-e : tie.Need-enum-known-e
+enum-known-e c = search needs
+
 returns : tie.Need-returns
 returns c =
-    let q = c .before .before in
+    let q = c .before .before .before in
     let a = st q .args in
-    read-argument (a .rec) (a .log .now) (a .partition) (a .offset) (a .limit) (a .entries .now) (v q) (k q) (at q) (most q) (q .before .before .before .read-active .ensures) (k-is q) (at-is q) (most-is q) (sym (c .before .good-read .ensures) ∙ not-true _ (c .if1 .taken))
+    read-refused (a .rec) (a .log .now) (a .partition) (a .offset) (a .limit) (a .entries .now) (p q) (most q) (p-is q) (most-is q) (rows q ∙ c .before .e .given .1)
 
-is-sound-requires : tie.Need-is-sound-requires
-is-sound-requires c κs = search needs
+enum-told : tie.Need-enum-told
+enum-told c = search needs
 
-returns-2 : tie.Need-returns-2
-returns-2 c =
-    let q = c .before .before .before .before in
-    let a = st q .args in
-    read-record (a .rec) (a .log .now) (a .partition) (a .offset) (a .limit) (a .entries .now) (v q) (k q) (at q) (most q) (q .before .before .before .read-active .ensures) (k-is q) (at-is q) (most-is q) (sym (c .before .before .before .good-read .ensures) ∙ not-false _ (c .before .before .if1 .left)) (sym (c .before .is-sound .ensures) ∙ not-true _ (c .if2 .taken))
-
-mul-read-frames : tie.Need-mul-read-frames
-mul-read-frames c = record { fits = omega (arith, place c .inside, c .before .before .before .before .before .before .before .before .before .good) }
+mul-base : tie.Need-mul-base
+mul-base c =
+    let q = c .before .before .before in record { fits = omega (arith, place q (c .before .enum-told .given .1) .inside, st q .good) }
 
 sub-read-frames : tie.Need-sub-read-frames
 sub-read-frames c = search needs
@@ -120,56 +93,56 @@ part-read-frames-end c = search needs
 read-frames-requires : tie.Need-read-frames-requires
 read-frames-requires c κs = search needs
 
+enum-known-e-2 : tie.Need-enum-known-e-2
+enum-known-e-2 c = search needs
+
 enum-known-walked : tie.Need-enum-known-walked
 enum-known-walked c = search needs
 
-enum-told : tie.Need-enum-told
-enum-told c = search needs
+add-t25 : tie.Need-add-t25
+add-t25 c =
+    let f = c .before .before .before .before .before in
+    let q = num f in
+    let g = rows-pass (goodRead (p q) (most q) (length (st q .args .entries .now))) (sound (p q .read) (length (st q .args .log .now))) (rows q ∙ passed f) in
+    let m = frames-moved _ _ _ _ _ _ _ _ (read-walk (p q) (length (st q .args .log .now)) (most q) (length (st q .args .entries .now)) (g .0) (g .1)) _ (sym (f .read-frames .ensures .0) ∙ c .before .before .walked .given .1) in
+    omega (arith, m, place q (passed f))
 
 same-length : tie.Need-same-length
 same-length c = search needs
 
-returns-3 : tie.Need-returns-3
-returns-3 c =
-    let f = c .before .before .before in
-    let told = c .enum-told .given .1 in
-    let u = frames-refuse _ _ _ _ _ _ _ _ (walks f) _ (sym (went f) ∙ told) in
-    (ap TermRefused (sym u) ∙ ap (readFrom (at (num f))) (sym told) ∙ goes f .0, goes f .1)
-
-add-t14 : tie.Need-add-t14
-add-t14 c =
-    let f = c .before .before .before .before .before in
-    omega (arith, frames-moved _ _ _ _ _ _ _ _ (walks f) _ (sym (went f) ∙ c .before .before .walked .given .1), place (f .before .before .before))
+returns-2 : tie.Need-returns-2
+returns-2 c =
+    let f = c .before .before .before .before in
+    (ap (readFrom (p (num f) .offset)) (sym (c .before .e2 .given .1)) ∙ goes f .0, goes f .1)
 
 same-length-2 : tie.Need-same-length-2
 same-length-2 c = search needs
 
-returns-4 : tie.Need-returns-4
-returns-4 c =
+returns-3 : tie.Need-returns-3
+returns-3 c =
     let f = c .before .before .before .before .before in
-    (ap (readFrom (at (num f))) (sym (c .before .before .walked .given .1)) ∙ goes f .0, goes f .1)
+    (ap (readFrom (p (num f) .offset)) (sym (c .before .before .walked .given .1)) ∙ goes f .0, goes f .1)
 
 pub read-spec : {M : Type 1} → statement M
 read-spec =
     tie.close
     (tie.spec
-    read-active-requires
-    word-requires
-    word-requires-2
+    place-requires
     natural-requires
     good-read-requires
+    first-rows-requires
+    enum-known-e
     returns
-    is-sound-requires
-    returns-2
-    mul-read-frames
+    enum-told
+    mul-base
     sub-read-frames
     part-read-frames-start
     part-read-frames-end
     read-frames-requires
+    enum-known-e-2
     enum-known-walked
-    enum-told
+    add-t25
     same-length
-    returns-3
-    add-t14
+    returns-2
     same-length-2
-    returns-4)
+    returns-3)

@@ -1,113 +1,104 @@
--- Rows 1 and 2 are judged on the numbers without signs; then the span is told.
-use mathlib.Core.Path.{_≡_, sym, _∙_}
-use mathlib.Core.Bool.{true}
+-- Rows 1 and 2 are judged at the place that is read; then the span is told.
+use mathlib.Core.Path.{_≡_, sym, ap, _∙_}
+use mathlib.Core.Bool.{Bool}
 use Prim.Native.Nat.{ℕ, _+_, _*_, _≤_}
 use native.Mathlib.Omega.{arith}
-use borrow.Author.Tests.{not-true, not-false}
 use borrow.Author.Needs.{needs}
 use lib.ListN.{length}
-use Rattle.model.specs.declared.Reading.{Reading}
+use Rattle.model.specs.declared.Place.{Place}
+use Rattle.model.specs.declared.Verdict.{Verdict}
+use Rattle.model.specs.declared.Verdict.the-variants.{Pass, Refuse}
 use Rattle.model.specs.Bytes.{word}
-use Rattle.model.specs.LogBufferDescriptor.{sound}
-use Rattle.model.specs.TermReader.{goodView}
+use Rattle.model.specs.Parts.{locatedBy}
+use Rattle.model.specs.LogBufferDescriptor.{sound, placeOf, firstRows}
+use Rattle.model.specs.TermReader.{goodView, viewOf}
+use Rattle.model.proofs.Handed.{handed2}
+use Rattle.model.proofs.Rows.{rows-pass}
+use Rattle.model.proofs.ViewLaws.{view-in, view-by}
 use Rattle.logbuffer.proofs.Signed.{word-by}
-use Rattle.model.proofs.ViewLaws as laws
 use Rattle.logbuffer.proofs.term_reader.view_span.Statement.{statement}
 use Rattle.logbuffer.proofs.term_reader.view_span.Tie as tie
 
--- the numbers as they are judged
-abbrev st : tie.After-word3 → tie.Start
+abbrev st : tie.After-first-rows → tie.Start
 st c = c .before .before .before .before .before
 
-abbrev v : tie.After-word3 → Reading
-v c = c .before .before .before .read-active .result
+abbrev p : tie.After-first-rows → Place
+p c = c .before .before .before .place .result
 
-abbrev k : tie.After-word3 → ℕ
-k c = c .before .before .word .result
+abbrev size : tie.After-first-rows → ℕ
+size c = c .before .before .word .result
 
-abbrev at : tie.After-word3 → ℕ
-at c = c .before .word2 .result
+p-is : (c : tie.After-first-rows) → p c ≡ placeOf (st c .args .rec) (st c .args .partition) (st c .args .offset)
+p-is c = c .before .before .before .place .ensures .0 ∙ handed2 (placeOf (st c .args .rec)) (st c .fits .partition) (st c .fits .offset)
 
-k-is : (c : tie.After-word3) → k c ≡ word (st c .args .partition)
-k-is c = word-by (st c .args .partition) (c .before .before .word .ensures .0) (st c .fits .partition)
+size-is : (c : tie.After-first-rows) → size c ≡ word (st c .args .length)
+size-is c = word-by (st c .args .length) (c .before .before .word .ensures .0) (st c .fits .length)
 
-at-is : (c : tie.After-word3) → at c ≡ word (st c .args .offset)
-at-is c = word-by (st c .args .offset) (c .before .word2 .ensures .0) (st c .fits .offset)
+rows : (c : tie.After-first-rows)
+    → firstRows (goodView (p c .read) (p c .partition) (p c .offset) (size c)) (sound (p c .read) (length (st c .args .log .now))) Pass ≡ c .first-rows .result
+rows c = ap (λ (g : Bool). firstRows g (sound (p c .read) (length (st c .args .log .now))) Pass) (sym (c .before .good-view .ensures)) ∙ sym (c .first-rows .ensures)
 
--- rows 1 and 2 passed
-abbrev num : tie.Else2 → tie.After-word3
-num c = c .before .before .before .before
+inside : (c : tie.After-first-rows) → c .first-rows .result ≡ Pass → p c .partition * p c .read .term + p c .offset + size c ≤ length (st c .args .log .now)
+inside c h =
+    let g = rows-pass (goodView (p c .read) (p c .partition) (p c .offset) (size c)) (sound (p c .read) (length (st c .args .log .now))) (rows c ∙ h) in
+    view-in (p c .read) (length (st c .args .log .now)) (p c .partition) (p c .offset) (size c) (g .0) (g .1) .0
 
-is-sound : (c : tie.Else2) → sound (v (num c)) (length (st (num c) .args .log .now)) ≡ true
-is-sound c = sym (c .before .is-sound .ensures) ∙ not-false _ (c .if2 .left)
+by : (c : tie.After-first-rows) (x : Verdict) → c .first-rows .result ≡ x
+    → locatedBy (p c .partition * p c .read .term + p c .offset) (p c .partition * p c .read .term + p c .offset + size c) x
+    ≡ viewOf (st c .args .rec) (st c .args .log .now) (st c .args .partition) (st c .args .offset) (st c .args .length)
+by c x h =
+    let a = st c .args in
+    ap (locatedBy (p c .partition * p c .read .term + p c .offset) (p c .partition * p c .read .term + p c .offset + size c)) (sym (rows c ∙ h))
+    ∙ view-by (a .rec) (a .log .now) (a .partition) (a .offset) (a .length) (p c) (size c) (p-is c) (size-is c)
 
-size-is : (c : tie.After-word3) → c .word3 .result ≡ word (st c .args .length)
-size-is c = word-by (st c .args .length) (c .word3 .ensures .0) (st c .fits .length)
-
-good : (c : tie.Else2) → goodView (v (num c)) (k (num c)) (at (num c)) (num c .word3 .result) ≡ true
-good c = sym (c .before .before .before .good-view .ensures) ∙ not-false _ (c .before .before .if1 .left)
-
-inside : (c : tie.Else2) → (k (num c) * v (num c) .term + at (num c) + num c .word3 .result ≤ length (st (num c) .args .log .now)) × (k (num c) ≤ 2)
-inside c = laws.view-in _ _ (k (num c)) (at (num c)) (num c .word3 .result) (good c) (is-sound c)
-
-read-active-requires : tie.Need-read-active-requires
-read-active-requires c κs = search needs
+place-requires : tie.Need-place-requires
+place-requires c κs = search needs
 
 word-requires : tie.Need-word-requires
 word-requires c κs = search needs
 
-word-requires-2 : tie.Need-word-requires-2
-word-requires-2 c κs = search needs
-
-word-requires-3 : tie.Need-word-requires-3
-word-requires-3 c κs = search needs
-
 good-view-requires : tie.Need-good-view-requires
 good-view-requires c κs = search needs
 
-returns : tie.Need-returns
-returns c =
-    let q = c .before .before in
-    let a = st q .args in
-    laws.view-argument (a .rec) (a .log .now) (a .partition) (a .offset) (a .length) (v q) (k q) (at q) (q .word3 .result) (q .before .before .before .read-active .ensures) (k-is q) (at-is q) (size-is q) (sym (c .before .good-view .ensures) ∙ not-true _ (c .if1 .taken))
+first-rows-requires : tie.Need-first-rows-requires
+first-rows-requires c κs = search needs
 
-is-sound-requires : tie.Need-is-sound-requires
-is-sound-requires c κs = search needs
+enum-known-e : tie.Need-enum-known-e
+enum-known-e c = search needs
 
-returns-2 : tie.Need-returns-2
-returns-2 c =
-    let q = c .before .before .before .before in
-    let a = st q .args in
-    laws.view-record (a .rec) (a .log .now) (a .partition) (a .offset) (a .length) (v q) (k q) (at q) (q .word3 .result) (q .before .before .before .read-active .ensures) (k-is q) (at-is q) (size-is q) (sym (c .before .before .before .good-view .ensures) ∙ not-false _ (c .before .before .if1 .left)) (sym (c .before .is-sound .ensures) ∙ not-true _ (c .if2 .taken))
+enum-told : tie.Need-enum-told
+enum-told c = search needs
 
 mul-from : tie.Need-mul-from
-mul-from c = record { fits = omega (arith, inside c .0, st (num c) .good) }
+mul-from c =
+    let q = c .before .before .before in record { fits = omega (arith, inside q (c .before .enum-told .given .1), st q .good) }
 
 add-from : tie.Need-add-from
-add-from c = record { fits = omega (arith, inside c .0, st (num c) .good) }
+add-from c =
+    let q = c .before .before .before .before in record { fits = omega (arith, inside q (c .before .before .enum-told .given .1), st q .good) }
 
-add-t15 : tie.Need-add-t15
-add-t15 c = record { fits = omega (arith, inside c .0, st (num c) .good) }
+add-t14 : tie.Need-add-t14
+add-t14 c =
+    let q = c .before .before .before .before in record { fits = omega (arith, inside q (c .before .before .enum-told .given .1), st q .good) }
 
-returns-3 : tie.Need-returns-3
-returns-3 c =
-    let q = c .before .before .before .before in
-    let a = st q .args in
-    laws.view-span (a .rec) (a .log .now) (a .partition) (a .offset) (a .length) (v q) (k q) (at q) (q .word3 .result) (q .before .before .before .read-active .ensures) (k-is q) (at-is q) (size-is q) (good c) (is-sound c)
+returns : tie.Need-returns
+returns c = by (c .before .before .before) (Refuse (c .before .e .given .0 .0)) (c .before .e .given .1)
+
+returns-2 : tie.Need-returns-2
+returns-2 c = by (c .before .before .before .before) Pass (c .before .before .enum-told .given .1)
 
 pub view-span-spec : {M : Type 1} → statement M
 view-span-spec =
     tie.close
     (tie.spec
-    read-active-requires
+    place-requires
     word-requires
-    word-requires-2
-    word-requires-3
     good-view-requires
-    returns
-    is-sound-requires
-    returns-2
+    first-rows-requires
+    enum-known-e
+    enum-told
     mul-from
     add-from
-    add-t15
-    returns-3)
+    add-t14
+    returns
+    returns-2)

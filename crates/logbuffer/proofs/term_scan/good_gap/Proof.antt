@@ -16,13 +16,13 @@ good-place-requires c κs = search needs
 returns : tie.Need-returns
 returns c =
     let a = c .before .before .args in
-    and-not (goodPartition (a .k)) (goodOffset (a .at) (a .v)) _ (sym (c .before .good-place .ensures) ∙ not-true _ (c .if1 .taken))
+    and-not (goodPartition (a .p .partition)) (goodOffset (a .p .offset) (a .p .read)) _ (sym (c .before .good-place .ensures) ∙ not-true _ (c .if1 .taken))
 
 returns-2 : tie.Need-returns-2
 returns-2 c =
     let a = c .before .before .before .args in
-    let e : (eqb (a .mark % 32) 0 && withinTerm (a .mark) (a .v)) ≡ false = rw (ne-eqb (a .mark % 32) 0 (c .if2 .taken)) in
-    sym e ∙ and-then (goodPartition (a .k)) (goodOffset (a .at) (a .v)) _ (sym (c .before .before .good-place .ensures) ∙ not-false _ (c .before .if1 .left))
+    let e : (eqb (a .mark % 32) 0 && withinTerm (a .mark) (a .p .read)) ≡ false = rw (ne-eqb (a .mark % 32) 0 (c .if2 .taken)) in
+    sym e ∙ and-then (goodPartition (a .p .partition)) (goodOffset (a .p .offset) (a .p .read)) _ (sym (c .before .before .good-place .ensures) ∙ not-false _ (c .before .if1 .left))
 
 within-term-requires : tie.Need-within-term-requires
 within-term-requires c κs = search needs
@@ -30,8 +30,8 @@ within-term-requires c κs = search needs
 returns-3 : tie.Need-returns-3
 returns-3 c =
     let a = c .before .before .before .before .args in
-    let e : (eqb (a .mark % 32) 0 && withinTerm (a .mark) (a .v)) ≡ withinTerm (a .mark) (a .v) = rw (eq-eqb (a .mark % 32) 0 (c .before .if2 .left)) in
-    c .within-term .ensures ∙ sym e ∙ and-then (goodPartition (a .k)) (goodOffset (a .at) (a .v)) _ (sym (c .before .before .before .good-place .ensures) ∙ not-false _ (c .before .before .if1 .left))
+    let e : (eqb (a .mark % 32) 0 && withinTerm (a .mark) (a .p .read)) ≡ withinTerm (a .mark) (a .p .read) = rw (eq-eqb (a .mark % 32) 0 (c .before .if2 .left)) in
+    c .within-term .ensures ∙ sym e ∙ and-then (goodPartition (a .p .partition)) (goodOffset (a .p .offset) (a .p .read)) _ (sym (c .before .before .before .good-place .ensures) ∙ not-false _ (c .before .before .if1 .left))
 
 pub good-gap-spec : {M : Type 1} → statement M
 good-gap-spec =

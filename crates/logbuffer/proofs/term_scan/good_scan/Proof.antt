@@ -13,7 +13,7 @@ good-place-requires c κs = search needs
 returns : tie.Need-returns
 returns c =
     let a = c .before .before .args in
-    and-not (goodPartition (a .k)) (goodOffset (a .at) (a .v)) _ (sym (c .before .good-place .ensures) ∙ not-true _ (c .if1 .taken))
+    and-not (goodPartition (a .p .partition)) (goodOffset (a .p .offset) (a .p .read)) _ (sym (c .before .good-place .ensures) ∙ not-true _ (c .if1 .taken))
 
 within-term-requires : tie.Need-within-term-requires
 within-term-requires c κs = search needs
@@ -21,7 +21,7 @@ within-term-requires c κs = search needs
 returns-2 : tie.Need-returns-2
 returns-2 c =
     let a = c .before .before .before .args in
-    c .within-term .ensures ∙ and-then (goodPartition (a .k)) (goodOffset (a .at) (a .v)) _ (sym (c .before .before .good-place .ensures) ∙ not-false _ (c .before .if1 .left))
+    c .within-term .ensures ∙ and-then (goodPartition (a .p .partition)) (goodOffset (a .p .offset) (a .p .read)) _ (sym (c .before .before .good-place .ensures) ∙ not-false _ (c .before .if1 .left))
 
 pub good-scan-spec : {M : Type 1} → statement M
 good-scan-spec = tie.close (tie.spec good-place-requires returns within-term-requires returns-2)

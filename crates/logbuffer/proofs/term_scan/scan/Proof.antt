@@ -1,70 +1,44 @@
--- Rows 1 and 2 are judged on the numbers without signs; then the loop scans.
+-- Rows 1 and 2 are judged at the place that is read; then the loop scans.
 use mathlib.Core.Path.{_≡_, sym, ap, _∙_}
-use mathlib.Core.Bool.{true, _&&_}
+use mathlib.Core.Bool.{Bool, _&&_}
 use Prim.Native.Nat.{ℕ, _≤_}
 use native.Mathlib.Omega.{arith}
-use borrow.Author.Tests.{not-true, not-false, leb-true}
 use borrow.Author.Needs.{needs}
 use lib.ListN.{length}
-use mir.Facts.{toZ-ofZ}
-use Rattle.model.specs.declared.Reading.{Reading}
-use Rattle.model.specs.Bytes.{word}
-use Rattle.model.specs.LogBufferDescriptor.{sound, goodPartition, goodOffset, withinTerm}
+use Rattle.model.specs.declared.Place.{Place}
+use Rattle.model.specs.declared.Verdict.the-variants.{Pass}
+use Rattle.model.specs.LogBufferDescriptor.{sound, goodPartition, goodOffset, withinTerm, placeOf, firstRows}
 use Rattle.model.specs.TermReader.{natural}
-use Rattle.model.proofs.PlaceLaws.{Placed, placed}
-use Rattle.model.proofs.Both.{and-true}
-use Rattle.model.proofs.ReadLaws.{and-and}
-use Rattle.model.proofs.ScanRows.{scan-argument, scan-record, scan-goes}
-use Rattle.logbuffer.proofs.Signed.{word-by}
+use Rattle.model.proofs.Handed.{handed1, handed2}
+use Rattle.model.proofs.PlaceLaws.{Placed, rows-placed, within}
+use Rattle.model.proofs.ScanRows.{scan-refused, scan-goes}
 use Rattle.logbuffer.proofs.term_scan.scan.Statement.{statement}
 use Rattle.logbuffer.proofs.term_scan.scan.Tie as tie
 
--- the numbers as they are judged
-abbrev st : tie.After-natural → tie.Start
+abbrev st : tie.After-first-rows → tie.Start
 st c = c .before .before .before .before .before
 
-abbrev v : tie.After-natural → Reading
-v c = c .before .before .before .read-active .result
+abbrev p : tie.After-first-rows → Place
+p c = c .before .before .before .place .result
 
-abbrev k : tie.After-natural → ℕ
-k c = c .before .before .word .result
+abbrev most : tie.After-first-rows → ℕ
+most c = c .before .before .natural .result
 
-abbrev at : tie.After-natural → ℕ
-at c = c .before .word2 .result
+p-is : (c : tie.After-first-rows) → p c ≡ placeOf (st c .args .rec) (st c .args .partition) (st c .args .offset)
+p-is c = c .before .before .before .place .ensures .0 ∙ handed2 (placeOf (st c .args .rec)) (st c .fits .partition) (st c .fits .offset)
 
-k-is : (c : tie.After-natural) → k c ≡ word (st c .args .partition)
-k-is c = word-by (st c .args .partition) (c .before .before .word .ensures .0) (st c .fits .partition)
+most-is : (c : tie.After-first-rows) → most c ≡ natural (st c .args .limit)
+most-is c = c .before .before .natural .ensures .0 ∙ handed1 natural (st c .fits .limit)
 
-at-is : (c : tie.After-natural) → at c ≡ word (st c .args .offset)
-at-is c = word-by (st c .args .offset) (c .before .word2 .ensures .0) (st c .fits .offset)
+rows : (c : tie.After-first-rows)
+    → firstRows (goodPartition (p c .partition) && (goodOffset (p c .offset) (p c .read) && withinTerm (most c) (p c .read))) (sound (p c .read) (length (st c .args .log .now))) Pass ≡ c .first-rows .result
+rows c = ap (λ (g : Bool). firstRows g (sound (p c .read) (length (st c .args .log .now))) Pass) (sym (c .before .good-scan .ensures)) ∙ sym (c .first-rows .ensures)
 
-most-is : (c : tie.After-natural) → c .natural .result ≡ natural (st c .args .limit)
-most-is c = c .natural .ensures .0 ∙ ap natural (toZ-ofZ (st c .fits .limit))
+place : (c : tie.After-first-rows) → c .first-rows .result ≡ Pass → Placed (p c .read) (length (st c .args .log .now)) (p c .partition) (p c .offset) × (most c ≤ p c .read .term)
+place c h = let q = rows-placed (p c) _ _ (rows c ∙ h) in (q .0, within (most c) (p c .read) (q .1))
 
--- rows 1 and 2 passed
-abbrev num : tie.Else2 → tie.After-natural
-num c = c .before .before .before .before
-
-good : (c : tie.Else2) → (goodPartition (k (num c)) && (goodOffset (at (num c)) (v (num c)) && withinTerm (num c .natural .result) (v (num c)))) ≡ true
-good c = sym (c .before .before .before .good-scan .ensures) ∙ not-false _ (c .before .before .if1 .left)
-
-is-sound : (c : tie.Else2) → sound (v (num c)) (length (st (num c) .args .log .now)) ≡ true
-is-sound c = sym (c .before .is-sound .ensures) ∙ not-false _ (c .if2 .left)
-
-place : (c : tie.Else2) → Placed (v (num c)) (length (st (num c) .args .log .now)) (k (num c)) (at (num c))
-place c = placed _ _ (k (num c)) (at (num c)) (and-and (goodPartition (k (num c))) (goodOffset (at (num c)) (v (num c))) _ (good c) .0) (is-sound c)
-
-most-in : (c : tie.Else2) → num c .natural .result ≤ v (num c) .term
-most-in c = leb-true _ _ (and-true _ _ (and-and (goodPartition (k (num c))) (goodOffset (at (num c)) (v (num c))) _ (good c) .1) .0)
-
-read-active-requires : tie.Need-read-active-requires
-read-active-requires c κs = search needs
-
-word-requires : tie.Need-word-requires
-word-requires c κs = search needs
-
-word-requires-2 : tie.Need-word-requires-2
-word-requires-2 c κs = search needs
+place-requires : tie.Need-place-requires
+place-requires c κs = search needs
 
 natural-requires : tie.Need-natural-requires
 natural-requires c κs = search needs
@@ -72,42 +46,46 @@ natural-requires c κs = search needs
 good-scan-requires : tie.Need-good-scan-requires
 good-scan-requires c κs = search needs
 
+first-rows-requires : tie.Need-first-rows-requires
+first-rows-requires c κs = search needs
+
+enum-known-e : tie.Need-enum-known-e
+enum-known-e c = search needs
+
+enum-told : tie.Need-enum-told
+enum-told c = search needs
+
+mul-scan-frames : tie.Need-mul-scan-frames
+mul-scan-frames c =
+    let q = c .before .before .before in record { fits = omega (arith, place q (c .before .enum-told .given .1) .0 .inside, st q .good) }
+
+scan-frames-requires : tie.Need-scan-frames-requires
+scan-frames-requires c κs =
+    let f = place (c .before .before .before) (c .before .enum-told .given .1) in (f .0 .inside, (f .0 .term-high, (f .0 .below, f .1)))
+
 returns : tie.Need-returns
 returns c =
-    let q = c .before .before in
+    let q = c .before .before .before in
     let a = st q .args in
-    scan-argument (a .rec) (a .log .now) (a .partition) (a .offset) (v q) (k q) (at q) (q .before .before .before .read-active .ensures) (k-is q) (at-is q) (a .limit) (q .natural .result) (most-is q) (sym (c .before .good-scan .ensures) ∙ not-true _ (c .if1 .taken))
-
-is-sound-requires : tie.Need-is-sound-requires
-is-sound-requires c κs = search needs
+    scan-refused (a .rec) (a .log .now) (a .partition) (a .offset) (p q) (p-is q) (a .limit) (most q) (most-is q) (rows q ∙ c .before .e .given .1)
 
 returns-2 : tie.Need-returns-2
 returns-2 c =
     let q = c .before .before .before .before in
     let a = st q .args in
-    scan-record (a .rec) (a .log .now) (a .partition) (a .offset) (v q) (k q) (at q) (q .before .before .before .read-active .ensures) (k-is q) (at-is q) (a .limit) (q .natural .result) (most-is q) (sym (c .before .before .before .good-scan .ensures) ∙ not-false _ (c .before .before .if1 .left)) (sym (c .before .is-sound .ensures) ∙ not-true _ (c .if2 .taken))
-
-mul-scan-frames : tie.Need-mul-scan-frames
-mul-scan-frames c = record { fits = omega (arith, place c .inside, st (num c) .good) }
-
-scan-frames-requires : tie.Need-scan-frames-requires
-scan-frames-requires c κs = let p = place c in (p .inside, (p .term-high, (p .below, most-in c)))
-
-returns-3 : tie.Need-returns-3
-returns-3 c = c .scan-frames .ensures ∙ (let q = c .before .before .before .before .before in let a = st q .args in scan-goes (a .rec) (a .log .now) (a .partition) (a .offset) (v q) (k q) (at q) (q .before .before .before .read-active .ensures) (k-is q) (at-is q) (a .limit) (q .natural .result) (most-is q) (good (c .before)) (is-sound (c .before)))
+    c .scan-frames .ensures ∙ scan-goes (a .rec) (a .log .now) (a .partition) (a .offset) (p q) (p-is q) (a .limit) (most q) (most-is q) (rows q ∙ c .before .before .enum-told .given .1)
 
 pub scan-spec : {M : Type 1} → statement M
 scan-spec =
     tie.close
     (tie.spec
-    read-active-requires
-    word-requires
-    word-requires-2
+    place-requires
     natural-requires
     good-scan-requires
-    returns
-    is-sound-requires
-    returns-2
+    first-rows-requires
+    enum-known-e
+    enum-told
     mul-scan-frames
     scan-frames-requires
-    returns-3)
+    returns
+    returns-2)

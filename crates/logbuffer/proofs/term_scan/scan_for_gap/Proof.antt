@@ -1,125 +1,103 @@
--- Rows 1 and 2 are judged on the numbers without signs; then the loop scans.
+-- Rows 1 and 2 are judged at the place that is read; then the loop scans.
 use mathlib.Core.Path.{_≡_, sym, ap, _∙_}
-use mathlib.Core.Bool.{true, _&&_}
+use mathlib.Core.Bool.{Bool, _&&_}
 use Prim.Native.Nat.{ℕ, _%_, _≤_}
 use native.Mathlib.Omega.{arith}
-use borrow.Author.Tests.{not-true, not-false, leb-true, eqb-true}
+use borrow.Author.Tests.{eqb-true}
 use borrow.Author.Needs.{needs}
-use lib.ListN.{length}
 use lib.Dec.{eqb}
-use lib.IntN.{ℤ}
-use mir.Facts.{toZ-ofZ}
+use lib.ListN.{length}
 use mir.Syntax.{w32}
 use mir.Val.{toZ, ofZ}
-use Rattle.model.specs.declared.Reading.{Reading}
+use Rattle.model.specs.declared.Place.{Place}
+use Rattle.model.specs.declared.Verdict.the-variants.{Pass}
 use Rattle.model.specs.Bytes.{word}
-use Rattle.model.specs.LogBufferDescriptor.{sound, goodPartition, goodOffset, withinTerm}
-use Rattle.model.proofs.PlaceLaws.{Placed, placed}
-use Rattle.model.proofs.Both.{and-true}
-use Rattle.model.proofs.ReadLaws.{and-and}
+use Rattle.model.specs.LogBufferDescriptor.{sound, goodPartition, goodOffset, withinTerm, placeOf, firstRows}
 use Rattle.model.specs.TermScan.{gapOf}
-use Rattle.model.proofs.ScanRows.{gap-argument, gap-record, gap-goes}
+use Rattle.model.proofs.Both.{and-true}
+use Rattle.model.proofs.Handed.{handed1, handed2}
+use Rattle.model.proofs.PlaceLaws.{Placed, rows-placed, within}
+use Rattle.model.proofs.ScanRows.{gap-refused, gap-goes}
 use Rattle.logbuffer.proofs.Signed.{word-by}
 use Rattle.logbuffer.proofs.term_scan.scan_for_gap.Statement.{statement}
 use Rattle.logbuffer.proofs.term_scan.scan_for_gap.Tie as tie
 
--- the numbers as they are judged
-abbrev st : tie.After-word3 → tie.Start
+abbrev st : tie.After-first-rows → tie.Start
 st c = c .before .before .before .before .before
 
-abbrev v : tie.After-word3 → Reading
-v c = c .before .before .before .read-active .result
+abbrev p : tie.After-first-rows → Place
+p c = c .before .before .before .place .result
 
-abbrev k : tie.After-word3 → ℕ
-k c = c .before .before .word .result
+abbrev mark : tie.After-first-rows → ℕ
+mark c = c .before .before .word .result
 
-abbrev at : tie.After-word3 → ℕ
-at c = c .before .word2 .result
+p-is : (c : tie.After-first-rows) → p c ≡ placeOf (st c .args .rec) (st c .args .partition) (st c .args .offset)
+p-is c = c .before .before .before .place .ensures .0 ∙ handed2 (placeOf (st c .args .rec)) (st c .fits .partition) (st c .fits .offset)
 
-k-is : (c : tie.After-word3) → k c ≡ word (st c .args .partition)
-k-is c = word-by (st c .args .partition) (c .before .before .word .ensures .0) (st c .fits .partition)
+mark-is : (c : tie.After-first-rows) → mark c ≡ word (st c .args .high)
+mark-is c = word-by (st c .args .high) (c .before .before .word .ensures .0) (st c .fits .high)
 
-at-is : (c : tie.After-word3) → at c ≡ word (st c .args .offset)
-at-is c = word-by (st c .args .offset) (c .before .word2 .ensures .0) (st c .fits .offset)
+rows : (c : tie.After-first-rows)
+    → firstRows (goodPartition (p c .partition) && (goodOffset (p c .offset) (p c .read) && (eqb (mark c % 32) 0 && withinTerm (mark c) (p c .read)))) (sound (p c .read) (length (st c .args .log .now))) Pass ≡ c .first-rows .result
+rows c = ap (λ (g : Bool). firstRows g (sound (p c .read) (length (st c .args .log .now))) Pass) (sym (c .before .good-gap .ensures)) ∙ sym (c .first-rows .ensures)
 
--- rows 1 and 2 passed
-abbrev num : tie.Else2 → tie.After-word3
-num c = c .before .before .before .before
+place : (c : tie.After-first-rows) → c .first-rows .result ≡ Pass
+    → Placed (p c .read) (length (st c .args .log .now)) (p c .partition) (p c .offset) × ((mark c ≤ p c .read .term) × (mark c % 32 ≡ 0))
+place c h =
+    let q = rows-placed (p c) _ _ (rows c ∙ h) in
+    let m = and-true (eqb (mark c % 32) 0) _ (q .1) in
+    (q .0, (within (mark c) (p c .read) (m .1), eqb-true _ _ (m .0)))
 
-is-sound : (c : tie.Else2) → sound (v (num c)) (length (st (num c) .args .log .now)) ≡ true
-is-sound c = sym (c .before .is-sound .ensures) ∙ not-false _ (c .if2 .left)
-
-mark-is : (c : tie.After-word3) → c .word3 .result ≡ word (st c .args .high)
-mark-is c = word-by (st c .args .high) (c .word3 .ensures .0) (st c .fits .high)
-
-good : (c : tie.Else2) → (goodPartition (k (num c)) && (goodOffset (at (num c)) (v (num c)) && (eqb (num c .word3 .result % 32) 0 && withinTerm (num c .word3 .result) (v (num c))))) ≡ true
-good c = sym (c .before .before .before .good-gap .ensures) ∙ not-false _ (c .before .before .if1 .left)
-
-place : (c : tie.Else2) → Placed (v (num c)) (length (st (num c) .args .log .now)) (k (num c)) (at (num c))
-place c = placed _ _ (k (num c)) (at (num c)) (and-and (goodPartition (k (num c))) (goodOffset (at (num c)) (v (num c))) _ (good c) .0) (is-sound c)
-
-mark-in : (c : tie.Else2) → (num c .word3 .result ≤ v (num c) .term) × (num c .word3 .result % 32 ≡ 0)
-mark-in c =
-    let p = and-true (eqb (num c .word3 .result % 32) 0) _ (and-and (goodPartition (k (num c))) (goodOffset (at (num c)) (v (num c))) _ (good c) .1) in
-    (leb-true _ _ (and-true _ _ (p .1) .0), eqb-true _ _ (p .0))
-
-read-active-requires : tie.Need-read-active-requires
-read-active-requires c κs = search needs
+place-requires : tie.Need-place-requires
+place-requires c κs = search needs
 
 word-requires : tie.Need-word-requires
 word-requires c κs = search needs
 
-word-requires-2 : tie.Need-word-requires-2
-word-requires-2 c κs = search needs
-
-word-requires-3 : tie.Need-word-requires-3
-word-requires-3 c κs = search needs
-
 good-gap-requires : tie.Need-good-gap-requires
 good-gap-requires c κs = search needs
 
+first-rows-requires : tie.Need-first-rows-requires
+first-rows-requires c κs = search needs
+
+enum-known-e : tie.Need-enum-known-e
+enum-known-e c = search needs
+
+enum-told : tie.Need-enum-told
+enum-told c = search needs
+
+mul-gap-frames : tie.Need-mul-gap-frames
+mul-gap-frames c =
+    let q = c .before .before .before in record { fits = omega (arith, place q (c .before .enum-told .given .1) .0 .inside, st q .good) }
+
+gap-frames-requires : tie.Need-gap-frames-requires
+gap-frames-requires c κs =
+    let f = place (c .before .before .before) (c .before .enum-told .given .1) in (f .0 .inside, (f .0 .term-high, (f .1 .0, (f .1 .1, (f .0 .at-32, f .0 .below)))))
+
 returns : tie.Need-returns
 returns c =
-    let q = c .before .before in
+    let q = c .before .before .before in
     let a = st q .args in
-    gap-argument (a .rec) (a .log .now) (a .partition) (a .offset) (v q) (k q) (at q) (q .before .before .before .read-active .ensures) (k-is q) (at-is q) (a .«term-id») (a .high) (q .word3 .result) (mark-is q) (sym (c .before .good-gap .ensures) ∙ not-true _ (c .if1 .taken))
-
-is-sound-requires : tie.Need-is-sound-requires
-is-sound-requires c κs = search needs
+    gap-refused (a .rec) (a .log .now) (a .partition) (a .offset) (p q) (p-is q) (a .«term-id») (a .high) (mark q) (mark-is q) (rows q ∙ c .before .e .given .1)
 
 returns-2 : tie.Need-returns-2
 returns-2 c =
     let q = c .before .before .before .before in
     let a = st q .args in
-    gap-record (a .rec) (a .log .now) (a .partition) (a .offset) (v q) (k q) (at q) (q .before .before .before .read-active .ensures) (k-is q) (at-is q) (a .«term-id») (a .high) (q .word3 .result) (mark-is q) (sym (c .before .before .before .good-gap .ensures) ∙ not-false _ (c .before .before .if1 .left)) (sym (c .before .is-sound .ensures) ∙ not-true _ (c .if2 .taken))
-
-mul-gap-frames : tie.Need-mul-gap-frames
-mul-gap-frames c = record { fits = omega (arith, place c .inside, st (num c) .good) }
-
-gap-frames-requires : tie.Need-gap-frames-requires
-gap-frames-requires c κs =
-    let p = place c in
-    let m = mark-in c in
-    (p .inside, (p .term-high, (m .0, (m .1, (p .at-32, p .below)))))
-
-returns-3 : tie.Need-returns-3
-returns-3 c =
-    let q = c .before .before .before .before .before in
-    let a = st q .args in
-    c .gap-frames .ensures ∙ gap-goes (a .rec) (a .log .now) (a .partition) (a .offset) (v q) (k q) (at q) (q .before .before .before .read-active .ensures) (k-is q) (at-is q) (toZ w32 (ofZ w32 (a .«term-id»))) (a .high) (q .word3 .result) (mark-is q) (good (c .before)) (is-sound (c .before)) ∙ ap (λ (i : ℤ). gapOf (a .rec) (a .log .now) (a .partition) i (a .offset) (a .high)) (toZ-ofZ (st q .fits .«term-id»))
+    c .gap-frames .ensures ∙ gap-goes (a .rec) (a .log .now) (a .partition) (a .offset) (p q) (p-is q) (toZ w32 (ofZ w32 (a .«term-id»))) (a .high) (mark q) (mark-is q) (rows q ∙ c .before .before .enum-told .given .1)
+    ∙ handed1 (λ i. gapOf (a .rec) (a .log .now) (a .partition) i (a .offset) (a .high)) (st q .fits .«term-id»)
 
 pub scan-for-gap-spec : {M : Type 1} → statement M
 scan-for-gap-spec =
     tie.close
     (tie.spec
-    read-active-requires
+    place-requires
     word-requires
-    word-requires-2
-    word-requires-3
     good-gap-requires
-    returns
-    is-sound-requires
-    returns-2
+    first-rows-requires
+    enum-known-e
+    enum-told
     mul-gap-frames
     gap-frames-requires
-    returns-3)
+    returns
+    returns-2)
