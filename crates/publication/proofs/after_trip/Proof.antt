@@ -19,9 +19,6 @@ add-if1 c = omega (arith, begin-most _ (c .pre .0))
 add-if1-2 : tie.Need-add-if1-2
 add-if1-2 c = omega (arith, begin-most _ (c .pre .0))
 
-mul-if1-2 : tie.Need-mul-if1-2
-mul-if1-2 c = search needs
-
 returns : tie.Need-returns
 returns c = let v = c .before .args .v in (trip-7 v _ _ _ (c .if1 .taken), trip-7 v _ _ _ (c .if1 .taken))
 
@@ -30,9 +27,6 @@ returns-2 c = let v = c .before .before .args .v in let h = c .before .if1 .left
 
 returns-3 : tie.Need-returns-3
 returns-3 c = let v = c .before .before .before .args .v in let h = c .before .before .if1 .left in (trip-12-count v _ _ _ h (c .if3 .taken), trip-12-count v _ _ _ h (c .if3 .taken))
-
-rotate-log-requires : tie.Need-rotate-log-requires
-rotate-log-requires c κs = search needs
 
 returns-4 : tie.Need-returns-4
 returns-4 c = let s = c .before .before .before .before .before in
@@ -48,9 +42,9 @@ after-trip-spec =
     mul-if1
     add-if1
     add-if1-2
-    mul-if1-2
+    (search needs)
     returns
     returns-2
     returns-3
-    rotate-log-requires
+    (search needs)
     returns-4)

@@ -7,18 +7,6 @@ use Rattle.publication.proofs.Ways.{append-by}
 use Rattle.publication.proofs.append_message.Statement.{statement}
 use Rattle.publication.proofs.append_message.Tie as tie
 
-append-way-requires : tie.Need-append-way-requires
-append-way-requires c κs = search needs
-
-moved-requires : tie.Need-moved-requires
-moved-requires c κs = search needs
-
-appended-requires : tie.Need-appended-requires
-appended-requires c κs = search needs
-
-same-length : tie.Need-same-length
-same-length c = search needs
-
 returns : tie.Need-returns
 returns c = let s = c .before .before .before .before .before .before .before .before in
     let a = s .args in
@@ -29,4 +17,4 @@ returns c = let s = c .before .before .before .before .before .before .before .b
 
 pub append-message-spec : {M : Type 1} → statement M
 append-message-spec =
-    tie.close (tie.spec append-way-requires moved-requires appended-requires same-length returns)
+    tie.close (tie.spec (search needs) (search needs) (search needs) (search needs) returns)

@@ -83,23 +83,11 @@ module _ (c : tie.After-claiming) where
       let a = start .args in
       omega (arith, claim-end (a .rec) (a .log .now) (a .v) k· (word (a .length)) (a .v .id) (c .claiming .result) (part start) (start .pre .0) refl (does .0) end x h, begin-most (a .v) (bounds _ _ (so start)), so start)
 
-own-term-id-requires : tie.Need-own-term-id-requires
-own-term-id-requires c κs = search needs
-
-word-requires : tie.Need-word-requires
-word-requires c κs = search needs
-
 claiming-requires : tie.Need-claiming-requires
 claiming-requires c κs = let s = c .before .before .before .before in (
   s .pre .0 ∙ ap (readingOf (s .args .rec)) (sym (part s)),
   (omega arith, (subst (λ (n : ℕ). s .args .v .offset + space n ≤ 2147483647) (sym (asked c)) (pass s .room), given-is (c .before .before))),
 )
-
-enum-known-answer : tie.Need-enum-known-answer
-enum-known-answer c = search needs
-
-enum-known-answer-2 : tie.Need-enum-known-answer-2
-enum-known-answer-2 c = search needs
 
 after-trip-requires : tie.Need-after-trip-requires
 after-trip-requires c κs =
@@ -114,9 +102,6 @@ after-trip-requires c κs =
           (toZ w32 (ofZ w32 (a .rec .«active_term_count»))) (toZ w32 (ofZ w32 (d .before .before .before .own-term-id .result))) (toZ-ofZ active-fits) (given-is (d .before .before .before)) three e,
     )
 
-same-length : tie.Need-same-length
-same-length c = search needs
-
 returns : tie.Need-returns
 returns c =
     let d = c .before .before .before .before .before .before .before .before in
@@ -126,9 +111,6 @@ returns c =
           ∙ sym (ap (afterBy (a .v) (d .claiming .result .next)) e) ∙ law d .0,
       law d .1,
     )
-
-same-length-2 : tie.Need-same-length-2
-same-length-2 c = search needs
 
 returns-2 : tie.Need-returns-2
 returns-2 c =
@@ -145,9 +127,6 @@ add-t23 c = omega (arith, ends (c .before .before .before .before .before .befor
 cast-t24 : tie.Need-cast-t24
 cast-t24 c = record { sfits = ends (c .before .before .before .before .before .before) _ _ (c .before .answer .given .1) }
 
-same-length-3 : tie.Need-same-length-3
-same-length-3 c = search needs
-
 returns-3 : tie.Need-returns-3
 returns-3 c =
     let d = c .before .before .before .before .before .before in
@@ -161,18 +140,18 @@ pub claim-on-spec : {M : Type 1} → statement M
 claim-on-spec =
     tie.close
     (tie.spec
-    own-term-id-requires
-    word-requires
+    (search needs)
+    (search needs)
     claiming-requires
-    enum-known-answer
-    enum-known-answer-2
+    (search needs)
+    (search needs)
     after-trip-requires
-    same-length
+    (search needs)
     returns
-    same-length-2
+    (search needs)
     returns-2
     mul-t20
     add-t23
     cast-t24
-    same-length-3
+    (search needs)
     returns-3)

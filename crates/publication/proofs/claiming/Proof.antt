@@ -16,38 +16,11 @@ use Rattle.publication.proofs.claiming.Tie as tie
 short : (s : tie.Start) → s .args .n ≤ 2147483647
 short s = let h : s .args .v .offset + space (s .args .n) ≤ 2147483647 = s .pre .1 .1 .0 in omega arith
 
-claim-way-requires : tie.Need-claim-way-requires
-claim-way-requires c κs = search needs
-
-moved-requires : tie.Need-moved-requires
-moved-requires c κs = search needs
-
-enum-known-course : tie.Need-enum-known-course
-enum-known-course c = search needs
-
-enum-told : tie.Need-enum-told
-enum-told c = search needs
-
-enum-told-2 : tie.Need-enum-told-2
-enum-told-2 c = search needs
-
-enum-told-3 : tie.Need-enum-told-3
-enum-told-3 c = search needs
-
-cast-t19 : tie.Need-cast-t19
-cast-t19 c = search needs
-
 cast-t20 : tie.Need-cast-t20
 cast-t20 c = let s = c .before .before .before .before .before .before .before .before .before in let h : s .args .v .offset + space (s .args .n) ≤ 2147483647 = s .pre .1 .1 .0 in record { sfits = omega arith }
 
-add-t21 : tie.Need-add-t21
-add-t21 c = search needs
-
 cast-t22 : tie.Need-cast-t22
 cast-t22 c = let s = c .before .before .before .before .before .before .before .before .before in let h : s .args .v .offset + space (s .args .n) ≤ 2147483647 = s .pre .1 .1 .0 in record { sfits = omega arith }
-
-same-length : tie.Need-same-length
-same-length c = search needs
 
 returns : tie.Need-returns
 returns c = let s = c .before .before .before .before .before .before .before .before .before in
@@ -56,9 +29,6 @@ returns c = let s = c .before .before .before .before .before .before .before .b
     claiming-by (a .rec) (c .before .before .before .moved .result) (a .log .now) (d .last .1 .0) (a .v) (a .k) (a .n) (d .result) (s .pre .0) (s .pre .1 .0) (short s) (d .ensures .0) (d .ensures .1) (c .before .before .before .moved .ensures)
     (claimRecord (a .v) (a .k) (a .n)) _ (c .before .course .given .1) refl
 
-same-length-2 : tie.Need-same-length-2
-same-length-2 c = search needs
-
 returns-2 : tie.Need-returns-2
 returns-2 c = let s = c .before .before .before .before .before .before .before .before in
     let a = s .args in
@@ -66,18 +36,12 @@ returns-2 c = let s = c .before .before .before .before .before .before .before 
     claiming-by (a .rec) (c .before .before .moved .result) (a .log .now) (d .last .1 .0) (a .v) (a .k) (a .n) (d .result) (s .pre .0) (s .pre .1 .0) (short s) (d .ensures .0) (d .ensures .1) (c .before .before .moved .ensures)
     (claimRecord (a .v) (a .k) (a .n)) _ (c .enum-told .given .1) refl
 
-same-length-3 : tie.Need-same-length-3
-same-length-3 c = search needs
-
 returns-3 : tie.Need-returns-3
 returns-3 c = let s = c .before .before .before .before .before .before .before .before in
     let a = s .args in
     let d = c .before .before .before .before .before .claim-way in
     claiming-by (a .rec) (c .before .before .moved .result) (a .log .now) (d .last .1 .0) (a .v) (a .k) (a .n) (d .result) (s .pre .0) (s .pre .1 .0) (short s) (d .ensures .0) (d .ensures .1) (c .before .before .moved .ensures)
     (claimRecord (a .v) (a .k) (a .n)) _ (c .enum-told2 .given .1) refl
-
-same-length-4 : tie.Need-same-length-4
-same-length-4 c = search needs
 
 returns-4 : tie.Need-returns-4
 returns-4 c = let s = c .before .before .before .before .before .before .before .before .before in
@@ -93,21 +57,21 @@ pub claiming-spec : {M : Type 1} → statement M
 claiming-spec =
     tie.close
     (tie.spec
-    claim-way-requires
-    moved-requires
-    enum-known-course
-    enum-told
-    enum-told-2
-    enum-told-3
-    cast-t19
+    (search needs)
+    (search needs)
+    (search needs)
+    (search needs)
+    (search needs)
+    (search needs)
+    (search needs)
     cast-t20
-    add-t21
+    (search needs)
     cast-t22
-    same-length
+    (search needs)
     returns
-    same-length-2
+    (search needs)
     returns-2
-    same-length-3
+    (search needs)
     returns-3
-    same-length-4
+    (search needs)
     returns-4)

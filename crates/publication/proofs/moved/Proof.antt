@@ -8,37 +8,13 @@ use Rattle.publication.proofs.Ways.{tail-moves}
 use Rattle.publication.proofs.moved.Statement.{statement}
 use Rattle.publication.proofs.moved.Tie as tie
 
-enum-told : tie.Need-enum-told
-enum-told c = search needs
-
-returns : tie.Need-returns
-returns c = search needs
-
-array-set-from-tails : tie.Need-array-set-from-tails
-array-set-from-tails c = search needs
-
-with-tails-requires : tie.Need-with-tails-requires
-with-tails-requires c κs = search needs
-
 returns-2 : tie.Need-returns-2
 returns-2 c = let a = c .before .before .before .before .before .args in
     c .with-tails .ensures ∙ tail-moves (a .rec) (a .k) 0 (a .way) (a .way .course) _ (c .before .before .before .before .match .keys2) (omega arith) (toZ-ofZ {w = w64} {z = a .way .tail} (search needs))
 
-array-set-from-tails-2 : tie.Need-array-set-from-tails-2
-array-set-from-tails-2 c = search needs
-
-with-tails-requires-2 : tie.Need-with-tails-requires-2
-with-tails-requires-2 c κs = search needs
-
 returns-3 : tie.Need-returns-3
 returns-3 c = let a = c .before .before .before .before .before .before .args in
     c .with-tails2 .ensures ∙ tail-moves (a .rec) (a .k) 1 (a .way) (a .way .course) _ (c .before .before .before .before .before .match .keys2) (omega arith) (toZ-ofZ {w = w64} {z = a .way .tail} (search needs))
-
-array-set-from-tails-3 : tie.Need-array-set-from-tails-3
-array-set-from-tails-3 c = search needs
-
-with-tails-requires-3 : tie.Need-with-tails-requires-3
-with-tails-requires-3 c κs = search needs
 
 returns-4 : tie.Need-returns-4
 returns-4 c = let s = c .before .before .before .before .before .before in let a = s .args in
@@ -49,14 +25,14 @@ pub moved-spec : {M : Type 1} → statement M
 moved-spec =
     tie.close
     (tie.spec
-    enum-told
-    returns
-    array-set-from-tails
-    with-tails-requires
+    (search needs)
+    (search needs)
+    (search needs)
+    (search needs)
     returns-2
-    array-set-from-tails-2
-    with-tails-requires-2
+    (search needs)
+    (search needs)
     returns-3
-    array-set-from-tails-3
-    with-tails-requires-3
+    (search needs)
+    (search needs)
     returns-4)

@@ -12,17 +12,8 @@ use borrow.Author.Needs.{needs}
 use Rattle.publication.proofs.offer.Statement.{statement}
 use Rattle.publication.proofs.offer.Tie as tie
 
-read-active-requires : tie.Need-read-active-requires
-read-active-requires c κs = search needs
-
 before-offer-requires : tie.Need-before-offer-requires
 before-offer-requires c κs = subst (λ (x : Reading). x .initial < 4294967296) (sym (c .read-active .ensures)) (initial-small _ _)
-
-enum-known-e : tie.Need-enum-known-e
-enum-known-e c = search needs
-
-enum-told : tie.Need-enum-told
-enum-told c = search needs
 
 offer-on-requires : tie.Need-offer-on-requires
 offer-on-requires c κs = (c .before .before .before .before .read-active .ensures, sym (c .before .before .before .before-offer .ensures) ∙ c .before .enum-told .given .1)
@@ -32,9 +23,6 @@ returns c = let a = c .before .before .before .before .before .before .before .a
     refused-is (a .rec) (a .log .now) (a .message .now) (a .reserved-value) _
     (ap (λ (x : Reading). beforeAppend x (length (a .log .now)) (length (a .message .now)) Pass) (sym (c .before .before .before .before .read-active .ensures)) ∙ sym (c .before .before .before .before-offer .ensures) ∙ c .before .e .given .1)
 
-same-length : tie.Need-same-length
-same-length c = search needs
-
 returns-2 : tie.Need-returns-2
 returns-2 c = let s = c .before .before .before .before .before .before .before .before .before .before in
     (c .before .before .offer-on .ensures .0, c .before .before .offer-on .ensures .1 ∙ ap (offerBytes (s .args .rec) (s .args .log .now) (s .args .message .now)) (toZ-ofZ (s .fits .reserved-value)))
@@ -43,11 +31,11 @@ pub offer-spec : {M : Type 1} → statement M
 offer-spec =
     tie.close
     (tie.spec
-    read-active-requires
+    (search needs)
     before-offer-requires
-    enum-known-e
-    enum-told
+    (search needs)
+    (search needs)
     offer-on-requires
     returns
-    same-length
+    (search needs)
     returns-2)

@@ -72,15 +72,6 @@ sub-append-message c = omega (arith, so (c .before .before .before) .mtu-low)
 append-message-requires : tie.Need-append-message-requires
 append-message-requires c κs = let s = c .before .before .before in (s .pre .0 ∙ ap (readingOf (s .args .rec)) (sym (part s)), (omega arith, (omega (arith, so s .mtu-low), (omega (arith, so s .mtu-high), (omega (arith, so s .mtu-32, so s .mtu-low), pass s .short)))))
 
-enum-known-answer : tie.Need-enum-known-answer
-enum-known-answer c = search needs
-
-enum-known-answer-2 : tie.Need-enum-known-answer-2
-enum-known-answer-2 c = search needs
-
-own-term-id-requires : tie.Need-own-term-id-requires
-own-term-id-requires c κs = search needs
-
 -- the term id that is handed over is that of the tail
 given-is : (c : tie.After-own-term-id) → (let s = c .before .before .before .before .before .before .before .before .before .before in biased (word (toZ w32 (ofZ w32 (c .own-term-id .result)))) ≡ s .args .v .id)
 given-is c = let s = c .before .before .before .before .before .before .before .before .before .before in
@@ -100,9 +91,6 @@ after-trip-requires c κs =
           (toZ w32 (ofZ w32 (a .rec .«active_term_count»))) (toZ w32 (ofZ w32 (c .before .own-term-id .result))) (toZ-ofZ active-fits) (given-is (c .before)) three (omega (arith, so s .mtu-32, so s .mtu-low)) e,
     )
 
-same-length : tie.Need-same-length
-same-length c = search needs
-
 returns : tie.Need-returns
 returns c =
     let d = c .before .before .before .before .before .before .before .before .before in
@@ -112,9 +100,6 @@ returns c =
           ∙ sym (ap (afterBy (a .v) (d .append-message .result .next)) e) ∙ law d .0,
       law d .1,
     )
-
-same-length-2 : tie.Need-same-length-2
-same-length-2 c = search needs
 
 returns-2 : tie.Need-returns-2
 returns-2 c =
@@ -131,9 +116,6 @@ add-t21 c = omega (arith, ends (c .before .before .before .before .before .befor
 cast-t25 : tie.Need-cast-t25
 cast-t25 c = record { sfits = ends (c .before .before .before .before .before .before) _ (c .before .answer .given .1) }
 
-same-length-3 : tie.Need-same-length-3
-same-length-3 c = search needs
-
 returns-3 : tie.Need-returns-3
 returns-3 c =
     let d = c .before .before .before .before .before .before in
@@ -149,16 +131,16 @@ offer-on-spec =
     (tie.spec
     sub-append-message
     append-message-requires
-    enum-known-answer
-    enum-known-answer-2
-    own-term-id-requires
+    (search needs)
+    (search needs)
+    (search needs)
     after-trip-requires
-    same-length
+    (search needs)
     returns
-    same-length-2
+    (search needs)
     returns-2
     mul-t20
     add-t21
     cast-t25
-    same-length-3
+    (search needs)
     returns-3)

@@ -11,15 +11,6 @@ use borrow.Author.Needs.{needs}
 use Rattle.publication.proofs.own_term_id.Statement.{statement}
 use Rattle.publication.proofs.own_term_id.Tie as tie
 
-mul-term-id : tie.Need-mul-term-id
-mul-term-id c = search needs
-
-element-copy-out-term-id : tie.Need-element-copy-out-term-id
-element-copy-out-term-id c = search needs
-
-term-id-requires : tie.Need-term-id-requires
-term-id-requires c κs = search needs
-
 returns : tie.Need-returns
 unfolding readingOf
 returns c = let s = c .before .before in
@@ -28,4 +19,4 @@ returns c = let s = c .before .before in
 
 pub own-term-id-spec : {M : Type 1} → statement M
 own-term-id-spec =
-    tie.close (tie.spec mul-term-id element-copy-out-term-id term-id-requires returns)
+    tie.close (tie.spec (search needs) (search needs) (search needs) returns)

@@ -21,20 +21,11 @@ returns c = let s = c .before .before in
     let below = negative (s .args .length) (s .fits .length) (c .if1 .taken) in
     claim-refused (s .args .rec) (s .args .log .now) (s .args .length) IllegalArgument (sym (claim-1 _ _ _ (omega arith)))
 
-read-active-requires : tie.Need-read-active-requires
-read-active-requires c κs = search needs
-
 cast-before-claim : tie.Need-cast-before-claim
 cast-before-claim c = let s = c .before .before .before in length-casts (s .args .length) (s .fits .length) (c .before .if1 .left)
 
 before-claim-requires : tie.Need-before-claim-requires
 before-claim-requires c κs = subst (λ (x : Reading). x .initial < 4294967296) (sym (c .read-active .ensures)) (initial-small _ _)
-
-enum-known-e : tie.Need-enum-known-e
-enum-known-e c = search needs
-
-enum-told : tie.Need-enum-told
-enum-told c = search needs
 
 claim-on-requires : tie.Need-claim-on-requires
 claim-on-requires c κs = let s = c .before .before .before .before .before .before .before in (
@@ -49,9 +40,6 @@ returns-2 c = let s = c .before .before .before .before .before .before .before 
     (ap₂ (λ (x : Reading) (n : ℕ). claimVerdict x (length (s .args .log .now)) n) (sym (c .before .before .before .before .read-active .ensures)) (sym (length-bits (s .args .length) (s .fits .length) (c .before .before .before .before .before .if1 .left)))
     ∙ sym (c .before .before .before .before-claim .ensures) ∙ c .before .e .given .1)
 
-same-length : tie.Need-same-length
-same-length c = search needs
-
 returns-3 : tie.Need-returns-3
 returns-3 c = let s = c .before .before .before .before .before .before .before .before .before .before in
     let e = toZ-ofZ (s .fits .length) in
@@ -62,12 +50,12 @@ try-claim-spec =
     tie.close
     (tie.spec
     returns
-    read-active-requires
+    (search needs)
     cast-before-claim
     before-claim-requires
-    enum-known-e
-    enum-told
+    (search needs)
+    (search needs)
     claim-on-requires
     returns-2
-    same-length
+    (search needs)
     returns-3)

@@ -22,12 +22,6 @@ Inv-loop rec log buffer₀ session-id replay₀ messages₀ bytes₀ most buffer
 abbrev μ-loop : tie.MeasureT-loop
 μ-loop rec log buffer₀ session-id replay₀ messages₀ bytes₀ most buffer replay messages bytes = most - messages
 
-new-requires : tie.Need-new-requires Inv-loop μ-loop
-new-requires c κs = search needs
-
-word-requires : tie.Need-word-requires Inv-loop μ-loop
-word-requires c κs = search needs
-
 mul-most : tie.Need-mul-most Inv-loop μ-loop
 mul-most c = record { fits = omega (arith, c .word .ensures .1) }
 
@@ -49,18 +43,6 @@ loop-holds c =
       ),
     )
 
-next-requires : tie.Need-next-requires Inv-loop μ-loop
-next-requires c κs = search needs
-
-gives-requires : tie.Need-gives-requires Inv-loop μ-loop
-gives-requires c κs = search needs
-
-count-of-requires : tie.Need-count-of-requires Inv-loop μ-loop
-count-of-requires c κs = search needs
-
-same-length : tie.Need-same-length Inv-loop μ-loop
-same-length c = search needs
-
 returns : tie.Need-returns Inv-loop μ-loop
 returns c =
     let a = c .before .before .before .before .before .before .before .before .before .before .before .before .before .before .before .args in
@@ -70,18 +52,6 @@ returns c =
     let t = count-stops (a .rec) (a .log .now) (stateOf (l .replay) (l .buffer)) (l .messages) (l .bytes) ((3 * c .before .before .before .before .before .before .before .before .before .before .word .result + 1) - l .messages) (omega arith) (nextReplyOf (y .result) w) (y .ensures) (sym (c .before .before .gives .ensures) ∙ not-true _ (c .before .if1 .taken))
     ∙ l .inv .1 .1 .1 ∙ ap (λ (z : ℤ). countOf (a .rec) (a .log .now) z (a .buffer .now)) (toZ-ofZ (c .before .before .before .before .before .before .before .before .before .before .before .before .before .before .before .fits .session-id)) in
     (c .count-of .ensures ∙ ap (λ (x : Tally). x .answer) t, ap (λ (x : Tally). x .buffer) t)
-
-length-of-requires : tie.Need-length-of-requires Inv-loop μ-loop
-length-of-requires c κs = search needs
-
-added-requires : tie.Need-added-requires Inv-loop μ-loop
-added-requires c κs = search needs
-
-add-messages : tie.Need-add-messages Inv-loop μ-loop
-add-messages c = search needs
-
-loop-less : tie.Need-loop-less Inv-loop μ-loop
-loop-less c = search needs
 
 loop-again : tie.Need-loop-again Inv-loop μ-loop
 loop-again c =
@@ -93,9 +63,6 @@ loop-again c =
     let m : (3 * c .before .before .before .before .before .before .before .before .before .before .before .word .result + 1) - (l .messages + 1) ≡ (3 * c .before .before .before .before .before .before .before .before .before .before .before .word .result + 1) - l .messages - 1 = omega arith in
     let d = c .added .ensures ∙ ap (addedTo (l .bytes)) (c .before .length-of .ensures) in
     (search needs, (omega arith, (l .inv .1 .1 .0, ap₂ (λ (i j : ℕ). countFrom i (a .rec) (a .log .now) (stateOf (y .result .next) w) (l .messages + 1) j) m d ∙ g ∙ l .inv .1 .1 .1)))
-
-same-length-2 : tie.Need-same-length-2 Inv-loop μ-loop
-same-length-2 c = search needs
 
 returns-2 : tie.Need-returns-2 Inv-loop μ-loop
 returns-2 c =
@@ -111,20 +78,20 @@ count-spec =
     (tie.spec
     Inv-loop
     μ-loop
-    new-requires
-    word-requires
+    (search needs)
+    (search needs)
     mul-most
     add-most
     loop-holds
-    next-requires
-    gives-requires
-    count-of-requires
-    same-length
+    (search needs)
+    (search needs)
+    (search needs)
+    (search needs)
     returns
-    length-of-requires
-    added-requires
-    add-messages
-    loop-less
+    (search needs)
+    (search needs)
+    (search needs)
+    (search needs)
     loop-again
-    same-length-2
+    (search needs)
     returns-2)

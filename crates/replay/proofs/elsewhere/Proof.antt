@@ -5,30 +5,6 @@ use borrow.Author.Needs.{needs}
 use Rattle.replay.proofs.elsewhere.Statement.{statement}
 use Rattle.replay.proofs.elsewhere.Tie as tie
 
-enum-told : tie.Need-enum-told
-enum-told c = search needs
-
-enum-told-2 : tie.Need-enum-told-2
-enum-told-2 c = search needs
-
-stopped-requires : tie.Need-stopped-requires
-stopped-requires c κs = search needs
-
-enum-known-answer : tie.Need-enum-known-answer
-enum-known-answer c = search needs
-
-stopped-requires-2 : tie.Need-stopped-requires-2
-stopped-requires-2 c κs = search needs
-
-enum-known-answer-2 : tie.Need-enum-known-answer-2
-enum-known-answer-2 c = search needs
-
-stopped-requires-3 : tie.Need-stopped-requires-3
-stopped-requires-3 c κs = search needs
-
-returns : tie.Need-returns
-returns c = search needs
-
 returns-2 : tie.Need-returns-2
 returns-2 c =
     let e = sym (c .before .enum-told2 .given .1) in
@@ -51,14 +27,14 @@ pub elsewhere-spec : {M : Type 1} → statement M
 elsewhere-spec =
     tie.close
     (tie.spec
-    enum-told
-    enum-told-2
-    stopped-requires
-    enum-known-answer
-    stopped-requires-2
-    enum-known-answer-2
-    stopped-requires-3
-    returns
+    (search needs)
+    (search needs)
+    (search needs)
+    (search needs)
+    (search needs)
+    (search needs)
+    (search needs)
+    (search needs)
     returns-2
     returns-3
     returns-4)

@@ -8,9 +8,6 @@ use borrow.Author.Needs.{needs}
 use Rattle.replay.proofs.frame_offset.Statement.{statement}
 use Rattle.replay.proofs.frame_offset.Tie as tie
 
-natural-requires : tie.Need-natural-requires
-natural-requires c κs = search needs
-
 returns : tie.Need-returns
 returns c =
     let e = c .before .natural .ensures .0 ∙ ap natural (toZ-ofZ (c .before .before .fits .entry)) in (omega (arith, e), omega arith)
@@ -20,4 +17,4 @@ returns-2 c =
     let e = c .before .natural .ensures .0 ∙ ap natural (toZ-ofZ (c .before .before .fits .entry)) in (ap (λ (x : ℕ). x - 32) e, omega (arith, c .before .natural .ensures .1))
 
 pub frame-offset-spec : {M : Type 1} → statement M
-frame-offset-spec = tie.close (tie.spec natural-requires returns returns-2)
+frame-offset-spec = tie.close (tie.spec (search needs) returns returns-2)

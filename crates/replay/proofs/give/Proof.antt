@@ -63,30 +63,6 @@ elsewhere-is base s (Fragment at n) h = absurd (miss (0 ∷ 2 ∷ 3 ∷ []) 1 tt
 elsewhere-is base s (Message at n) h = refl
 elsewhere-is base s (Refused e) h = refl
 
-read-active-requires : tie.Need-read-active-requires
-read-active-requires c κs = search needs
-
-cast-on-fragment : tie.Need-cast-on-fragment
-cast-on-fragment c = search needs
-
-frame-offset-requires : tie.Need-frame-offset-requires
-frame-offset-requires c κs = search needs
-
-cast-on-fragment-2 : tie.Need-cast-on-fragment-2
-cast-on-fragment-2 c = search needs
-
-on-fragment-requires : tie.Need-on-fragment-requires
-on-fragment-requires c κs = search needs
-
-enum-known-answer : tie.Need-enum-known-answer
-enum-known-answer c = search needs
-
-elsewhere-requires : tie.Need-elsewhere-requires
-elsewhere-requires c κs = search needs
-
-same-length : tie.Need-same-length
-same-length c = search needs
-
 returns : tie.Need-returns
 returns c =
     let a = c .before .before .before .before .before .on-fragment .result .answer in
@@ -101,9 +77,6 @@ add-t20 : tie.Need-add-t20
 add-t20 c =
     record { fits = omega (arith, inside (c .before .before .before .before .before .before .before) (c .before .before .answer .given .0 .0) (c .before .before .answer .given .0 .1 .0) (c .before .before .answer .given .1), st (c .before .before .before .before .before .before .before) .good) }
 
-same-length-2 : tie.Need-same-length-2
-same-length-2 c = search needs
-
 returns-2 : tie.Need-returns-2
 returns-2 c =
     is (c .before .before .before .before .before .before .before) (Fragment (c .before .before .answer .given .0 .0) (c .before .before .answer .given .0 .1 .0)) (c .before .before .answer .given .1)
@@ -112,16 +85,16 @@ pub give-spec : {M : Type 1} → statement M
 give-spec =
     tie.close
     (tie.spec
-    read-active-requires
-    cast-on-fragment
-    frame-offset-requires
-    cast-on-fragment-2
-    on-fragment-requires
-    enum-known-answer
-    elsewhere-requires
-    same-length
+    (search needs)
+    (search needs)
+    (search needs)
+    (search needs)
+    (search needs)
+    (search needs)
+    (search needs)
+    (search needs)
     returns
     mul-t18
     add-t20
-    same-length-2
+    (search needs)
     returns-2)

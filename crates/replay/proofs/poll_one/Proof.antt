@@ -9,19 +9,10 @@ use borrow.Author.Needs.{needs}
 use Rattle.replay.proofs.poll_one.Statement.{statement}
 use Rattle.replay.proofs.poll_one.Tie as tie
 
-slice-aggregate-poll : tie.Need-slice-aggregate-poll
-slice-aggregate-poll c = search needs
-
-poll-requires : tie.Need-poll-requires
-poll-requires c κs = search needs
-
-array-copy-out-t10 : tie.Need-array-copy-out-t10
-array-copy-out-t10 c = search needs
-
 returns : tie.Need-returns
 returns c =
     let q = c .before .before .poll in
     (q .ensures .0, toZ-ofZ {w = w32} {z = getD (q .last .1 .1 .1 .0) 0 (pos 0)} (search needs) ∙ ap (λ (s : List ℤ). getD s 0 (pos 0)) (q .ensures .1))
 
 pub poll-one-spec : {M : Type 1} → statement M
-poll-one-spec = tie.close (tie.spec slice-aggregate-poll poll-requires array-copy-out-t10 returns)
+poll-one-spec = tie.close (tie.spec (search needs) (search needs) (search needs) returns)

@@ -47,27 +47,6 @@ answered c x e = ap (turnSaid (st c .args .rec) (log c) (S c)) (sym e ∙ ap (λ
 next-is : (c : tie.After-poll-one) → imageState (c .poll-one .result .polled .next) ≡ pollOne (st c .args .rec) (log c) (S c .image) .next
 next-is c = ap (λ (y : PollReply). imageState (y .next)) (polled c)
 
-read-active-requires : tie.Need-read-active-requires
-read-active-requires c κs = search needs
-
-long-requires : tie.Need-long-requires
-long-requires c κs = search needs
-
-poll-one-requires : tie.Need-poll-one-requires
-poll-one-requires c κs = search needs
-
-enum-known-answer : tie.Need-enum-known-answer
-enum-known-answer c = search needs
-
-enum-told : tie.Need-enum-told
-enum-told c = search needs
-
-refusal-requires : tie.Need-refusal-requires
-refusal-requires c κs = search needs
-
-stopped-requires : tie.Need-stopped-requires
-stopped-requires c κs = search needs
-
 returns : tie.Need-returns
 returns c =
     let told = c .before .before .enum-told .given .1 in
@@ -75,22 +54,10 @@ returns c =
     ∙ ap (stops (S (c .before .before .before .before .before .before))) (c .before .refusal .ensures ∙ ap refusalBy told)
     ∙ answered (c .before .before .before .before .before .before) (Refused (c .before .before .enum-told .given .0 .0)) told
 
-stopped-requires-2 : tie.Need-stopped-requires-2
-stopped-requires-2 c κs = search needs
-
 returns-2 : tie.Need-returns-2
 returns-2 c =
     turned-as (c .stopped2 .result) false _ _ (st (c .before .before .before .before .before .before .before) .args .buffer .now) (c .stopped2 .ensures)
     ∙ turn-end (st (c .before .before .before .before .before .before .before) .args .rec) (log (c .before .before .before .before .before .before .before)) (S (c .before .before .before .before .before .before .before)) (c .before .before .before .answer .given .0 .0) (c .before .before .before .answer .given .0 .1 .0) (omega (arith, term-is (c .before .before .before .before .before .before .before), p-is (c .before .before .before .before .before .before .before), c .before .if1)) ∙ answered (c .before .before .before .before .before .before .before) (Fragments (c .before .before .before .answer .given .0 .0) (c .before .before .before .answer .given .0 .1 .0)) (c .before .before .before .answer .given .1)
-
-div-give : tie.Need-div-give
-div-give c = search needs
-
-give-requires : tie.Need-give-requires
-give-requires c κs = search needs
-
-same-length : tie.Need-same-length
-same-length c = search needs
 
 returns-3 : tie.Need-returns-3
 returns-3 c =
@@ -99,12 +66,6 @@ returns-3 c =
     (ap₂ (λ (x y : ℕ). x / y % 3) (p-is (c .before .before .before .before .before .before .before .before .before .before .before .before)) (term-is (c .before .before .before .before .before .before .before .before .before .before .before .before))) (toZ-ofZ {w = w32} {z = c .before .before .before .before .before .before .before .before .before .before .before .before .poll-one .result .entry} (search needs) ∙ c .before .before .before .before .before .before .before .before .before .before .before .before .poll-one .ensures .1)
     ∙ turn-fragment (st (c .before .before .before .before .before .before .before .before .before .before .before .before) .args .rec) (log (c .before .before .before .before .before .before .before .before .before .before .before .before)) (S (c .before .before .before .before .before .before .before .before .before .before .before .before)) (c .before .before .before .before .before .before .before .before .answer .given .0 .0) (c .before .before .before .before .before .before .before .before .answer .given .0 .1 .0) (omega (arith, term-is (c .before .before .before .before .before .before .before .before .before .before .before .before), p-is (c .before .before .before .before .before .before .before .before .before .before .before .before), c .before .before .before .before .before .before .if1 .left)) (c .before .before .before .before .before .if2 .taken)
     ∙ answered (c .before .before .before .before .before .before .before .before .before .before .before .before) (Fragments (c .before .before .before .before .before .before .before .before .answer .given .0 .0) (c .before .before .before .before .before .before .before .before .answer .given .0 .1 .0)) (c .before .before .before .before .before .before .before .before .answer .given .1)
-
-long-requires-2 : tie.Need-long-requires-2
-long-requires-2 c κs = search needs
-
-stopped-requires-3 : tie.Need-stopped-requires-3
-stopped-requires-3 c κs = search needs
 
 returns-4 : tie.Need-returns-4
 returns-4 c =
@@ -121,21 +82,21 @@ pub turn-spec : {M : Type 1} → statement M
 turn-spec =
     tie.close
     (tie.spec
-    read-active-requires
-    long-requires
-    poll-one-requires
-    enum-known-answer
-    enum-told
-    refusal-requires
-    stopped-requires
+    (search needs)
+    (search needs)
+    (search needs)
+    (search needs)
+    (search needs)
+    (search needs)
+    (search needs)
     returns
-    stopped-requires-2
+    (search needs)
     returns-2
-    div-give
-    give-requires
-    same-length
+    (search needs)
+    (search needs)
+    (search needs)
     returns-3
-    long-requires-2
-    stopped-requires-3
+    (search needs)
+    (search needs)
     returns-4
     returns-5)

@@ -17,17 +17,11 @@ casts : (z : ℤ) → SFits w64 z → ltZ z (pos 0) ≡ false → T (nonNeg z) �
 casts (pos n) f h = (tt, record { fits = omega arith })
 casts (negsuc n) f h = absurd (let z : _≡_ {A = ℕ} 0 1 = cc in omega arith)
 
-returns : tie.Need-returns
-returns c = search needs
-
 cast-result : tie.Need-cast-result
 cast-result c =
     let v = c .before .args .v in
     let e = toZ-ofZ (c .before .fits .v) in
     subst (λ (z : ℤ). T (nonNeg z) × Fits w64 (natAbs z)) (sym e) (casts v (c .before .fits .v) (ap (λ (z : ℤ). ltZ z (pos 0)) (sym e) ∙ c .if1 .left))
 
-returns-2 : tie.Need-returns-2
-returns-2 c = search needs
-
 pub plain-spec : {M : Type 1} → statement M
-plain-spec = tie.close (tie.spec returns cast-result returns-2)
+plain-spec = tie.close (tie.spec (search needs) cast-result (search needs))

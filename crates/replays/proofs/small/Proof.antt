@@ -4,14 +4,8 @@ use Rattle.publication.proofs.Lengths.{length-casts}
 use Rattle.replays.proofs.small.Statement.{statement}
 use Rattle.replays.proofs.small.Tie as tie
 
-returns : tie.Need-returns
-returns c = search needs
-
 cast-result : tie.Need-cast-result
 cast-result c = length-casts (c .before .args .v) (c .before .fits .v) (c .if1 .left)
 
-returns-2 : tie.Need-returns-2
-returns-2 c = search needs
-
 pub small-spec : {M : Type 1} → statement M
-small-spec = tie.close (tie.spec returns cast-result returns-2)
+small-spec = tie.close (tie.spec (search needs) cast-result (search needs))

@@ -9,11 +9,5 @@ use Rattle.vectors.proofs.main.Tie as tie
 slice-aggregate-with-file : tie.Need-slice-aggregate-with-file
 slice-aggregate-with-file c = sym (length-replicate {0} {A = ℕ} 1572864 0)
 
-with-file-requires : tie.Need-with-file-requires
-with-file-requires c κs = search needs
-
-returns : tie.Need-returns
-returns c = search needs
-
 pub main-spec : {M : Type 1} → statement M
-main-spec = tie.close (tie.spec slice-aggregate-with-file with-file-requires returns)
+main-spec = tie.close (tie.spec slice-aggregate-with-file (search needs) (search needs))

@@ -12,35 +12,8 @@ Inv-loop input log₀ rest₀ n course₀ k₀ log rest course k = (length log �
 abbrev μ-loop : tie.MeasureT-loop
 μ-loop input log₀ rest₀ n course₀ k₀ log rest course k = n - k
 
-word-requires : tie.Need-word-requires Inv-loop μ-loop
-word-requires c κs = search needs
-
-start-requires : tie.Need-start-requires Inv-loop μ-loop
-start-requires c κs = search needs
-
-loop-holds : tie.Need-loop-holds Inv-loop μ-loop
-loop-holds c = search needs
-
-step-requires : tie.Need-step-requires Inv-loop μ-loop
-step-requires c κs = search needs
-
-add-k : tie.Need-add-k Inv-loop μ-loop
-add-k c = search needs
-
-loop-less : tie.Need-loop-less Inv-loop μ-loop
-loop-less c = search needs
-
 loop-again : tie.Need-loop-again Inv-loop μ-loop
 loop-again c = (search needs, (search needs, search needs))
-
-same-length : tie.Need-same-length Inv-loop μ-loop
-same-length c = search needs
-
-same-length-2 : tie.Need-same-length-2 Inv-loop μ-loop
-same-length-2 c = search needs
-
-returns : tie.Need-returns Inv-loop μ-loop
-returns c = search needs
 
 pub replay-list-spec : {M : Type 1} → statement M
 replay-list-spec =
@@ -48,13 +21,13 @@ replay-list-spec =
     (tie.spec
     Inv-loop
     μ-loop
-    word-requires
-    start-requires
-    loop-holds
-    step-requires
-    add-k
-    loop-less
+    (search needs)
+    (search needs)
+    (search needs)
+    (search needs)
+    (search needs)
+    (search needs)
     loop-again
-    same-length
-    same-length-2
-    returns)
+    (search needs)
+    (search needs)
+    (search needs))

@@ -11,24 +11,6 @@ use borrow.Author.Needs.{needs}
 use Rattle.image.proofs.Image.block_poll.Statement.{statement}
 use Rattle.image.proofs.Image.block_poll.Tie as tie
 
-read-active-requires : tie.Need-read-active-requires
-read-active-requires c κs = search needs
-
-natural-requires : tie.Need-natural-requires
-natural-requires c κs = search needs
-
-readable-requires : tie.Need-readable-requires
-readable-requires c κs = search needs
-
-enum-known-e : tie.Need-enum-known-e
-enum-known-e c = search needs
-
-enum-told : tie.Need-enum-told
-enum-told c = search needs
-
-enum-told-2 : tie.Need-enum-told-2
-enum-told-2 c = search needs
-
 block-at-requires : tie.Need-block-at-requires
 block-at-requires c κs =
     let a = c .before .before .before .before .before .before .args in
@@ -58,12 +40,12 @@ pub block-poll-spec : {M : Type 1} → statement M
 block-poll-spec =
     tie.close
     (tie.spec
-    read-active-requires
-    natural-requires
-    readable-requires
-    enum-known-e
-    enum-told
-    enum-told-2
+    (search needs)
+    (search needs)
+    (search needs)
+    (search needs)
+    (search needs)
+    (search needs)
     block-at-requires
     returns
     returns-2

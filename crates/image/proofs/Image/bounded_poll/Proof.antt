@@ -12,38 +12,8 @@ use borrow.Author.Needs.{needs}
 use Rattle.image.proofs.Image.bounded_poll.Statement.{statement}
 use Rattle.image.proofs.Image.bounded_poll.Tie as tie
 
-read-active-requires : tie.Need-read-active-requires
-read-active-requires c κs = search needs
-
-natural-requires : tie.Need-natural-requires
-natural-requires c κs = search needs
-
-natural-position-requires : tie.Need-natural-position-requires
-natural-position-requires c κs = search needs
-
-long-requires : tie.Need-long-requires
-long-requires c κs = search needs
-
-end-offset-requires : tie.Need-end-offset-requires
-end-offset-requires c κs = search needs
-
-good-entries-requires : tie.Need-good-entries-requires
-good-entries-requires c κs = search needs
-
-sub-poll-frames : tie.Need-sub-poll-frames
-sub-poll-frames c = search needs
-
-part-poll-frames-start : tie.Need-part-poll-frames-start
-part-poll-frames-start c = search needs
-
-part-poll-frames-end : tie.Need-part-poll-frames-end
-part-poll-frames-end c = search needs
-
 poll-frames-requires : tie.Need-poll-frames-requires
 poll-frames-requires c κs = (omega (arith, c .before .before .before .end-offset .ensures), λ h. sym (c .before .before .good-entries .ensures) ∙ h)
-
-same-length : tie.Need-same-length
-same-length c = search needs
 
 returns : tie.Need-returns
 returns c =
@@ -58,15 +28,15 @@ pub bounded-poll-spec : {M : Type 1} → statement M
 bounded-poll-spec =
     tie.close
     (tie.spec
-    read-active-requires
-    natural-requires
-    natural-position-requires
-    long-requires
-    end-offset-requires
-    good-entries-requires
-    sub-poll-frames
-    part-poll-frames-start
-    part-poll-frames-end
+    (search needs)
+    (search needs)
+    (search needs)
+    (search needs)
+    (search needs)
+    (search needs)
+    (search needs)
+    (search needs)
+    (search needs)
     poll-frames-requires
-    same-length
+    (search needs)
     returns)

@@ -14,12 +14,6 @@ use borrow.Author.Needs.{needs}
 use Rattle.image.proofs.Image.close.Statement.{statement}
 use Rattle.image.proofs.Image.close.Tie as tie
 
-read-active-requires : tie.Need-read-active-requires
-read-active-requires c κs = search needs
-
-is-sound-requires : tie.Need-is-sound-requires
-is-sound-requires c κs = search needs
-
 returns : tie.Need-returns
 returns c =
     let a = c .before .before .before .before .args in
@@ -41,4 +35,4 @@ returns-3 c =
 
 pub close-spec : {M : Type 1} → statement M
 close-spec =
-    tie.close (tie.spec read-active-requires is-sound-requires returns returns-2 returns-3)
+    tie.close (tie.spec (search needs) (search needs) returns returns-2 returns-3)

@@ -55,33 +55,6 @@ settled-in c w h =
     let s = walk-settled (v .term) (a .log .now) (c .before .before .before .before .before .before .before .before .long .result / v .term % 3 * v .term) (v .term) (c .before .before .end-offset .result) (c .before .before .before .before .before .before .before .before .long .result % v .term) (length (a .actions .now)) (a .actions .now) in
     omega (arith, ap (λ (x : Walk). x .settled) (u .1 .0), new-in (c .before .before .before .before .before .before) (c .before .before .before .before .enum-told2 .given .1) .0, sound-true _ _ (passed (c .before .before .before .before .before .before) (c .before .before .before .before .enum-told2 .given .1) .sound) .term-high)
 
-read-active-requires : tie.Need-read-active-requires
-read-active-requires c κs = search needs
-
-long-requires : tie.Need-long-requires
-long-requires c κs = search needs
-
-good-control-requires : tie.Need-good-control-requires
-good-control-requires c κs = search needs
-
-reach-requires : tie.Need-reach-requires
-reach-requires c κs = search needs
-
-enum-known-e : tie.Need-enum-known-e
-enum-known-e c = search needs
-
-enum-told : tie.Need-enum-told
-enum-told c = search needs
-
-enum-told-2 : tie.Need-enum-told-2
-enum-told-2 c = search needs
-
-natural-position-requires : tie.Need-natural-position-requires
-natural-position-requires c κs = search needs
-
-end-offset-requires : tie.Need-end-offset-requires
-end-offset-requires c κs = search needs
-
 frames-at-requires : tie.Need-frames-at-requires
 frames-at-requires c κs =
     let l = c .before .before .before .before .before in
@@ -89,15 +62,6 @@ frames-at-requires c κs =
     let k = passed l t in
     let g = and-true (goodEntries (length (c .before .before .before .before .before .before .before .before .before .before .before .args .entries .now)) (length (c .before .before .before .before .before .before .before .before .before .before .before .args .actions .now))) _ (sym (c .before .before .before .before .before .before .good-control .ensures) ∙ k .good) in
     (k .sound, (new-in l t .1, (omega (arith, c .before .end-offset .ensures), g .0)))
-
-enum-known-walked : tie.Need-enum-known-walked
-enum-known-walked c = search needs
-
-enum-told-3 : tie.Need-enum-told-3
-enum-told-3 c = search needs
-
-same-length : tie.Need-same-length
-same-length c = search needs
 
 returns : tie.Need-returns
 returns c =
@@ -128,9 +92,6 @@ returns-3 c =
     let k = as-peek (a .rec) (a .log .now) (stateOf (a .self)) (a .entries .now) (a .actions .now) (a .start) (a .limit-position) _ _ _ _ _ (c .before .before .before .before .before .read-active .ensures) (p-is (c .before .before)) refl refl (c .before .before .before .good-control .ensures) _ (sym (c .enum-told .given .1) ∙ c .before .before .reach .ensures) in
     (ap (λ (z : ℤ). Position z 0) (toZ-ofZ (c .before .before .before .before .before .before .before .before .fits .start)) ∙ k .0, k .1)
 
-same-length-2 : tie.Need-same-length-2
-same-length-2 c = search needs
-
 returns-4 : tie.Need-returns-4
 returns-4 c =
     let f = c .before .before .before .before .before in
@@ -152,23 +113,23 @@ pub controlled-peek-spec : {M : Type 1} → statement M
 controlled-peek-spec =
     tie.close
     (tie.spec
-    read-active-requires
-    long-requires
-    good-control-requires
-    reach-requires
-    enum-known-e
-    enum-told
-    enum-told-2
-    natural-position-requires
-    end-offset-requires
+    (search needs)
+    (search needs)
+    (search needs)
+    (search needs)
+    (search needs)
+    (search needs)
+    (search needs)
+    (search needs)
+    (search needs)
     frames-at-requires
-    enum-known-walked
-    enum-told-3
-    same-length
+    (search needs)
+    (search needs)
+    (search needs)
     returns
     add-t18
     cast-t23
     returns-2
     returns-3
-    same-length-2
+    (search needs)
     returns-4)

@@ -11,20 +11,8 @@ use borrow.Author.Needs.{needs}
 use Rattle.image.proofs.Image.controlled_poll.Statement.{statement}
 use Rattle.image.proofs.Image.controlled_poll.Tie as tie
 
-read-active-requires : tie.Need-read-active-requires
-read-active-requires c κs = search needs
-
-natural-requires : tie.Need-natural-requires
-natural-requires c κs = search needs
-
-good-control-requires : tie.Need-good-control-requires
-good-control-requires c κs = search needs
-
 poll-frames-requires : tie.Need-poll-frames-requires
 poll-frames-requires c κs = (omega arith, λ h. and-true (goodEntries (length (c .before .before .before .before .before .before .args .entries .now)) (c .before .before .natural .result)) _ (sym (c .before .good-control .ensures) ∙ h) .0)
-
-same-length : tie.Need-same-length
-same-length c = search needs
 
 returns : tie.Need-returns
 returns c =
@@ -37,9 +25,9 @@ pub controlled-poll-spec : {M : Type 1} → statement M
 controlled-poll-spec =
     tie.close
     (tie.spec
-    read-active-requires
-    natural-requires
-    good-control-requires
+    (search needs)
+    (search needs)
+    (search needs)
     poll-frames-requires
-    same-length
+    (search needs)
     returns)

@@ -11,21 +11,6 @@ use borrow.Author.Needs.{needs}
 use Rattle.image.proofs.Image.is_end_of_stream.Statement.{statement}
 use Rattle.image.proofs.Image.is_end_of_stream.Tie as tie
 
-read-active-requires : tie.Need-read-active-requires
-read-active-requires c κs = search needs
-
-readable-requires : tie.Need-readable-requires
-readable-requires c κs = search needs
-
-enum-known-e : tie.Need-enum-known-e
-enum-known-e c = search needs
-
-enum-told : tie.Need-enum-told
-enum-told c = search needs
-
-enum-told-2 : tie.Need-enum-told-2
-enum-told-2 c = search needs
-
 returns : tie.Need-returns
 returns c = let a = c .before .before .before .before .before .before .args in as-end (a .rec) (a .log .now) (stateOf (a .self)) _ (c .before .before .before .before .read-active .ensures) _ (sym (c .before .e .given .1) ∙ c .before .before .before .readable .ensures)
 
@@ -43,11 +28,11 @@ pub is-end-of-stream-spec : {M : Type 1} → statement M
 is-end-of-stream-spec =
     tie.close
     (tie.spec
-    read-active-requires
-    readable-requires
-    enum-known-e
-    enum-told
-    enum-told-2
+    (search needs)
+    (search needs)
+    (search needs)
+    (search needs)
+    (search needs)
     returns
     returns-2
     returns-3)

@@ -9,29 +9,8 @@ use borrow.Author.Needs.{needs}
 use Rattle.image.proofs.Image.poll.Statement.{statement}
 use Rattle.image.proofs.Image.poll.Tie as tie
 
-read-active-requires : tie.Need-read-active-requires
-read-active-requires c κs = search needs
-
-natural-requires : tie.Need-natural-requires
-natural-requires c κs = search needs
-
-good-entries-requires : tie.Need-good-entries-requires
-good-entries-requires c κs = search needs
-
-sub-poll-frames : tie.Need-sub-poll-frames
-sub-poll-frames c = search needs
-
-part-poll-frames-start : tie.Need-part-poll-frames-start
-part-poll-frames-start c = search needs
-
-part-poll-frames-end : tie.Need-part-poll-frames-end
-part-poll-frames-end c = search needs
-
 poll-frames-requires : tie.Need-poll-frames-requires
 poll-frames-requires c κs = (omega arith, λ h. sym (c .before .before .good-entries .ensures) ∙ h)
-
-same-length : tie.Need-same-length
-same-length c = search needs
 
 returns : tie.Need-returns
 returns c =
@@ -44,12 +23,12 @@ pub poll-spec : {M : Type 1} → statement M
 poll-spec =
     tie.close
     (tie.spec
-    read-active-requires
-    natural-requires
-    good-entries-requires
-    sub-poll-frames
-    part-poll-frames-start
-    part-poll-frames-end
+    (search needs)
+    (search needs)
+    (search needs)
+    (search needs)
+    (search needs)
+    (search needs)
     poll-frames-requires
-    same-length
+    (search needs)
     returns)

@@ -17,27 +17,6 @@ use Rattle.image.proofs.Image.set_position.Tie as tie
 p-is : (c : tie.After-long) → c .long .result ≡ long (c .before .before .before .args .new-position)
 p-is c = long-by (c .before .before .before .args .new-position) (c .long .ensures .0) (c .before .before .before .fits .new-position)
 
-read-active-requires : tie.Need-read-active-requires
-read-active-requires c κs = search needs
-
-long-requires : tie.Need-long-requires
-long-requires c κs = search needs
-
-reach-requires : tie.Need-reach-requires
-reach-requires c κs = search needs
-
-enum-known-e : tie.Need-enum-known-e
-enum-known-e c = search needs
-
-enum-told : tie.Need-enum-told
-enum-told c = search needs
-
-enum-told-2 : tie.Need-enum-told-2
-enum-told-2 c = search needs
-
-moved-to-requires : tie.Need-moved-to-requires
-moved-to-requires c κs = search needs
-
 returns : tie.Need-returns
 returns c = let a = c .before .before .before .before .before .before .before .args in ap imageReplyOf (as-set (a .rec) (a .log .now) (stateOf (a .self)) _ (c .before .before .before .before .before .read-active .ensures) (a .new-position) _ _ (p-is (c .before .before .before .before)) (sym (c .before .e .given .1) ∙ c .before .before .before .reach .ensures))
 
@@ -55,13 +34,13 @@ pub set-position-spec : {M : Type 1} → statement M
 set-position-spec =
     tie.close
     (tie.spec
-    read-active-requires
-    long-requires
-    reach-requires
-    enum-known-e
-    enum-told
-    enum-told-2
-    moved-to-requires
+    (search needs)
+    (search needs)
+    (search needs)
+    (search needs)
+    (search needs)
+    (search needs)
+    (search needs)
     returns
     returns-2
     returns-3)

@@ -71,23 +71,11 @@ judged b = refuseIf b UnsoundFrame Read
 sound-is : (c : tie.After-known-told) → judged false ≡ judged (unsoundAt (c .before .before .before .before .before .before .before .before .args .v) (c .before .before .before .before .before .before .before .before .args .log .now) (long (c .before .before .before .before .before .before .before .before .args .image .position)) (blockEnd (c .before .before .before .before .before .before .before .before .args .v) (long (c .before .before .before .before .before .before .before .before .args .image .position)) (c .before .before .before .before .before .before .before .before .args .limit)) 1)
 sound-is c = let a = c .before .before .before .before .before .before .before .before .args in ap judged (sym (block-sound (a .v) (a .log .now) (a .limit) _ _ _ (p-is (c .before .before .before .before .before)) (c .before .before .before .before .end-offset .ensures) _ (c .before .before .before .scan-at .ensures) _ (c .before .stop .given .1)))
 
-long-requires : tie.Need-long-requires
-long-requires c κs = search needs
-
 add-end-offset : tie.Need-add-end-offset
 add-end-offset c = omega (arith, p-high c, c .before .before .before .pre .1 .1 .1 .1)
 
-end-offset-requires : tie.Need-end-offset-requires
-end-offset-requires c κs = search needs
-
 scan-at-requires : tie.Need-scan-at-requires
 scan-at-requires c κs = let s = c .before .before .before .before in (s .pre .0, (s .pre .1 .0, (p-32 (c .before), omega (arith, c .end-offset .ensures))))
-
-enum-known-stop : tie.Need-enum-known-stop
-enum-known-stop c = search needs
-
-enum-told : tie.Need-enum-told
-enum-told c = search needs
 
 returns : tie.Need-returns
 returns c =
@@ -106,9 +94,6 @@ add-moved-to c = record { fits = omega (arith, to-high c) }
 
 cast-moved-to : tie.Need-cast-moved-to
 cast-moved-to c = record { sfits = omega (arith, to-high c) }
-
-moved-to-requires : tie.Need-moved-to-requires
-moved-to-requires c κs = search needs
 
 returns-2 : tie.Need-returns-2
 returns-2 c =
@@ -135,18 +120,18 @@ pub block-at-spec : {M : Type 1} → statement M
 block-at-spec =
     tie.close
     (tie.spec
-    long-requires
+    (search needs)
     add-end-offset
-    end-offset-requires
+    (search needs)
     scan-at-requires
-    enum-known-stop
-    enum-told
+    (search needs)
+    (search needs)
     returns
     rem-at
     sub-n
     add-moved-to
     cast-moved-to
-    moved-to-requires
+    (search needs)
     returns-2
     term-id-at-requires
     returns-3)

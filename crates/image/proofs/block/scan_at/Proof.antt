@@ -14,9 +14,6 @@ place c = at-place _ _ _ (c .pre .1 .0) (c .pre .1 .1 .0)
 div-scan : tie.Need-div-scan
 div-scan c = omega (arith, place (c .before) .some)
 
-cast-scan : tie.Need-cast-scan
-cast-scan c = search needs
-
 rem-scan : tie.Need-rem-scan
 rem-scan c = omega (arith, place (c .before) .some)
 
@@ -26,9 +23,6 @@ cast-scan-2 c = record { sfits = omega (arith, place (c .before) .below, place (
 cast-scan-3 : tie.Need-cast-scan-3
 cast-scan-3 c = record { sfits = omega (arith, c .before .pre .1 .1 .1, place (c .before) .term-high) }
 
-scan-requires : tie.Need-scan-requires
-scan-requires c κs = search needs
-
 returns : tie.Need-returns
 returns c =
     let s = c .before .before in
@@ -36,4 +30,4 @@ returns c =
 
 pub scan-at-spec : {M : Type 1} → statement M
 scan-at-spec =
-    tie.close (tie.spec div-scan cast-scan rem-scan cast-scan-2 cast-scan-3 scan-requires returns)
+    tie.close (tie.spec div-scan (search needs) rem-scan cast-scan-2 cast-scan-3 (search needs) returns)

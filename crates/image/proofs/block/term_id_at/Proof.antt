@@ -17,23 +17,11 @@ place c = at-place _ _ _ (c .pre .1 .0) (c .pre .1 .1)
 div-fields : tie.Need-div-fields
 div-fields c = omega (arith, place (c .before) .some)
 
-cast-fields : tie.Need-cast-fields
-cast-fields c = search needs
-
 rem-fields : tie.Need-rem-fields
 rem-fields c = omega (arith, place (c .before) .some)
 
 cast-fields-2 : tie.Need-cast-fields-2
 cast-fields-2 c = record { sfits = omega (arith, place (c .before) .below, place (c .before) .term-high) }
-
-fields-requires : tie.Need-fields-requires
-fields-requires c κs = search needs
-
-enum-known-fields : tie.Need-enum-known-fields
-enum-known-fields c = search needs
-
-enum-told : tie.Need-enum-told
-enum-told c = search needs
 
 returns : tie.Need-returns
 returns c =
@@ -51,11 +39,11 @@ term-id-at-spec =
     tie.close
     (tie.spec
     div-fields
-    cast-fields
+    (search needs)
     rem-fields
     cast-fields-2
-    fields-requires
-    enum-known-fields
-    enum-told
+    (search needs)
+    (search needs)
+    (search needs)
     returns
     returns-2)

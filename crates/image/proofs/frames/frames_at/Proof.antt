@@ -21,12 +21,6 @@ mul-read-frames c = record { fits = omega (arith, place (c .before .before) .ins
 rem-read-frames : tie.Need-rem-read-frames
 rem-read-frames c = omega (arith, place (c .before .before) .some)
 
-read-frames-requires : tie.Need-read-frames-requires
-read-frames-requires c κs = search needs
-
-same-length : tie.Need-same-length
-same-length c = search needs
-
 returns : tie.Need-returns
 returns c =
     let s = c .before .before .before .before .before in
@@ -42,6 +36,6 @@ frames-at-spec =
     div-read-frames
     mul-read-frames
     rem-read-frames
-    read-frames-requires
-    same-length
+    (search needs)
+    (search needs)
     returns)

@@ -58,35 +58,11 @@ moved c w h =
     let m = frames-moved (a .v) (a .log .now) (a .entries .now) (a .end) (a .limit) (a .actions .now) (c .before .before .long .result) _ (p-is (c .before .before)) (c .frames-at .result) _ (c .frames-at .ensures .0) (c .frames-at .ensures .1) w h in
     omega (arith, p-high (c .before .before), sound-true _ _ (passed (c .before .before) .sound) .term-high)
 
-readable-requires : tie.Need-readable-requires
-readable-requires c κs = search needs
-
-enum-known-e : tie.Need-enum-known-e
-enum-known-e c = search needs
-
-enum-told : tie.Need-enum-told
-enum-told c = search needs
-
-enum-told-2 : tie.Need-enum-told-2
-enum-told-2 c = search needs
-
-long-requires : tie.Need-long-requires
-long-requires c κs = search needs
-
 frames-at-requires : tie.Need-frames-at-requires
 frames-at-requires c κs =
     let k = passed (c .before) in
     let s = c .before .before .before .before .before .before .before .before in
     (k .sound, (ap (λ (x : ℕ). x % 32) (p-is (c .before)) ∙ k .p-32, (s .pre .0, s .pre .1 (k .good))))
-
-enum-known-walked : tie.Need-enum-known-walked
-enum-known-walked c = search needs
-
-enum-told-3 : tie.Need-enum-told-3
-enum-told-3 c = search needs
-
-same-length : tie.Need-same-length
-same-length c = search needs
 
 returns : tie.Need-returns
 returns c =
@@ -102,9 +78,6 @@ add-moved-to c = record { fits = omega (arith, moved (c .before .before .before 
 cast-moved-to : tie.Need-cast-moved-to
 cast-moved-to c = record { sfits = omega (arith, moved (c .before .before .before .before .before) _ (c .before .before .walked .given .1)) }
 
-moved-to-requires : tie.Need-moved-to-requires
-moved-to-requires c κs = search needs
-
 returns-2 : tie.Need-returns-2
 returns-2 c =
     let a = c .before .before .before .before .before .before .args in
@@ -116,9 +89,6 @@ returns-3 c =
     let a = c .before .before .before .before .before .args in
     let x = poll-after (a .v) (a .log .now) (stateOf (a .image)) (a .good) (a .end) (a .limit) _ (sym (c .enum-told .given .1) ∙ c .before .before .readable .ensures) in
     (ap (said (c .before .before .before .before .before)) x, ap (wrote (c .before .before .before .before .before)) x)
-
-same-length-2 : tie.Need-same-length-2
-same-length-2 c = search needs
 
 returns-4 : tie.Need-returns-4
 returns-4 c =
@@ -137,20 +107,20 @@ pub poll-frames-spec : {M : Type 1} → statement M
 poll-frames-spec =
     tie.close
     (tie.spec
-    readable-requires
-    enum-known-e
-    enum-told
-    enum-told-2
-    long-requires
+    (search needs)
+    (search needs)
+    (search needs)
+    (search needs)
+    (search needs)
     frames-at-requires
-    enum-known-walked
-    enum-told-3
-    same-length
+    (search needs)
+    (search needs)
+    (search needs)
     returns
     add-moved-to
     cast-moved-to
-    moved-to-requires
+    (search needs)
     returns-2
     returns-3
-    same-length-2
+    (search needs)
     returns-4)

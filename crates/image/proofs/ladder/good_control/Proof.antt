@@ -6,14 +6,8 @@ use borrow.Author.Needs.{needs}
 use Rattle.image.proofs.ladder.good_control.Statement.{statement}
 use Rattle.image.proofs.ladder.good_control.Tie as tie
 
-good-entries-requires : tie.Need-good-entries-requires
-good-entries-requires c κs = search needs
-
 returns : tie.Need-returns
 returns c = rw (sym (c .before .good-entries .ensures) ∙ not-true _ (c .if1 .taken))
-
-good-actions-requires : tie.Need-good-actions-requires
-good-actions-requires c κs = search needs
 
 returns-2 : tie.Need-returns-2
 returns-2 c = rw (sym (c .before .before .before .good-entries .ensures) ∙ not-false _ (c .before .before .if1 .left), sym (c .before .good-actions .ensures) ∙ not-true _ (c .if2 .taken))
@@ -27,4 +21,4 @@ returns-4 c = rw (sym (c .before .before .before .before .good-entries .ensures)
 pub good-control-spec : {M : Type 1} → statement M
 good-control-spec =
     tie.close
-    (tie.spec good-entries-requires returns good-actions-requires returns-2 returns-3 returns-4)
+    (tie.spec (search needs) returns (search needs) returns-2 returns-3 returns-4)

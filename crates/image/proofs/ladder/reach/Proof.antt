@@ -21,21 +21,6 @@ p-is c =
     let f : SFits w64 z = search needs in
     long-by z (c .long .ensures .0) f
 
-readable-requires : tie.Need-readable-requires
-readable-requires c κs = search needs
-
-enum-known-e : tie.Need-enum-known-e
-enum-known-e c = search needs
-
-enum-told : tie.Need-enum-told
-enum-told c = search needs
-
-enum-told-2 : tie.Need-enum-told-2
-enum-told-2 c = search needs
-
-long-requires : tie.Need-long-requires
-long-requires c κs = search needs
-
 reachable-requires : tie.Need-reachable-requires
 reachable-requires c κs =
     let a = c .before .before .before .before .before .args in
@@ -59,11 +44,11 @@ pub reach-spec : {M : Type 1} → statement M
 reach-spec =
     tie.close
     (tie.spec
-    readable-requires
-    enum-known-e
-    enum-told
-    enum-told-2
-    long-requires
+    (search needs)
+    (search needs)
+    (search needs)
+    (search needs)
+    (search needs)
     reachable-requires
     returns
     returns-2

@@ -26,9 +26,6 @@ returns c =
     let a = c .before .args in
     not-good (a .good) (a .v) (a .n) (stateOf (a .image)) (not-true _ (c .if1 .taken)) Read
 
-is-sound-requires : tie.Need-is-sound-requires
-is-sound-requires c κs = search needs
-
 returns-2 : tie.Need-returns-2
 returns-2 c =
     let a = c .before .before .before .args in
@@ -38,9 +35,6 @@ returns-3 : tie.Need-returns-3
 returns-3 c =
     let a = c .before .before .before .before .args in
     is-closed (a .good) (a .v) (a .n) (stateOf (a .image)) (not-false _ (c .before .before .before .if1 .left)) (sym (c .before .before .is-sound .ensures) ∙ not-false _ (c .before .if2 .left)) (c .if3 .taken) Read
-
-long-requires : tie.Need-long-requires
-long-requires c κs = search needs
 
 mul-if4 : tie.Need-mul-if4
 mul-if4 c = omega (arith, sound-true _ _ (sym (c .before .before .before .before .before .is-sound .ensures) ∙ not-false _ (c .before .before .before .before .if2 .left)))
@@ -65,10 +59,10 @@ readable-spec =
     tie.close
     (tie.spec
     returns
-    is-sound-requires
+    (search needs)
     returns-2
     returns-3
-    long-requires
+    (search needs)
     mul-if4
     returns-4
     returns-5

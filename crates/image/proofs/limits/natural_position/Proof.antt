@@ -6,9 +6,6 @@ use borrow.Author.Needs.{needs}
 use Rattle.image.proofs.limits.natural_position.Statement.{statement}
 use Rattle.image.proofs.limits.natural_position.Tie as tie
 
-long-requires : tie.Need-long-requires
-long-requires c κs = search needs
-
 returns : tie.Need-returns
 returns c = let s = c .before .before in below-zero (s .args .limit) (s .fits .limit) (c .if1 .taken)
 
@@ -16,4 +13,4 @@ returns-2 : tie.Need-returns-2
 returns-2 c = let s = c .before .before in long-by (s .args .limit) (c .before .long .ensures .0) (s .fits .limit) ∙ not-below (s .args .limit) (s .fits .limit) (c .if1 .left)
 
 pub natural-position-spec : {M : Type 1} → statement M
-natural-position-spec = tie.close (tie.spec long-requires returns returns-2)
+natural-position-spec = tie.close (tie.spec (search needs) returns returns-2)

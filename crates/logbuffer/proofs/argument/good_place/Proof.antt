@@ -11,12 +11,6 @@ returns c = let a = c .before .before .args in rw (lt-leb (a .p .partition) 2 (c
 returns-2 : tie.Need-returns-2
 returns-2 c = let a = c .before .before .before .before .args in rw (le-leb (a .p .partition) 2 (c .before .before .if1 .left), ne-eqb (a .p .offset % 32) 0 (c .if2 .taken))
 
-add-within-term : tie.Need-add-within-term
-add-within-term c = search needs
-
-within-term-requires : tie.Need-within-term-requires
-within-term-requires c κs = search needs
-
 returns-3 : tie.Need-returns-3
 returns-3 c =
     let a = c .before .before .before .before .before .before .args in
@@ -24,4 +18,4 @@ returns-3 c =
 
 pub good-place-spec : {M : Type 1} → statement M
 good-place-spec =
-    tie.close (tie.spec returns returns-2 add-within-term within-term-requires returns-3)
+    tie.close (tie.spec returns returns-2 (search needs) (search needs) returns-3)

@@ -7,9 +7,6 @@ use Rattle.logbuffer.proofs.Signed.{word-by}
 use Rattle.logbuffer.proofs.argument.natural.Statement.{statement}
 use Rattle.logbuffer.proofs.argument.natural.Tie as tie
 
-word-requires : tie.Need-word-requires
-word-requires c κs = search needs
-
 returns : tie.Need-returns
 returns c = let s = c .before .before in (natural-none (s .args .limit) (s .fits .limit) (c .if1 .taken), omega arith)
 
@@ -20,4 +17,4 @@ returns-2 c =
     (e ∙ natural-bits (s .args .limit) (s .fits .limit) (c .if1 .left), omega (arith, e, not-negative (s .args .limit) (s .fits .limit) (c .if1 .left)))
 
 pub natural-spec : {M : Type 1} → statement M
-natural-spec = tie.close (tie.spec word-requires returns returns-2)
+natural-spec = tie.close (tie.spec (search needs) returns returns-2)

@@ -7,15 +7,6 @@ use Rattle.logbuffer.proofs.Signed.{word-by}
 use Rattle.logbuffer.proofs.argument.place.Statement.{statement}
 use Rattle.logbuffer.proofs.argument.place.Tie as tie
 
-read-active-requires : tie.Need-read-active-requires
-read-active-requires c κs = search needs
-
-word-requires : tie.Need-word-requires
-word-requires c κs = search needs
-
-word-requires-2 : tie.Need-word-requires-2
-word-requires-2 c κs = search needs
-
 returns : tie.Need-returns
 returns c =
     let s = c .before .before .before in
@@ -25,4 +16,4 @@ returns c =
     (cc, (c .before .word .ensures .1, c .word2 .ensures .1))
 
 pub place-spec : {M : Type 1} → statement M
-place-spec = tie.close (tie.spec read-active-requires word-requires word-requires-2 returns)
+place-spec = tie.close (tie.spec (search needs) (search needs) (search needs) returns)

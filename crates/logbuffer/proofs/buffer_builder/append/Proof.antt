@@ -15,11 +15,5 @@ add-copy c = omega (arith, part-in (c .before .before .before .args .k) (c .befo
 copy-requires : tie.Need-copy-requires
 copy-requires c κs = omega (arith, part-in (c .before .before .before .args .k) (c .before .before .before .args .part) (length (c .before .before .before .args .buffer .now)) (c .before .before .before .pre .0) (c .before .before .before .pre .1 .0))
 
-same-length : tie.Need-same-length
-same-length c = search needs
-
-returns : tie.Need-returns
-returns c = search needs
-
 pub append-spec : {M : Type 1} → statement M
-append-spec = tie.close (tie.spec mul-copy add-copy copy-requires same-length returns)
+append-spec = tie.close (tie.spec mul-copy add-copy copy-requires (search needs) (λ c. search needs))

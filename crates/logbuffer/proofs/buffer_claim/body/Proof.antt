@@ -19,24 +19,6 @@ is-span c = sym (c .before .before .before .locate .ensures) ∙ c .before .from
 inside : (c : tie.After-known-told) → (c .before .from .given .0 .0 ≤ c .before .from .given .0 .1 .0) × (c .before .from .given .0 .1 .0 ≤ length (c .before .before .before .before .before .before .args .log .now))
 inside c = span-in (c .before .before .before .before .before .before .args .rec) (c .before .before .before .before .before .before .args .log .now) (c .before .before .before .before .before .before .args .claim) _ _ (is-span c) .1
 
-locate-requires : tie.Need-locate-requires
-locate-requires c κs = search needs
-
-enum-known-from : tie.Need-enum-known-from
-enum-known-from c = search needs
-
-enum-told : tie.Need-enum-told
-enum-told c = search needs
-
-sub-result : tie.Need-sub-result
-sub-result c = search needs
-
-part-log-start : tie.Need-part-log-start
-part-log-start c = search needs
-
-part-log-end : tie.Need-part-log-end
-part-log-end c = search needs
-
 returns : tie.Need-returns
 returns c = let s = c .before .before .before .before .before .before .args in
     let e = sym (c .before .enum-told .given .1) ∙ c .before .before .before .locate .ensures in
@@ -60,12 +42,12 @@ pub body-spec : {M : Type 1} → statement M
 body-spec =
     tie.close
     (tie.spec
-    locate-requires
-    enum-known-from
-    enum-told
-    sub-result
-    part-log-start
-    part-log-end
+    (search needs)
+    (search needs)
+    (search needs)
+    (search needs)
+    (search needs)
+    (search needs)
     returns
     sub-result-2
     part-log-start-2

@@ -7,18 +7,6 @@ use Rattle.model.specs.Parts.{locatedNumber}
 use Rattle.logbuffer.proofs.buffer_claim.body_number.Statement.{statement}
 use Rattle.logbuffer.proofs.buffer_claim.body_number.Tie as tie
 
-locate-requires : tie.Need-locate-requires
-locate-requires c κs = search needs
-
-enum-told : tie.Need-enum-told
-enum-told c = search needs
-
-enum-known-e : tie.Need-enum-known-e
-enum-known-e c = search needs
-
-number-requires : tie.Need-number-requires
-number-requires c κs = search needs
-
 returns : tie.Need-returns
 returns c = ap locatedNumber (sym (c .enum-told .given .1) ∙ c .before .before .locate .ensures)
 
@@ -27,4 +15,4 @@ returns-2 c = toZ-ofZ {w = w32} {z = c .number .result} (search needs) ∙ c .nu
 
 pub body-number-spec : {M : Type 1} → statement M
 body-number-spec =
-    tie.close (tie.spec locate-requires enum-told enum-known-e number-requires returns returns-2)
+    tie.close (tie.spec (search needs) (search needs) (search needs) (search needs) returns returns-2)

@@ -23,32 +23,14 @@ is-span c = sym (c .before .before .before .locate .ensures) ∙ c .before .from
 inside : (c : tie.After-known-told2) → (32 ≤ c .before .from .given .0 .0) × ((c .before .from .given .0 .0 ≤ c .before .from .given .0 .1 .0) × (c .before .from .given .0 .1 .0 ≤ length (c .before .before .before .before .before .before .args .log .now)))
 inside c = span-in (c .before .before .before .before .before .before .args .rec) (c .before .before .before .before .before .before .args .log .now) (c .before .before .before .before .before .before .args .claim) _ _ (is-span c)
 
-locate-requires : tie.Need-locate-requires
-locate-requires c κs = search needs
-
-enum-known-e : tie.Need-enum-known-e
-enum-known-e c = search needs
-
-enum-known-from : tie.Need-enum-known-from
-enum-known-from c = search needs
-
 sub-put4 : tie.Need-sub-put4
 sub-put4 c = inside (c .before) .0
-
-word-requires : tie.Need-word-requires
-word-requires c κs = search needs
 
 put4-requires : tie.Need-put4-requires
 put4-requires c κs = let i = inside (c .before .before .before) in omega arith
 
-same-length : tie.Need-same-length
-same-length c = search needs
-
 returns : tie.Need-returns
 returns c = let s = c .before .before .before .before .before .before .args in let f = refuses (s .rec) (s .log .now) (s .claim) _ (sym (c .before .before .before .locate .ensures) ∙ c .before .e .given .1) in (f .0, f .1 .0)
-
-same-length-2 : tie.Need-same-length-2
-same-length-2 c = search needs
 
 returns-2 : tie.Need-returns-2
 returns-2 c = let s = c .before .before .before .before .before .before .before .before .before .before .before .before in let f = commits (s .args .rec) (s .args .log .now) (s .args .claim) _ _ (is-span (c .before .before .before .before .before .before)) in
@@ -58,13 +40,13 @@ pub commit-spec : {M : Type 1} → statement M
 commit-spec =
     tie.close
     (tie.spec
-    locate-requires
-    enum-known-e
-    enum-known-from
+    (search needs)
+    (search needs)
+    (search needs)
     sub-put4
-    word-requires
+    (search needs)
     put4-requires
-    same-length
+    (search needs)
     returns
-    same-length-2
+    (search needs)
     returns-2)

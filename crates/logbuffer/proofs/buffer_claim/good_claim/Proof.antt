@@ -26,15 +26,6 @@ law c =
     good-by (c .before .before .before .before .before .before .args .v) (c .before .before .before .before .before .before .args .claim) (c .word3 .result) (c .before .before .before .before .word .result) (c .before .before .word2 .result)
     (word-by _ (c .word3 .ensures .0) (partition-fits (c .before .before .before .before .before .before))) (word-by _ (c .before .before .before .before .word .ensures .0) (offset-fits (c .before .before .before .before .before .before))) (word-by _ (c .before .before .word2 .ensures .0) (length-fits (c .before .before .before .before .before .before)))
 
-word-requires : tie.Need-word-requires
-word-requires c κs = search needs
-
-word-requires-2 : tie.Need-word-requires-2
-word-requires-2 c κs = search needs
-
-word-requires-3 : tie.Need-word-requires-3
-word-requires-3 c κs = search needs
-
 returns : tie.Need-returns
 returns c = simp (lt-leb _ _ (c .if1 .taken)) at (law (c .before))
 
@@ -43,15 +34,6 @@ returns-2 c = simp (le-leb _ _ (c .before .if1 .left), ne-eqb _ _ (c .if2 .taken
 
 returns-3 : tie.Need-returns-3
 returns-3 c = simp (le-leb _ _ (c .before .before .if1 .left), eq-eqb _ _ (c .before .if2 .left), lt-leb _ _ (c .if3 .taken)) at (law (c .before .before .before))
-
-add-if4 : tie.Need-add-if4
-add-if4 c = search needs
-
-mul-if4 : tie.Need-mul-if4
-mul-if4 c = search needs
-
-add-if4-2 : tie.Need-add-if4-2
-add-if4-2 c = search needs
 
 returns-4 : tie.Need-returns-4
 returns-4 c = simp (le-leb _ _ (c .before .before .before .before .if1 .left), eq-eqb _ _ (c .before .before .before .if2 .left), le-leb _ _ (c .before .before .if3 .left), lt-leb _ _ (c .if4 .taken)) at (law (c .before .before .before .before .before))
@@ -63,14 +45,14 @@ pub good-claim-spec : {M : Type 1} → statement M
 good-claim-spec =
     tie.close
     (tie.spec
-    word-requires
-    word-requires-2
-    word-requires-3
+    (search needs)
+    (search needs)
+    (search needs)
     returns
     returns-2
     returns-3
-    add-if4
-    mul-if4
-    add-if4-2
+    (search needs)
+    (search needs)
+    (search needs)
     returns-4
     returns-5)

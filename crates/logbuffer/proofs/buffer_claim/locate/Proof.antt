@@ -35,17 +35,8 @@ inside : (c : tie.After-start) → (let s = c .before .before .before .before .b
 inside c = let g = good-claim-true _ _ (good (c .before .before .before)) in
     (g .low, subst (λ (n : ℕ). n + align (word (c .before .before .before .before .before .before .before .args .claim .length)) ≤ length (c .before .before .before .before .before .before .before .args .log .now)) (sym (c .start .ensures)) (claim-inside _ _ _ g (low (c .before))))
 
-read-active-requires : tie.Need-read-active-requires
-read-active-requires c κs = search needs
-
-good-claim-requires : tie.Need-good-claim-requires
-good-claim-requires c κs = search needs
-
 returns : tie.Need-returns
 returns c = let s = c .before .before .before .before .args in locate-bad (s .rec) (s .log .now) (s .claim) _ (c .before .before .read-active .ensures) (sym (c .before .good-claim .ensures) ∙ not-true _ (c .if1 .taken))
-
-is-sound-requires : tie.Need-is-sound-requires
-is-sound-requires c κs = search needs
 
 returns-2 : tie.Need-returns-2
 returns-2 c = let s = c .before .before .before .before .before .before .args in locate-unsound (s .rec) (s .log .now) (s .claim) _ (c .before .before .before .before .read-active .ensures) (good (c .before .before)) (sym (c .before .is-sound .ensures) ∙ not-true _ (c .if2 .taken))
@@ -62,9 +53,6 @@ returns-3 c = let s = c .before .before .before .before .before .before .before 
 add-t9 : tie.Need-add-t9
 add-t9 c = let i = inside (c .before .before) in omega arith
 
-word-requires : tie.Need-word-requires
-word-requires c κs = search needs
-
 add-t13 : tie.Need-add-t13
 add-t13 c = let i = inside (c .before .before .before .before) in let e = word-by _ (c .word .ensures .0) (length-fits (c .before .before .before .before .before .before .before .before .before .before .before)) in omega arith
 
@@ -75,15 +63,15 @@ pub locate-spec : {M : Type 1} → statement M
 locate-spec =
     tie.close
     (tie.spec
-    read-active-requires
-    good-claim-requires
+    (search needs)
+    (search needs)
     returns
-    is-sound-requires
+    (search needs)
     returns-2
     start-requires
     shows-requires
     returns-3
     add-t9
-    word-requires
+    (search needs)
     add-t13
     returns-4)

@@ -14,26 +14,8 @@ length-fits c = search needs
 id-fits : (c : tie.Start) → SFits w32 (c .args .claim .«term_id»)
 id-fits c = search needs
 
-word4-requires : tie.Need-word4-requires
-word4-requires c κs = search needs
-
-word-requires : tie.Need-word-requires
-word-requires c κs = search needs
-
-sub-if1 : tie.Need-sub-if1
-sub-if1 c = search needs
-
 returns : tie.Need-returns
 returns c = let s = c .before .before .before .before .before in differs (s .args .log .now) (s .args .at) (s .args .claim) (c .before .before .before .word4 .result) (c .before .word .result) (c .before .before .before .word4 .ensures .0) (word-by _ (c .before .word .ensures .0) (length-fits s)) (c .if1 .taken)
-
-add-word4 : tie.Need-add-word4
-add-word4 c = search needs
-
-word4-requires-2 : tie.Need-word4-requires-2
-word4-requires-2 c κs = search needs
-
-word-requires-2 : tie.Need-word-requires-2
-word-requires-2 c κs = search needs
 
 returns-2 : tie.Need-returns-2
 returns-2 c = let s = c .before .before .before .before .before .before .before .before in agrees (s .args .log .now) (s .args .at) (s .args .claim) (c .before .before .before .before .before .before .word4 .result) (c .before .before .before .before .word .result) (c .before .before .before .before .before .before .word4 .ensures .0) (word-by _ (c .before .before .before .before .word .ensures .0) (length-fits s)) (c .before .before .before .if1 .left) (c .before .before .word42 .result) (c .word2 .result) (c .before .before .word42 .ensures .0) (word-by _ (c .word2 .ensures .0) (id-fits s))
@@ -42,11 +24,11 @@ pub shows-spec : {M : Type 1} → statement M
 shows-spec =
     tie.close
     (tie.spec
-    word4-requires
-    word-requires
-    sub-if1
+    (search needs)
+    (search needs)
+    (search needs)
     returns
-    add-word4
-    word4-requires-2
-    word-requires-2
+    (search needs)
+    (search needs)
+    (search needs)
     returns-2)

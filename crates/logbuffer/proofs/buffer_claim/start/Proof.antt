@@ -17,14 +17,8 @@ partition-fits c = search needs
 offset-fits : (c : tie.Start) → SFits w32 (c .args .claim .offset)
 offset-fits c = search needs
 
-word-requires : tie.Need-word-requires
-word-requires c κs = search needs
-
 mul-result : tie.Need-mul-result
 mul-result c = record { fits = start-small (c .before .word .result) (c .before .before .before .args .v .term) 0 (c .before .word .ensures .1) (c .before .before .before .pre) (omega arith) .0 }
-
-word-requires-2 : tie.Need-word-requires-2
-word-requires-2 c κs = search needs
 
 add-result : tie.Need-add-result
 add-result c = record { fits = start-small (c .before .before .before .word .result) (c .before .before .before .before .before .args .v .term) (c .word2 .result) (c .before .before .before .word .ensures .1) (c .before .before .before .before .before .pre) (c .word2 .ensures .1) .1 }
@@ -33,4 +27,4 @@ returns : tie.Need-returns
 returns c = let s = c .before .before .before .before .before in ap₂ (λ (a b : ℕ). a * s .args .v .term + b) (word-by _ (c .before .before .before .word .ensures .0) (partition-fits s)) (word-by _ (c .word2 .ensures .0) (offset-fits s))
 
 pub start-spec : {M : Type 1} → statement M
-start-spec = tie.close (tie.spec word-requires mul-result word-requires-2 add-result returns)
+start-spec = tie.close (tie.spec (search needs) mul-result (search needs) add-result returns)

@@ -10,20 +10,11 @@ use Rattle.logbuffer.proofs.field.put2.Tie as tie
 cast-log : tie.Need-cast-log
 cast-log c = fits-low8 (c .args .n)
 
-slice-write-log : tie.Need-slice-write-log
-slice-write-log c = search needs
-
 cast-log-2 : tie.Need-cast-log-2
 cast-log-2 c = fits-low8 (c .args .n / 256)
 
-add-log : tie.Need-add-log
-add-log c = search needs
-
 slice-write-log-2 : tie.Need-slice-write-log-2
 slice-write-log-2 c = simp length-set (omega arith)
-
-same-length : tie.Need-same-length
-same-length c = search needs
 
 returns : tie.Need-returns
 returns c = two (c .args .log .now) (c .args .at) (c .args .n) (c .pre)
@@ -31,4 +22,4 @@ returns c = two (c .args .log .now) (c .args .at) (c .args .n) (c .pre)
 pub put2-spec : {M : Type 1} → statement M
 put2-spec =
     tie.close
-    (tie.spec cast-log slice-write-log cast-log-2 add-log slice-write-log-2 same-length returns)
+    (tie.spec cast-log (search needs) cast-log-2 (search needs) slice-write-log-2 (search needs) returns)

@@ -10,14 +10,8 @@ use Rattle.logbuffer.proofs.field.put4.Tie as tie
 cast-log : tie.Need-cast-log
 cast-log c = fits-low8 (c .args .n)
 
-slice-write-log : tie.Need-slice-write-log
-slice-write-log c = search needs
-
 cast-log-2 : tie.Need-cast-log-2
 cast-log-2 c = fits-low8 (c .args .n / 256)
-
-add-log : tie.Need-add-log
-add-log c = search needs
 
 slice-write-log-2 : tie.Need-slice-write-log-2
 slice-write-log-2 c = simp length-set (omega arith)
@@ -25,23 +19,14 @@ slice-write-log-2 c = simp length-set (omega arith)
 cast-log-3 : tie.Need-cast-log-3
 cast-log-3 c = fits-low8 (c .args .n / 65536)
 
-add-log-2 : tie.Need-add-log-2
-add-log-2 c = search needs
-
 slice-write-log-3 : tie.Need-slice-write-log-3
 slice-write-log-3 c = simp length-set (omega arith)
 
 cast-log-4 : tie.Need-cast-log-4
 cast-log-4 c = fits-low8 (c .args .n / 16777216)
 
-add-log-3 : tie.Need-add-log-3
-add-log-3 c = search needs
-
 slice-write-log-4 : tie.Need-slice-write-log-4
 slice-write-log-4 c = simp length-set (omega arith)
-
-same-length : tie.Need-same-length
-same-length c = search needs
 
 returns : tie.Need-returns
 returns c = four (c .args .log .now) (c .args .at) (c .args .n) (c .pre)
@@ -51,15 +36,15 @@ put4-spec =
     tie.close
     (tie.spec
     cast-log
-    slice-write-log
+    (search needs)
     cast-log-2
-    add-log
+    (search needs)
     slice-write-log-2
     cast-log-3
-    add-log-2
+    (search needs)
     slice-write-log-3
     cast-log-4
-    add-log-3
+    (search needs)
     slice-write-log-4
-    same-length
+    (search needs)
     returns)

@@ -45,23 +45,11 @@ at c h =
       below = placed (a .p .read) (length (a .log .now)) (a .p .partition) (a .p .offset) (i .0) (g .1) .below;
     }
 
-good-assembly-requires : tie.Need-good-assembly-requires
-good-assembly-requires c κs = search needs
-
-first-rows-requires : tie.Need-first-rows-requires
-first-rows-requires c κs = search needs
-
-enum-known-e : tie.Need-enum-known-e
-enum-known-e c = search needs
-
 returns : tie.Need-returns
 returns c =
     let q = c .before .before .before in
     let a = st q .args in
     verdict-refused (a .p .read) (a .log .now) (a .lent) (a .p .partition) (a .p .offset) (rows q ∙ c .before .e .given .1)
-
-enum-told : tie.Need-enum-told
-enum-told c = search needs
 
 mul-word4 : tie.Need-mul-word4
 mul-word4 c = record { fits = omega (arith, at (c .before .before .before) (c .before .enum-told .given .1) .near) }
@@ -75,9 +63,6 @@ word4-requires c κs = at (c .before .before .before .before) (c .before .before
 sub-unsound-length : tie.Need-sub-unsound-length
 sub-unsound-length c =
     omega (arith, at (c .before .before .before .before .before .before) (c .before .before .before .before .enum-told .given .1) .below)
-
-unsound-length-requires : tie.Need-unsound-length-requires
-unsound-length-requires c κs = search needs
 
 -- row 17 by the length word that was read
 abbrev asked : tie.After-first-rows → ℕ → Bool
@@ -101,15 +86,15 @@ pub assemble-verdict-spec : {M : Type 1} → statement M
 assemble-verdict-spec =
     tie.close
     (tie.spec
-    good-assembly-requires
-    first-rows-requires
-    enum-known-e
+    (search needs)
+    (search needs)
+    (search needs)
     returns
-    enum-told
+    (search needs)
     mul-word4
     add-word4
     word4-requires
     sub-unsound-length
-    unsound-length-requires
+    (search needs)
     returns-2
     returns-3)

@@ -18,9 +18,6 @@ returns-2 : tie.Need-returns-2
 returns-2 c =
     let a = c .before .before .args in more-none (a .k) (a .entered) (a .from) (a .n) (a .part) (a .ends) (omega arith) (omega arith)
 
-too-long-requires : tie.Need-too-long-requires
-too-long-requires c κs = search needs
-
 returns-3 : tie.Need-returns-3
 returns-3 c =
     let a = c .before .before .before .before .args in
@@ -41,4 +38,4 @@ returns-5 c =
 
 pub continued-spec : {M : Type 1} → statement M
 continued-spec =
-    tie.close (tie.spec returns returns-2 too-long-requires returns-3 returns-4 returns-5)
+    tie.close (tie.spec returns returns-2 (search needs) returns-3 returns-4 returns-5)

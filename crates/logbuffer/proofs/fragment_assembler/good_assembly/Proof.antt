@@ -11,9 +11,6 @@ returns : tie.Need-returns
 returns c =
     let a = c .before .before .args in assembly-lent (a .p .read) (a .log .now) (a .lent) (a .p .partition) (a .p .offset) (c .if1 .taken)
 
-good-place-requires : tie.Need-good-place-requires
-good-place-requires c κs = search needs
-
 returns-2 : tie.Need-returns-2
 returns-2 c =
     let a = c .before .before .before .before .args in assembly-place (a .p .read) (a .log .now) (a .lent) (a .p .partition) (a .p .offset) (c .before .before .if1 .left) (sym (c .before .good-place .ensures) ∙ not-true _ (c .if2 .taken))
@@ -26,9 +23,6 @@ add-good-frame : tie.Need-add-good-frame
 add-good-frame c =
     let a = c .before .before .before .before .before .before .args in record { fits = omega (arith, place-near (a .p .read) (a .log .now) (a .lent) (a .p .partition) (a .p .offset) (sym (c .before .before .before .good-place .ensures) ∙ not-false _ (c .before .before .if2 .left))) }
 
-good-frame-requires : tie.Need-good-frame-requires
-good-frame-requires c κs = search needs
-
 returns-3 : tie.Need-returns-3
 returns-3 c =
     let a = c .before .before .before .before .before .before .before .args in c .good-frame .ensures ∙ assembly-frame (a .p .read) (a .log .now) (a .lent) (a .p .partition) (a .p .offset) (c .before .before .before .before .before .if1 .left) (sym (c .before .before .before .before .good-place .ensures) ∙ not-false _ (c .before .before .before .if2 .left))
@@ -38,9 +32,9 @@ good-assembly-spec =
     tie.close
     (tie.spec
     returns
-    good-place-requires
+    (search needs)
     returns-2
     mul-good-frame
     add-good-frame
-    good-frame-requires
+    (search needs)
     returns-3)

@@ -18,9 +18,6 @@ returns-2 : tie.Need-returns-2
 returns-2 c =
     let a = c .before .before .before .args in frame-short (a .log .now) (a .at) (omega arith)
 
-word4-requires : tie.Need-word4-requires
-word4-requires c κs = search needs
-
 returns-3 : tie.Need-returns-3
 returns-3 c =
     let a = c .before .before .before .before .before .args in
@@ -35,4 +32,4 @@ returns-4 c =
     ∙ ap (λ (x : ℕ). ltb 0 x && ltb x 2147483648) (w .ensures .0) ∙ frame-long (a .log .now) (a .at) (omega arith)
 
 pub good-frame-spec : {M : Type 1} → statement M
-good-frame-spec = tie.close (tie.spec returns returns-2 word4-requires returns-3 returns-4)
+good-frame-spec = tie.close (tie.spec returns returns-2 (search needs) returns-3 returns-4)

@@ -7,15 +7,6 @@ use borrow.Author.Needs.{needs}
 use Rattle.logbuffer.proofs.fragment_assembler.held_at.Statement.{statement}
 use Rattle.logbuffer.proofs.fragment_assembler.held_at.Tie as tie
 
-mul-result : tie.Need-mul-result
-mul-result c = search needs
-
-element-copy-out-result : tie.Need-element-copy-out-result
-element-copy-out-result c = search needs
-
-returns : tie.Need-returns
-returns c = search needs
-
 returns-2 : tie.Need-returns-2
 returns-2 c =
     let a = c .before .args .t1 in
@@ -23,4 +14,4 @@ returns-2 c =
     sym (List·getD-eq-default (a .held) 0 (omega arith))
 
 pub held-at-spec : {M : Type 1} → statement M
-held-at-spec = tie.close (tie.spec mul-result element-copy-out-result returns returns-2)
+held-at-spec = tie.close (tie.spec (search needs) (search needs) (search needs) returns-2)

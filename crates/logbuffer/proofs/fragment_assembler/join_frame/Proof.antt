@@ -51,54 +51,9 @@ fits c x e = subst (Fit (w c - 32) (part c)) (sym (joins c) ∙ e) (join-fits (s
 body-in : (c : tie.After-joining) → st c .args .place + 32 + (w c - 32) ≤ length (st c .args .log .now)
 body-in c = omega (arith, st c .pre, c .before .before .before .before .word4 .ensures .0)
 
-word4-requires : tie.Need-word4-requires
-word4-requires c κs = search needs
-
-sub-n : tie.Need-sub-n
-sub-n c = search needs
-
-add-word4 : tie.Need-add-word4
-add-word4 c = search needs
-
-word4-requires-2 : tie.Need-word4-requires-2
-word4-requires-2 c κs = search needs
-
-to-i32-requires : tie.Need-to-i32-requires
-to-i32-requires c κs = search needs
-
-add-byte : tie.Need-add-byte
-add-byte c = search needs
-
-byte-requires : tie.Need-byte-requires
-byte-requires c κs = search needs
-
-joining-requires : tie.Need-joining-requires
-joining-requires c κs = search needs
-
-enum-told : tie.Need-enum-told
-enum-told c = search needs
-
-add-t19 : tie.Need-add-t19
-add-t19 c = search needs
-
-enum-told-2 : tie.Need-enum-told-2
-enum-told-2 c = search needs
-
-enum-told-3 : tie.Need-enum-told-3
-enum-told-3 c = search needs
-
-enum-known-k : tie.Need-enum-known-k
-enum-known-k c = search needs
-
 holding-requires : tie.Need-holding-requires
 holding-requires c κs =
     fits (c .before .before .before) (TooLong (c .before .k .given .0 .0)) (c .before .k .given .1)
-
-enum-known-k-2 : tie.Need-enum-known-k-2
-enum-known-k-2 c = search needs
-
-add-append : tie.Need-add-append
-add-append c = search needs
 
 append-requires : tie.Need-append-requires
 append-requires c κs =
@@ -111,12 +66,6 @@ add-holding c =
 holding-requires-2 : tie.Need-holding-requires-2
 holding-requires-2 c κs =
     fits (c .before .before .before .before .before .before .before) (Join (c .before .before .before .before .before .k2 .given .0 .0) (c .before .before .before .before .before .k2 .given .0 .1 .0)) (c .before .before .before .before .before .k2 .given .1) .0
-
-enum-known-k-3 : tie.Need-enum-known-k-3
-enum-known-k-3 c = search needs
-
-add-append-2 : tie.Need-add-append-2
-add-append-2 c = search needs
 
 append-requires-2 : tie.Need-append-requires-2
 append-requires-2 c κs =
@@ -151,16 +100,10 @@ returns-4 c =
     let t = three _ _ (does (c .before .before .before .before) (TooLong (c .before .before .k .given .0 .0)) (c .before .before .k .given .1)) in
     ((t .0 .0, c .holding .ensures ∙ t .0 .1), t .1)
 
-same-length : tie.Need-same-length
-same-length c = search needs
-
 returns-5 : tie.Need-returns-5
 returns-5 c =
     let t = three _ _ (does (c .before .before .before .before .before .before .before .before) (Join (c .before .before .before .before .before .before .k2 .given .0 .0) (c .before .before .before .before .before .before .k2 .given .0 .1 .0)) (c .before .before .before .before .before .before .k2 .given .1)) in
     ((t .0 .0, c .holding2 .ensures ∙ t .0 .1), c .before .before .before .append .ensures ∙ t .1)
-
-same-length-2 : tie.Need-same-length-2
-same-length-2 c = search needs
 
 returns-6 : tie.Need-returns-6
 returns-6 c =
@@ -171,27 +114,27 @@ pub join-frame-spec : {M : Type 1} → statement M
 join-frame-spec =
     tie.close
     (tie.spec
-    word4-requires
-    sub-n
-    add-word4
-    word4-requires-2
-    to-i32-requires
-    add-byte
-    byte-requires
-    joining-requires
-    enum-told
-    add-t19
-    enum-told-2
-    enum-told-3
-    enum-known-k
+    (search needs)
+    (search needs)
+    (search needs)
+    (search needs)
+    (search needs)
+    (search needs)
+    (search needs)
+    (search needs)
+    (search needs)
+    (search needs)
+    (search needs)
+    (search needs)
+    (search needs)
     holding-requires
-    enum-known-k-2
-    add-append
+    (search needs)
+    (search needs)
     append-requires
     add-holding
     holding-requires-2
-    enum-known-k-3
-    add-append-2
+    (search needs)
+    (search needs)
     append-requires-2
     holding-requires-3
     mul-t36
@@ -200,7 +143,7 @@ join-frame-spec =
     returns-2
     returns-3
     returns-4
-    same-length
+    (search needs)
     returns-5
-    same-length-2
+    (search needs)
     returns-6)

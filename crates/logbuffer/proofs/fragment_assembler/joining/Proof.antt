@@ -16,30 +16,12 @@ returns c =
     let a = c .before .before .args in
     join-through (sessionsOf (a .a)) (a .session) (a .flags) (a .n) (a .part) (c .before .if1 .taken) (c .if2 .taken)
 
-place-requires : tie.Need-place-requires
-place-requires c κs = search needs
-
-begun-requires : tie.Need-begun-requires
-begun-requires c κs = search needs
-
 returns-2 : tie.Need-returns-2
 returns-2 c =
     let a = c .before .before .before .before .args in
     let k = c .before .place .ensures .0 ∙ ap (placeOf (sessionsOf (a .a))) (toZ-ofZ (c .before .before .before .before .fits .session)) in
     c .begun .ensures ∙ ap (λ (k : ℕ). Begun k (a .n) (a .part)) k
     ∙ join-begun (sessionsOf (a .a)) (a .session) (a .flags) (a .n) (a .part) (c .before .before .before .if1 .taken) (c .before .before .if2 .left)
-
-place-requires-2 : tie.Need-place-requires-2
-place-requires-2 c κs = search needs
-
-entered-requires : tie.Need-entered-requires
-entered-requires c κs = search needs
-
-held-at-requires : tie.Need-held-at-requires
-held-at-requires c κs = search needs
-
-continued-requires : tie.Need-continued-requires
-continued-requires c κs = search needs
 
 returns-3 : tie.Need-returns-3
 returns-3 c =
@@ -55,11 +37,11 @@ joining-spec =
     tie.close
     (tie.spec
     returns
-    place-requires
-    begun-requires
+    (search needs)
+    (search needs)
     returns-2
-    place-requires-2
-    entered-requires
-    held-at-requires
-    continued-requires
+    (search needs)
+    (search needs)
+    (search needs)
+    (search needs)
     returns-3)

@@ -12,15 +12,9 @@ returns : tie.Need-returns
 returns c =
     let a = c .before .args in ap (λ (x : Bool). x || ltb (a .room) (align (a .n))) (sym (lt-ltb (a .n) 32 (c .if1 .taken)))
 
-add-result : tie.Need-add-result
-add-result c = search needs
-
-mul-result : tie.Need-mul-result
-mul-result c = search needs
-
 returns-2 : tie.Need-returns-2
 returns-2 c =
     let a = c .before .args in ap (λ (x : Bool). x || ltb (a .room) (align (a .n))) (sym (le-ltb (a .n) 32 (c .if1 .left)))
 
 pub unsound-length-spec : {M : Type 1} → statement M
-unsound-length-spec = tie.close (tie.spec returns add-result mul-result returns-2)
+unsound-length-spec = tie.close (tie.spec returns (search needs) (search needs) returns-2)

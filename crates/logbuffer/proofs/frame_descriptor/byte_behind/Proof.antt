@@ -10,17 +10,8 @@ use Rattle.logbuffer.proofs.frame_descriptor.byte_behind.Tie as tie
 returns : tie.Need-returns
 returns c = let a = c .before .before .args in (sym (behind-none (a .log .now) (a .at) (a .i) (omega arith)), omega arith)
 
-sub-if2 : tie.Need-sub-if2
-sub-if2 c = search needs
-
 returns-2 : tie.Need-returns-2
 returns-2 c = let a = c .before .before .before .args in (sym (behind-none (a .log .now) (a .at) (a .i) (omega arith)), omega arith)
-
-add-byte : tie.Need-add-byte
-add-byte c = search needs
-
-byte-requires : tie.Need-byte-requires
-byte-requires c κs = search needs
 
 returns-3 : tie.Need-returns-3
 returns-3 c =
@@ -28,4 +19,4 @@ returns-3 c =
     (c .byte .ensures .0 ∙ sym (getD-drop (a .at) (a .log .now) (a .i) 0), c .byte .ensures .1)
 
 pub byte-behind-spec : {M : Type 1} → statement M
-byte-behind-spec = tie.close (tie.spec returns sub-if2 returns-2 add-byte byte-requires returns-3)
+byte-behind-spec = tie.close (tie.spec returns (search needs) returns-2 (search needs) (search needs) returns-3)

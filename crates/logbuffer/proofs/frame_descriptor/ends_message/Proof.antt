@@ -6,14 +6,8 @@ use Rattle.model.specs.FrameDescriptor.{ends}
 use Rattle.logbuffer.proofs.frame_descriptor.ends_message.Statement.{statement}
 use Rattle.logbuffer.proofs.frame_descriptor.ends_message.Tie as tie
 
-add-byte : tie.Need-add-byte
-add-byte c = search needs
-
-byte-requires : tie.Need-byte-requires
-byte-requires c κs = search needs
-
 returns : tie.Need-returns
 returns c = let a = c .before .before .args in ap ends (c .byte .ensures .0 ∙ sym (getD-drop (a .at) (a .log .now) 5 0))
 
 pub ends-message-spec : {M : Type 1} → statement M
-ends-message-spec = tie.close (tie.spec add-byte byte-requires returns)
+ends-message-spec = tie.close (tie.spec (search needs) (search needs) returns)

@@ -13,24 +13,6 @@ use Rattle.logbuffer.proofs.Signs.{back32}
 use Rattle.logbuffer.proofs.frame_descriptor.frame_at.Statement.{statement}
 use Rattle.logbuffer.proofs.frame_descriptor.frame_at.Tie as tie
 
-length-word-requires : tie.Need-length-word-requires
-length-word-requires c κs = search needs
-
-to-i32-requires : tie.Need-to-i32-requires
-to-i32-requires c κs = search needs
-
-frame-length-requires : tie.Need-frame-length-requires
-frame-length-requires c κs = search needs
-
-enum-told : tie.Need-enum-told
-enum-told c = search needs
-
-enum-told-2 : tie.Need-enum-told-2
-enum-told-2 c = search needs
-
-enum-known-n : tie.Need-enum-known-n
-enum-known-n c = search needs
-
 -- the length was read by its sign
 abbrev start : tie.After-frame-length → tie.Start
 start c = c .before .before .before .before
@@ -57,9 +39,6 @@ mul-if2 c = omega (arith, finished-word _ _ (is (c .before)))
 returns-2 : tie.Need-returns-2
 returns-2 c = frame-long (from (c .before .before .before .before .before)) _ _ (is (c .before .before)) (c .before .if1 .left) (c .if2 .taken)
 
-frame-type-requires : tie.Need-frame-type-requires
-frame-type-requires c κs = search needs
-
 returns-3 : tie.Need-returns-3
 returns-3 c = frame-absent (from (c .before .before)) _ Free (sym (told (c .before .before)) ∙ c .enum-told .given .1) refl
 
@@ -76,17 +55,17 @@ pub frame-at-spec : {M : Type 1} → statement M
 frame-at-spec =
     tie.close
     (tie.spec
-    length-word-requires
-    to-i32-requires
-    frame-length-requires
-    enum-told
-    enum-told-2
-    enum-known-n
+    (search needs)
+    (search needs)
+    (search needs)
+    (search needs)
+    (search needs)
+    (search needs)
     returns
     add-if2
     mul-if2
     returns-2
-    frame-type-requires
+    (search needs)
     returns-3
     returns-4
     returns-5

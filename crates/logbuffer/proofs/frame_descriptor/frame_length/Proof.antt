@@ -8,9 +8,6 @@ use Rattle.logbuffer.proofs.Signed.{word-by}
 use Rattle.logbuffer.proofs.frame_descriptor.frame_length.Statement.{statement}
 use Rattle.logbuffer.proofs.frame_descriptor.frame_length.Tie as tie
 
-word-requires : tie.Need-word-requires
-word-requires c κs = search needs
-
 returns : tie.Need-returns
 returns c = length-free _ (c .if1 .taken)
 
@@ -21,4 +18,4 @@ returns-3 : tie.Need-returns-3
 returns-3 c = ap Finished (word-by _ (c .before .before .word .ensures .0) (c .before .before .before .fits .length)) ∙ length-finished _ (c .before .if1 .left) (not-negative _ (c .before .before .before .fits .length) (c .if2 .left))
 
 pub frame-length-spec : {M : Type 1} → statement M
-frame-length-spec = tie.close (tie.spec word-requires returns returns-2 returns-3)
+frame-length-spec = tie.close (tie.spec (search needs) returns returns-2 returns-3)

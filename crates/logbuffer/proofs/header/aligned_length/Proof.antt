@@ -19,32 +19,11 @@ below c =
     let e = word-by (s .args .length) (c .before .word .ensures .0) (s .fits .length) in
     ap (λ (x : ℤ). pos 0 -ℤ x) (plain ((4294967296 - c .before .word .result) / 32 * 32) (omega (arith, c .before .word .ensures .1))) ∙ ap (λ (n : ℕ). pos 0 -ℤ pos ((4294967296 - n) / 32 * 32)) e ∙ aligned-below (s .args .length) (s .fits .length) (c .if1 .taken)
 
-word-requires : tie.Need-word-requires
-word-requires c κs = search needs
-
-sub-result : tie.Need-sub-result
-sub-result c = search needs
-
-mul-result : tie.Need-mul-result
-mul-result c = search needs
-
-cast-result : tie.Need-cast-result
-cast-result c = search needs
-
 sub-result-2 : tie.Need-sub-result-2
 sub-result-2 c = asks (below c) (aligned-fits _ (c .before .before .fits .length))
 
 returns : tie.Need-returns
 returns c = lands (below c) (aligned-fits _ (c .before .before .fits .length))
-
-add-result : tie.Need-add-result
-add-result c = search needs
-
-mul-result-2 : tie.Need-mul-result-2
-mul-result-2 c = search needs
-
-cast-result-2 : tie.Need-cast-result-2
-cast-result-2 c = search needs
 
 returns-2 : tie.Need-returns-2
 returns-2 c =
@@ -56,13 +35,13 @@ pub aligned-length-spec : {M : Type 1} → statement M
 aligned-length-spec =
     tie.close
     (tie.spec
-    word-requires
-    sub-result
-    mul-result
-    cast-result
+    (search needs)
+    (search needs)
+    (search needs)
+    (search needs)
     sub-result-2
     returns
-    add-result
-    mul-result-2
-    cast-result-2
+    (search needs)
+    (search needs)
+    (search needs)
     returns-2)

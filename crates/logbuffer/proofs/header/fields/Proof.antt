@@ -47,21 +47,6 @@ by c x h =
     ap (headerBy (fieldsOf (p c .read) (p c .offset) (headerAt (drop (p c .partition * p c .read .term + p c .offset) (a .log .now))))) (sym (rows c ∙ h))
     ∙ header-by (a .rec) (a .log .now) (a .partition) (a .offset) (p c) (p-is c)
 
-place-requires : tie.Need-place-requires
-place-requires c κs = search needs
-
-good-place-requires : tie.Need-good-place-requires
-good-place-requires c κs = search needs
-
-first-rows-requires : tie.Need-first-rows-requires
-first-rows-requires c κs = search needs
-
-enum-known-e : tie.Need-enum-known-e
-enum-known-e c = search needs
-
-enum-told : tie.Need-enum-told
-enum-told c = search needs
-
 mul-index : tie.Need-mul-index
 mul-index c =
     let q = c .before .before .before in record { fits = omega (arith, place q (c .before .enum-told .given .1) .inside, st q .good) }
@@ -88,11 +73,11 @@ pub fields-spec : {M : Type 1} → statement M
 fields-spec =
     tie.close
     (tie.spec
-    place-requires
-    good-place-requires
-    first-rows-requires
-    enum-known-e
-    enum-told
+    (search needs)
+    (search needs)
+    (search needs)
+    (search needs)
+    (search needs)
     mul-index
     add-index
     fields-at-requires

@@ -11,84 +11,6 @@ use Rattle.logbuffer.proofs.HeaderLaws.{field32, field64, past-field, s
 use Rattle.logbuffer.proofs.header.fields_at.Statement.{statement}
 use Rattle.logbuffer.proofs.header.fields_at.Tie as tie
 
-word4-requires : tie.Need-word4-requires
-word4-requires c κs = search needs
-
-to-i32-requires : tie.Need-to-i32-requires
-to-i32-requires c κs = search needs
-
-add-word4 : tie.Need-add-word4
-add-word4 c = search needs
-
-word4-requires-2 : tie.Need-word4-requires-2
-word4-requires-2 c κs = search needs
-
-add-position-past : tie.Need-add-position-past
-add-position-past c = search needs
-
-position-past-requires : tie.Need-position-past-requires
-position-past-requires c κs = search needs
-
-add-version : tie.Need-add-version
-add-version c = search needs
-
-shared-slice-read-version : tie.Need-shared-slice-read-version
-shared-slice-read-version c = search needs
-
-add-flags : tie.Need-add-flags
-add-flags c = search needs
-
-shared-slice-read-flags : tie.Need-shared-slice-read-flags
-shared-slice-read-flags c = search needs
-
-add-half : tie.Need-add-half
-add-half c = search needs
-
-half-requires : tie.Need-half-requires
-half-requires c κs = search needs
-
-cast-t15 : tie.Need-cast-t15
-cast-t15 c = search needs
-
-add-word4-2 : tie.Need-add-word4-2
-add-word4-2 c = search needs
-
-word4-requires-3 : tie.Need-word4-requires-3
-word4-requires-3 c κs = search needs
-
-to-i32-requires-2 : tie.Need-to-i32-requires-2
-to-i32-requires-2 c κs = search needs
-
-add-word4-3 : tie.Need-add-word4-3
-add-word4-3 c = search needs
-
-word4-requires-4 : tie.Need-word4-requires-4
-word4-requires-4 c κs = search needs
-
-to-i32-requires-3 : tie.Need-to-i32-requires-3
-to-i32-requires-3 c κs = search needs
-
-add-word4-4 : tie.Need-add-word4-4
-add-word4-4 c = search needs
-
-word4-requires-5 : tie.Need-word4-requires-5
-word4-requires-5 c κs = search needs
-
-to-i32-requires-4 : tie.Need-to-i32-requires-4
-to-i32-requires-4 c κs = search needs
-
-to-i32-requires-5 : tie.Need-to-i32-requires-5
-to-i32-requires-5 c κs = search needs
-
-add-long8 : tie.Need-add-long8
-add-long8 c = search needs
-
-long8-requires : tie.Need-long8-requires
-long8-requires c κs = search needs
-
-to-i64-requires : tie.Need-to-i64-requires
-to-i64-requires c κs = search needs
-
 returns : tie.Need-returns
 unfolding headerAt
 returns c =
@@ -111,30 +33,30 @@ pub fields-at-spec : {M : Type 1} → statement M
 fields-at-spec =
     tie.close
     (tie.spec
-    word4-requires
-    to-i32-requires
-    add-word4
-    word4-requires-2
-    add-position-past
-    position-past-requires
-    add-version
-    shared-slice-read-version
-    add-flags
-    shared-slice-read-flags
-    add-half
-    half-requires
-    cast-t15
-    add-word4-2
-    word4-requires-3
-    to-i32-requires-2
-    add-word4-3
-    word4-requires-4
-    to-i32-requires-3
-    add-word4-4
-    word4-requires-5
-    to-i32-requires-4
-    to-i32-requires-5
-    add-long8
-    long8-requires
-    to-i64-requires
+    (search needs)
+    (search needs)
+    (search needs)
+    (search needs)
+    (search needs)
+    (search needs)
+    (search needs)
+    (search needs)
+    (search needs)
+    (search needs)
+    (search needs)
+    (search needs)
+    (search needs)
+    (search needs)
+    (search needs)
+    (search needs)
+    (search needs)
+    (search needs)
+    (search needs)
+    (search needs)
+    (search needs)
+    (search needs)
+    (search needs)
+    (search needs)
+    (search needs)
+    (search needs)
     returns)

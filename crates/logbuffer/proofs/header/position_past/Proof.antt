@@ -8,35 +8,20 @@ use Rattle.logbuffer.proofs.Past.{gap-asks, start-asks, here-asks, past
 use Rattle.logbuffer.proofs.header.position_past.Statement.{statement}
 use Rattle.logbuffer.proofs.header.position_past.Tie as tie
 
-cast-start : tie.Need-cast-start
-cast-start c = search needs
-
-cast-start-2 : tie.Need-cast-start-2
-cast-start-2 c = search needs
-
 sub-start : tie.Need-sub-start
 sub-start c =
     let a = c .args in
     gap-asks (a .id) (a .initial) (a .term) (a .at) (a .length) (omega arith) (omega arith) (omega arith) (omega arith) (c .fits .length)
-
-cast-start-3 : tie.Need-cast-start-3
-cast-start-3 c = search needs
 
 mul-start : tie.Need-mul-start
 mul-start c =
     let a = c .args in
     start-asks (a .id) (a .initial) (a .term) (a .at) (a .length) (omega arith) (omega arith) (omega arith) (omega arith) (c .fits .length)
 
-cast-result : tie.Need-cast-result
-cast-result c = search needs
-
 add-result : tie.Need-add-result
 add-result c =
     let a = c .args in
     here-asks (a .id) (a .initial) (a .term) (a .at) (a .length) (omega arith) (omega arith) (omega arith) (omega arith) (c .fits .length)
-
-aligned-length-requires : tie.Need-aligned-length-requires
-aligned-length-requires c κs = search needs
 
 add-result-2 : tie.Need-add-result-2
 add-result-2 c =
@@ -52,13 +37,13 @@ pub position-past-spec : {M : Type 1} → statement M
 position-past-spec =
     tie.close
     (tie.spec
-    cast-start
-    cast-start-2
+    (search needs)
+    (search needs)
     sub-start
-    cast-start-3
+    (search needs)
     mul-start
-    cast-result
+    (search needs)
     add-result
-    aligned-length-requires
+    (search needs)
     add-result-2
     returns)

@@ -6,17 +6,8 @@ use Rattle.model.specs.TermAppender.{padded}
 use Rattle.logbuffer.proofs.header.write_padding.Statement.{statement}
 use Rattle.logbuffer.proofs.header.write_padding.Tie as tie
 
-add-write-header : tie.Need-add-write-header
-add-write-header c = search needs
-
-sub-write-header : tie.Need-sub-write-header
-sub-write-header c = search needs
-
 write-header-requires : tie.Need-write-header-requires
 write-header-requires c κs = let s = c .before .before .before in let h = s .pre .1 .1 (omega arith) in omega arith
-
-same-length : tie.Need-same-length
-same-length c = search needs
 
 returns : tie.Need-returns
 unfolding padded
@@ -30,9 +21,9 @@ pub write-padding-spec : {M : Type 1} → statement M
 write-padding-spec =
     tie.close
     (tie.spec
-    add-write-header
-    sub-write-header
+    (search needs)
+    (search needs)
     write-header-requires
-    same-length
+    (search needs)
     returns
     returns-2)

@@ -50,17 +50,8 @@ cast-t8 c = asks (toZ-ofZ (c .before .fits .initial)) (sfits-widen tt (c .before
 sub-t9 : tie.Need-sub-t9
 sub-t9 c = asks (difference c) (difference-fits (c .before .args .term-id) (c .before .args .initial) (c .before .fits .term-id) (c .before .fits .initial))
 
-cast-t10 : tie.Need-cast-t10
-cast-t10 c = search needs
-
-shl-t11 : tie.Need-shl-t11
-shl-t11 c = search needs
-
 mul-t12 : tie.Need-mul-t12
 mul-t12 c = asks (product c) (product-fit c)
-
-cast-t13 : tie.Need-cast-t13
-cast-t13 c = search needs
 
 add-t14 : tie.Need-add-t14
 add-t14 c = asks (ap₂ (λ (a b : ℤ). a +ℤ b) (lands (product c) (product-fit c)) (low c)) (sum-fit c)
@@ -72,4 +63,4 @@ returns-2 c = simp (le-ltb 30 (c .before .args .bits) (c .if1 .left)) (ap Positi
 pub compute-position-spec : {M : Type 1} → statement M
 compute-position-spec =
     tie.close
-    (tie.spec returns cast-t7 cast-t8 sub-t9 cast-t10 shl-t11 mul-t12 cast-t13 add-t14 returns-2)
+    (tie.spec returns cast-t7 cast-t8 sub-t9 (search needs) (search needs) mul-t12 (search needs) add-t14 returns-2)

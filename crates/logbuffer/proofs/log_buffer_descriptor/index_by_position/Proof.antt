@@ -15,11 +15,5 @@ returns c = let s = c .before in
     let small : s .args .position < 2 ^ s .args .bits = omega arith in
     sym (ap (λ (x : ℕ). x % 3) (div-eq-of-lt small))
 
-shr-result : tie.Need-shr-result
-shr-result c = search needs
-
-returns-2 : tie.Need-returns-2
-returns-2 c = search needs
-
 pub index-by-position-spec : {M : Type 1} → statement M
-index-by-position-spec = tie.close (tie.spec returns shr-result returns-2)
+index-by-position-spec = tie.close (tie.spec returns (search needs) (search needs))

@@ -7,9 +7,6 @@ use Rattle.model.proofs.SoundRecord.{sound-length, unsound-length, sound-record
 use Rattle.logbuffer.proofs.log_buffer_descriptor.is_sound.Statement.{statement}
 use Rattle.logbuffer.proofs.log_buffer_descriptor.is_sound.Tie as tie
 
-is-sound-record-requires : tie.Need-is-sound-record-requires
-is-sound-record-requires c κs = search needs
-
 returns : tie.Need-returns
 returns c = unsound-length _ _ (sym (c .before .is-sound-record .ensures) ∙ not-true _ (c .if1 .taken))
 
@@ -20,4 +17,4 @@ returns-2 : tie.Need-returns-2
 returns-2 c = sound-length _ _ (sym (c .before .before .is-sound-record .ensures) ∙ not-false _ (c .before .if1 .left))
 
 pub is-sound-spec : {M : Type 1} → statement M
-is-sound-spec = tie.close (tie.spec is-sound-record-requires returns mul-result returns-2)
+is-sound-spec = tie.close (tie.spec (search needs) returns mul-result returns-2)

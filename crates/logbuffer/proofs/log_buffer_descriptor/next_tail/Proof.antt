@@ -9,20 +9,8 @@ use Rattle.model.proofs.Rotate.{next-set, next-kept}
 use Rattle.logbuffer.proofs.log_buffer_descriptor.next_tail.Statement.{statement}
 use Rattle.logbuffer.proofs.log_buffer_descriptor.next_tail.Tie as tie
 
-add-k : tie.Need-add-k
-add-k c = search needs
-
-read-requires : tie.Need-read-requires
-read-requires c κs = search needs
-
 add-if1 : tie.Need-add-if1
 add-if1 c = let b : c .before .read .result .id < 4294967296 = subst (λ (x : Reading). x .id < 4294967296) (sym (c .before .read .ensures)) (id-small _ _) in omega arith
-
-add-with-tail : tie.Need-add-with-tail
-add-with-tail c = search needs
-
-with-tail-requires : tie.Need-with-tail-requires
-with-tail-requires c κs = search needs
 
 returns : tie.Need-returns
 returns c = let s = c .before .before .before .before .args in
@@ -35,4 +23,4 @@ returns-2 c = let s = c .before .before .before .args in
 pub next-tail-spec : {M : Type 1} → statement M
 next-tail-spec =
     tie.close
-    (tie.spec add-k read-requires add-if1 add-with-tail with-tail-requires returns returns-2)
+    (tie.spec (search needs) (search needs) add-if1 (search needs) (search needs) returns returns-2)

@@ -43,32 +43,8 @@ module _ (c : tie.After-rotate-verdict) where
   low : c .rotate-verdict .result ≡ Pass → k < 2147483647
   low e = rotate-passed (c .before .read-active .result) k t (sym (c .rotate-verdict .ensures) ∙ e)
 
-word-requires : tie.Need-word-requires
-word-requires c κs = search needs
-
-word-requires-2 : tie.Need-word-requires-2
-word-requires-2 c κs = search needs
-
-add-term : tie.Need-add-term
-add-term c = search needs
-
-read-active-requires : tie.Need-read-active-requires
-read-active-requires c κs = search needs
-
-rotate-verdict-requires : tie.Need-rotate-verdict-requires
-rotate-verdict-requires c κs = search needs
-
-enum-known-e : tie.Need-enum-known-e
-enum-known-e c = search needs
-
-enum-told : tie.Need-enum-told
-enum-told c = search needs
-
 next-tail-requires : tie.Need-next-tail-requires
 next-tail-requires c κs = let h = low (c .before .before) (c .enum-told .given .1) in omega arith
-
-add-with-count : tie.Need-add-with-count
-add-with-count c = search needs
 
 with-count-requires : tie.Need-with-count-requires
 with-count-requires c κs = let h = low (c .before .before .before .before .before) (c .before .before .before .enum-told .given .1) in omega arith
@@ -89,15 +65,15 @@ pub rotate-log-spec : {M : Type 1} → statement M
 rotate-log-spec =
     tie.close
     (tie.spec
-    word-requires
-    word-requires-2
-    add-term
-    read-active-requires
-    rotate-verdict-requires
-    enum-known-e
-    enum-told
+    (search needs)
+    (search needs)
+    (search needs)
+    (search needs)
+    (search needs)
+    (search needs)
+    (search needs)
     next-tail-requires
-    add-with-count
+    (search needs)
     with-count-requires
     returns
     returns-2

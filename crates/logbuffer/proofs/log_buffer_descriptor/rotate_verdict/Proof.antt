@@ -9,9 +9,6 @@ use Rattle.logbuffer.proofs.log_buffer_descriptor.rotate_verdict.Tie as
 returns : tie.Need-returns
 returns c = rotate-argument _ _ _ (c .if1 .taken)
 
-is-sound-record-requires : tie.Need-is-sound-record-requires
-is-sound-record-requires c κs = search needs
-
 returns-2 : tie.Need-returns-2
 returns-2 c = rotate-record _ _ _ (c .before .before .if1 .left) (sym (c .before .is-sound-record .ensures) ∙ not-true _ (c .if2 .taken))
 
@@ -26,4 +23,4 @@ returns-5 c = rotate-pass _ _ _ (c .before .before .before .before .if1 .left) (
 
 pub rotate-verdict-spec : {M : Type 1} → statement M
 rotate-verdict-spec =
-    tie.close (tie.spec returns is-sound-record-requires returns-2 returns-3 returns-4 returns-5)
+    tie.close (tie.spec returns (search needs) returns-2 returns-3 returns-4 returns-5)

@@ -7,19 +7,10 @@ use lib.IntN.{ℤ, pos}
 use Rattle.logbuffer.proofs.log_buffer_descriptor.tail.Statement.{statement}
 use Rattle.logbuffer.proofs.log_buffer_descriptor.tail.Tie as tie
 
-mul-result : tie.Need-mul-result
-mul-result c = search needs
-
-element-copy-out-result : tie.Need-element-copy-out-result
-element-copy-out-result c = search needs
-
-returns : tie.Need-returns
-returns c = search needs
-
 returns-2 : tie.Need-returns-2
 returns-2 c = let s = c .before in
     let three : length (s .args .t1 .tails) ≡ 3 = sym (length-map (s .args .t1 .tails) (λ (v : ℤ). v)) ∙ s .good .0 .1 .1 .0 .1 .0 .1 in
     sym (List·getD-eq-default (s .args .t1 .tails) (pos 0) (omega arith))
 
 pub tail-spec : {M : Type 1} → statement M
-tail-spec = tie.close (tie.spec mul-result element-copy-out-result returns returns-2)
+tail-spec = tie.close (tie.spec (search needs) (search needs) (λ c. search needs) returns-2)

@@ -11,9 +11,6 @@ use Rattle.model.specs.LogBufferDescriptor.{offsetOf}
 use Rattle.logbuffer.proofs.log_buffer_descriptor.term_offset.Statement.{statement}
 use Rattle.logbuffer.proofs.log_buffer_descriptor.term_offset.Tie as tie
 
-long-requires : tie.Need-long-requires
-long-requires c κs = search needs
-
 returns : tie.Need-returns
 returns c = let s = c .before .before in
     let e : c .before .long .result % 4294967296 ≡ offsetOf (s .args .raw-tail) = ap (λ (x : ℕ). x % 4294967296) (c .before .long .ensures .0 ∙ ap (ofZ w64) (toZ-ofZ (s .fits .raw-tail))) in
@@ -25,4 +22,4 @@ returns-2 c = let s = c .before .before in
     sym (min-eq-right (omega arith))
 
 pub term-offset-spec : {M : Type 1} → statement M
-term-offset-spec = tie.close (tie.spec long-requires returns returns-2)
+term-offset-spec = tie.close (tie.spec (search needs) returns returns-2)

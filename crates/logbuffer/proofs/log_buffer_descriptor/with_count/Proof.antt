@@ -5,12 +5,9 @@ use Rattle.model.specs.LogBufferDescriptor.{changed, withCount}
 use Rattle.logbuffer.proofs.log_buffer_descriptor.with_count.Statement.{statement}
 use Rattle.logbuffer.proofs.log_buffer_descriptor.with_count.Tie as tie
 
-cast-next : tie.Need-cast-next
-cast-next c = search needs
-
 returns : tie.Need-returns
 unfolding withCount changed
 returns c = refl
 
 pub with-count-spec : {M : Type 1} → statement M
-with-count-spec = tie.close (tie.spec cast-next returns)
+with-count-spec = tie.close (tie.spec (search needs) returns)

@@ -9,24 +9,6 @@ use Rattle.model.specs.LogBufferDescriptor.{changed, withTail, rawOf}
 use Rattle.logbuffer.proofs.log_buffer_descriptor.with_tail.Statement.{statement}
 use Rattle.logbuffer.proofs.log_buffer_descriptor.with_tail.Tie as tie
 
-add-to-i64 : tie.Need-add-to-i64
-add-to-i64 c = search needs
-
-mul-to-i64 : tie.Need-mul-to-i64
-mul-to-i64 c = search needs
-
-add-to-i64-2 : tie.Need-add-to-i64-2
-add-to-i64-2 c = search needs
-
-to-i64-requires : tie.Need-to-i64-requires
-to-i64-requires c κs = search needs
-
-mul-t11 : tie.Need-mul-t11
-mul-t11 c = search needs
-
-element-set-from-next : tie.Need-element-set-from-next
-element-set-from-next c = search needs
-
 returns : tie.Need-returns
 unfolding withTail changed rawOf
 returns c = let a = c .before .args in
@@ -36,10 +18,10 @@ pub with-tail-spec : {M : Type 1} → statement M
 with-tail-spec =
     tie.close
     (tie.spec
-    add-to-i64
-    mul-to-i64
-    add-to-i64-2
-    to-i64-requires
-    mul-t11
-    element-set-from-next
+    (search needs)
+    (search needs)
+    (search needs)
+    (search needs)
+    (search needs)
+    (search needs)
     returns)

@@ -18,12 +18,6 @@ fit c = let s = c .before .before .before .before .before .before .before .befor
     fits (s .args .v) (s .args .k) (s .args .log .now) (c .before .before .before .before .begin-append .last .1 .0) (s .args .needed) (s .args .given)
     (sym (c .enum-told .given .1) ∙ c .before .before .before .before .begin-append .ensures .0) (c .before .before .before .before .begin-append .ensures .1) (s .pre .0)
 
-begin-append-requires : tie.Need-begin-append-requires
-begin-append-requires c κs = search needs
-
-enum-told : tie.Need-enum-told
-enum-told c = search needs
-
 mul-write-fragments : tie.Need-mul-write-fragments
 mul-write-fragments c = let f = fit (c .before) in omega (arith, f .1)
 
@@ -31,17 +25,11 @@ write-fragments-requires : tie.Need-write-fragments-requires
 write-fragments-requires c κs = let f = fit (c .before) in let s = c .before .before .before .before .before .before .before .before .before in
     (omega (arith, f .1 .1 .1, ap length (f .0)), (s .pre .1 .0, (omega arith, (s .pre .1 .1 .1 .0, omega (arith, f .1 .1 .0, s .pre .1 .1 .1 .1 .1)))))
 
-same-length : tie.Need-same-length
-same-length c = search needs
-
 returns : tie.Need-returns
 returns c = let s = c .before .before .before .before .before .before .before .before .before .before .before .before .args in
     let f = fit (c .before .before .before .before) in
     let made : List ℕ → List ℕ = λ l. written (s .v) l (s .k * s .v .term) (s .v .offset) (cut (s .payload) (s .reserved) (s .message .now)) in
     (c .before .before .before .before .before .before .before .before .begin-append .ensures .0, c .before .before .write-fragments .ensures ∙ ap made (f .0) ∙ ap (bytesBy (s .v) (s .k) (s .log .now) (made (s .log .now))) (sym (c .before .before .before .before .enum-told .given .1) ∙ c .before .before .before .before .before .before .before .before .begin-append .ensures .0))
-
-same-length-2 : tie.Need-same-length-2
-same-length-2 c = search needs
 
 returns-2 : tie.Need-returns-2
 returns-2 c = let s = c .before .before .before .before .before .before .before .args in
@@ -53,11 +41,11 @@ pub append-spec : {M : Type 1} → statement M
 append-spec =
     tie.close
     (tie.spec
-    begin-append-requires
-    enum-told
+    (search needs)
+    (search needs)
     mul-write-fragments
     write-fragments-requires
-    same-length
+    (search needs)
     returns
-    same-length-2
+    (search needs)
     returns-2)

@@ -25,15 +25,6 @@ limit c = c .word2 .ensures .0 ∙ ap (ofZ w32) (toZ-ofZ (c .before .before .bef
 good : (c : tie.Else1) → Fragments (c .before .before .before .word .result) (length (c .before .before .before .before .before .before .args .message .now)) (c .before .before .word2 .result)
 good c = fragments-true _ _ _ (sym (c .before .good-fragments .ensures) ∙ not-false _ (c .if1 .left))
 
-word-requires : tie.Need-word-requires
-word-requires c κs = search needs
-
-word-requires-2 : tie.Need-word-requires-2
-word-requires-2 c κs = search needs
-
-good-fragments-requires : tie.Need-good-fragments-requires
-good-fragments-requires c κs = search needs
-
 returns : tie.Need-returns
 returns c = let a = c .before .before .before .before .before .before .args in
     fragmented-no (a .rec) (a .log .now) (a .message .now) (a .partition) (a .reserved) (a .payload) (a .term-id)
@@ -41,9 +32,6 @@ returns c = let a = c .before .before .before .before .before .before .args in
 
 append-message-requires : tie.Need-append-message-requires
 append-message-requires c κs = let g = good (c .before) in (g .part, (g .low, (omega (arith, g .high), (g .multiple, g .whole))))
-
-same-length : tie.Need-same-length
-same-length c = search needs
 
 returns-2 : tie.Need-returns-2
 returns-2 c = let s = c .before .before .before .before .before .before .before .before .before .before in
@@ -57,10 +45,10 @@ pub append-fragmented-message-spec : {M : Type 1} → statement M
 append-fragmented-message-spec =
     tie.close
     (tie.spec
-    word-requires
-    word-requires-2
-    good-fragments-requires
+    (search needs)
+    (search needs)
+    (search needs)
     returns
     append-message-requires
-    same-length
+    (search needs)
     returns-2)

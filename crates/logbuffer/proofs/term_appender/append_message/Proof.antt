@@ -24,18 +24,6 @@ id-in c = subst (λ (v : Reading). v .id < 4294967296) (sym (c .read .ensures)) 
 room : (c : tie.After-append) → Room (c .before .before .before .before .before .read .result) (c .before .before .before .before .need-of .result) (c .append .result)
 room c = subst (Room (c .before .before .before .before .before .read .result) (c .before .before .before .before .need-of .result)) (sym (c .append .ensures .0)) (course-room _ _ _ _)
 
-read-requires : tie.Need-read-requires
-read-requires c κs = search needs
-
-need-of-requires : tie.Need-need-of-requires
-need-of-requires c κs = search needs
-
-long-requires : tie.Need-long-requires
-long-requires c κs = search needs
-
-biased-id-requires : tie.Need-biased-id-requires
-biased-id-requires c κs = search needs
-
 append-requires : tie.Need-append-requires
 append-requires c κs = let a = c .before .before .before .before .before .before .before in
     (a .pre .0, (id-in (c .before .before .before .before), (a .pre .1 .0, (a .pre .1 .1 .1 .0, (omega (arith, need-small (a .args .payload) (length (a .args .message .now)) (a .pre .1 .0), c .before .before .before .need-of .ensures), c .before .before .before .need-of .ensures)))))
@@ -46,9 +34,6 @@ moved-requires c κs = (c .before .before .before .before .before .before .befor
 appended-requires : tie.Need-appended-requires
 appended-requires c κs = room (c .before .before .before)
 
-same-length : tie.Need-same-length
-same-length c = search needs
-
 returns : tie.Need-returns
 returns c = let a = c .before .before .before .before .before .before .before .before .before .before .before .before in
     append-is (a .args .rec) (c .before .moved .result) (a .args .log .now) (c .before .before .before .before .append .last .1 .0) (a .args .k) (a .args .payload) (a .args .message .now) (c .before .before .before .before .before .before .long .result) _ (c .before .before .before .before .before .biased-id .result) _ (c .before .before .before .before .before .before .before .before .need-of .result) (c .before .before .before .before .before .before .before .before .before .read .result) (c .before .before .before .before .append .result) (c .appended .result)
@@ -58,12 +43,12 @@ pub append-message-spec : {M : Type 1} → statement M
 append-message-spec =
     tie.close
     (tie.spec
-    read-requires
-    need-of-requires
-    long-requires
-    biased-id-requires
+    (search needs)
+    (search needs)
+    (search needs)
+    (search needs)
     append-requires
     moved-requires
     appended-requires
-    same-length
+    (search needs)
     returns)

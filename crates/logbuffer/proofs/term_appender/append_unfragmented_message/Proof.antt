@@ -22,21 +22,12 @@ part c = c .word .ensures .0 ∙ ap (ofZ w32) (toZ-ofZ (c .before .before .befor
 good : (c : tie.Else1) → (c .before .before .word .result ≤ 2) × (length (c .before .before .before .before .before .args .message .now) ≤ 2147483647)
 good c = message-true _ _ (sym (c .before .good-message .ensures) ∙ not-false _ (c .if1 .left))
 
-word-requires : tie.Need-word-requires
-word-requires c κs = search needs
-
-good-message-requires : tie.Need-good-message-requires
-good-message-requires c κs = search needs
-
 returns : tie.Need-returns
 returns c = let a = c .before .before .before .before .before .args in
     unfragmented-no (a .rec) (a .log .now) (a .message .now) (a .partition) (a .reserved) (a .term-id) (ap (λ (k : ℕ). goodMessage k (length (a .message .now))) (sym (part (c .before .before))) ∙ sym (c .before .good-message .ensures) ∙ not-true _ (c .if1 .taken))
 
 append-message-requires : tie.Need-append-message-requires
 append-message-requires c κs = let g = good (c .before) in omega (arith, g)
-
-same-length : tie.Need-same-length
-same-length c = search needs
 
 returns-2 : tie.Need-returns-2
 returns-2 c = let s = c .before .before .before .before .before .before .before .before .before in
@@ -49,9 +40,9 @@ pub append-unfragmented-message-spec : {M : Type 1} → statement M
 append-unfragmented-message-spec =
     tie.close
     (tie.spec
-    word-requires
-    good-message-requires
+    (search needs)
+    (search needs)
     returns
     append-message-requires
-    same-length
+    (search needs)
     returns-2)

@@ -21,18 +21,12 @@ yes-good c = sym (c .before .good-append .ensures) ∙ not-false _ (c .if1 .left
 good : (c : tie.Else1) → (let a = c .before .before .before .before .args in Goods (a .v) (a .k) (a .payload) (length (a .message .now)))
 good c = append-true _ _ _ _ (yes-good c)
 
-good-append-requires : tie.Need-good-append-requires
-good-append-requires c κs = search needs
-
 returns : tie.Need-returns
 returns c = let a = c .before .before .before .before .args in
     way-no (a .v) (length (a .log .now)) (a .k) (a .payload) (length (a .message .now)) (a .given) (sym (c .before .good-append .ensures) ∙ not-true _ (c .if1 .taken)) _ _ _
 
 need-of-requires : tie.Need-need-of-requires
 need-of-requires c κs = let g = good c in (g .low, (g .high, g .whole))
-
-long-requires : tie.Need-long-requires
-long-requires c κs = search needs
 
 append-requires : tie.Need-append-requires
 append-requires c κs = let g = good (c .before .before .before) in
@@ -43,9 +37,6 @@ append-requires c κs = let g = good (c .before .before .before) in
 way-by-requires : tie.Need-way-by-requires
 way-by-requires c κs = let a = c .before .before .before .before .before .before .before .before .before .before .args in
     (good (c .before .before .before .before .before .before) .id-in, subst (Room (a .v) (c .before .before .before .before .before .need-of .result)) (sym (c .before .before .append .ensures .0)) (course-room _ _ _ _))
-
-same-length : tie.Need-same-length
-same-length c = search needs
 
 returns-2 : tie.Need-returns-2
 returns-2 c = let s = c .before .before .before .before .before .before .before .before .before .before .before in
@@ -58,11 +49,11 @@ pub append-way-spec : {M : Type 1} → statement M
 append-way-spec =
     tie.close
     (tie.spec
-    good-append-requires
+    (search needs)
     returns
     need-of-requires
-    long-requires
+    (search needs)
     append-requires
     way-by-requires
-    same-length
+    (search needs)
     returns-2)

@@ -7,18 +7,6 @@ use Rattle.model.proofs.Append.{Room}
 use Rattle.logbuffer.proofs.term_appender.appended.Statement.{statement}
 use Rattle.logbuffer.proofs.term_appender.appended.Tie as tie
 
-enum-known-way : tie.Need-enum-known-way
-enum-known-way c = search needs
-
-enum-told : tie.Need-enum-told
-enum-told c = search needs
-
-enum-told-2 : tie.Need-enum-told-2
-enum-told-2 c = search needs
-
-enum-told-3 : tie.Need-enum-told-3
-enum-told-3 c = search needs
-
 add-t7 : tie.Need-add-t7
 add-t7 c = let a = c .before .before .before in omega (arith, subst (Room (a .args .v) (a .args .needed)) (c .before .enum-told3 .given .1) (a .pre))
 
@@ -28,9 +16,6 @@ returns c = ap (appendedBy (c .before .before .before .args .v) (c .before .befo
 returns-2 : tie.Need-returns-2
 returns-2 c = ap (appendedBy (c .before .before .args .v) (c .before .before .args .needed)) (sym (c .enum-told .given .1))
 
-returns-3 : tie.Need-returns-3
-returns-3 c = search needs
-
 returns-4 : tie.Need-returns-4
 returns-4 c = ap (appendedBy (c .before .before .before .args .v) (c .before .before .before .args .needed)) (sym (c .before .enum-told3 .given .1))
 
@@ -38,12 +23,12 @@ pub appended-spec : {M : Type 1} → statement M
 appended-spec =
     tie.close
     (tie.spec
-    enum-known-way
-    enum-told
-    enum-told-2
-    enum-told-3
+    (search needs)
+    (search needs)
+    (search needs)
+    (search needs)
     add-t7
     returns
     returns-2
-    returns-3
+    (λ c. search needs)
     returns-4)

@@ -15,12 +15,6 @@ use Rattle.logbuffer.proofs.term_appender.begin_append.Tie as tie
 trips : (c : tie.After-enum-told) → (let s = c .before .before .before .before .args in Goes (s .v) (length (s .log .now)) (s .needed) (s .given) Trip)
 trips c = let s = c .before .before .before .before .args in course-says (s .v) (length (s .log .now)) (s .needed) (s .given) Trip (sym (c .before .before .judge .ensures) ∙ c .enum-told .given .1)
 
-judge-requires : tie.Need-judge-requires
-judge-requires c κs = search needs
-
-enum-told : tie.Need-enum-told
-enum-told c = search needs
-
 mul-write-padding : tie.Need-mul-write-padding
 mul-write-padding c = let s = c .before .before .before .before .before in let w = trips (c .before) in omega (arith, base-in (s .args .k) (s .args .v .term) (s .pre .0), w .0 .sound-so)
 
@@ -29,9 +23,6 @@ write-padding-requires c κs = let s = c .before .before .before .before .before
     let w = trips (c .before) in
     let z = term-32 (s .args .v) _ (w .0 .sound-so) in
     (omega (arith, base-in (s .args .k) (s .args .v .term) (s .pre .0), w .0 .sound-so .three), (s .pre .1 .0, λ h. omega (arith, w .0 .sound-so .offset-32)))
-
-same-length : tie.Need-same-length
-same-length c = search needs
 
 returns : tie.Need-returns
 returns c = let s = c .before .before .before .before .before .before .before .before .args in
@@ -46,10 +37,10 @@ pub begin-append-spec : {M : Type 1} → statement M
 begin-append-spec =
     tie.close
     (tie.spec
-    judge-requires
-    enum-told
+    (search needs)
+    (search needs)
     mul-write-padding
     write-padding-requires
-    same-length
+    (search needs)
     returns
     returns-2)

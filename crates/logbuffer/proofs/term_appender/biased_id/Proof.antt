@@ -8,14 +8,8 @@ use Rattle.model.specs.LogBufferDescriptor.{biased}
 use Rattle.logbuffer.proofs.term_appender.biased_id.Statement.{statement}
 use Rattle.logbuffer.proofs.term_appender.biased_id.Tie as tie
 
-word-requires : tie.Need-word-requires
-word-requires c κs = search needs
-
-add-result : tie.Need-add-result
-add-result c = search needs
-
 returns : tie.Need-returns
 returns c = ap biased (c .word .ensures .0 ∙ ap (ofZ w32) (toZ-ofZ (c .before .fits .id)))
 
 pub biased-id-spec : {M : Type 1} → statement M
-biased-id-spec = tie.close (tie.spec word-requires add-result returns)
+biased-id-spec = tie.close (tie.spec (search needs) (search needs) returns)

@@ -31,33 +31,15 @@ good c = message-true _ _ (sym (c .before .good-message .ensures) ∙ not-false 
 id-in : (c : tie.After-read) → c .read .result .id < 4294967296
 id-in c = subst (λ (v : Reading). v .id < 4294967296) (sym (c .read .ensures)) (id-small _ _)
 
-word-requires : tie.Need-word-requires
-word-requires c κs = search needs
-
-word-requires-2 : tie.Need-word-requires-2
-word-requires-2 c κs = search needs
-
-good-message-requires : tie.Need-good-message-requires
-good-message-requires c κs = search needs
-
 returns : tie.Need-returns
 returns c = let a = c .before .before .before .before .before .args in
     claim-no (a .rec) (a .log .now) (a .partition) (a .length) (a .term-id) (ap₂ (λ (k n : ℕ). goodMessage k n) (sym (part (c .before .before .before))) (sym (asked (c .before .before))) ∙ sym (c .before .good-message .ensures) ∙ not-true _ (c .if1 .taken))
-
-read-requires : tie.Need-read-requires
-read-requires c κs = search needs
-
-biased-id-requires : tie.Need-biased-id-requires
-biased-id-requires c κs = search needs
 
 claim-frame-requires : tie.Need-claim-frame-requires
 claim-frame-requires c κs = let g = good (c .before .before .before) in (g .0, (id-in (c .before .before), g .1))
 
 claim-reply-requires : tie.Need-claim-reply-requires
 claim-reply-requires c κs = let g = good (c .before .before .before .before .before .before) in (g .0, (id-in (c .before .before .before .before .before), (g .1, subst (Room (c .before .before .before .before .before .read .result) (space (c .before .before .before .before .before .before .before .before .word2 .result))) (sym (c .before .before .claim-frame .ensures .0)) (course-room _ _ _ _))))
-
-same-length : tie.Need-same-length
-same-length c = search needs
 
 returns-2 : tie.Need-returns-2
 returns-2 c = let s = c .before .before .before .before .before .before .before .before .before .before .before .before in
@@ -72,13 +54,13 @@ pub claim-spec : {M : Type 1} → statement M
 claim-spec =
     tie.close
     (tie.spec
-    word-requires
-    word-requires-2
-    good-message-requires
+    (search needs)
+    (search needs)
+    (search needs)
     returns
-    read-requires
-    biased-id-requires
+    (search needs)
+    (search needs)
     claim-frame-requires
     claim-reply-requires
-    same-length
+    (search needs)
     returns-2)

@@ -19,21 +19,6 @@ fit c = let s = c .before .before .before .before .before .before .before in
     fits (s .args .v) (s .args .k) (s .args .log .now) (c .before .before .before .before .begin-append .last .1 .0) (space (s .args .n)) (s .args .given)
     (sym (c .enum-told .given .1) ∙ c .before .before .before .before .begin-append .ensures .0) (c .before .before .before .before .begin-append .ensures .1) (s .pre .0)
 
-add-begin-append : tie.Need-add-begin-append
-add-begin-append c = search needs
-
-add-begin-append-2 : tie.Need-add-begin-append-2
-add-begin-append-2 c = search needs
-
-mul-begin-append : tie.Need-mul-begin-append
-mul-begin-append c = search needs
-
-begin-append-requires : tie.Need-begin-append-requires
-begin-append-requires c κs = search needs
-
-enum-told : tie.Need-enum-told
-enum-told c = search needs
-
 mul-write-claim : tie.Need-mul-write-claim
 mul-write-claim c = let f = fit (c .before) in omega (arith, f .1)
 
@@ -41,17 +26,11 @@ write-claim-requires : tie.Need-write-claim-requires
 write-claim-requires c κs = let f = fit (c .before) in let s = c .before .before .before .before .before .before .before .before in
     (omega (arith, f .1 .1, ap length (f .0)), (s .pre .1 .0, s .pre .1 .1))
 
-same-length : tie.Need-same-length
-same-length c = search needs
-
 returns : tie.Need-returns
 returns c = let s = c .before .before .before .before .before .before .before .before .before .before .before .args in
     let f = fit (c .before .before .before .before) in
     let made : List ℕ → List ℕ = λ l. claimed (s .v) l (s .k * s .v .term) (s .n) in
     (c .before .before .before .before .before .before .before .before .begin-append .ensures .0, c .before .before .write-claim .ensures ∙ ap made (f .0) ∙ ap (bytesBy (s .v) (s .k) (s .log .now) (made (s .log .now))) (sym (c .before .before .before .before .enum-told .given .1) ∙ c .before .before .before .before .before .before .before .before .begin-append .ensures .0))
-
-same-length-2 : tie.Need-same-length-2
-same-length-2 c = search needs
 
 returns-2 : tie.Need-returns-2
 returns-2 c = let s = c .before .before .before .before .before .before .args in
@@ -63,14 +42,14 @@ pub claim-frame-spec : {M : Type 1} → statement M
 claim-frame-spec =
     tie.close
     (tie.spec
-    add-begin-append
-    add-begin-append-2
-    mul-begin-append
-    begin-append-requires
-    enum-told
+    (search needs)
+    (search needs)
+    (search needs)
+    (search needs)
+    (search needs)
     mul-write-claim
     write-claim-requires
-    same-length
+    (search needs)
     returns
-    same-length-2
+    (search needs)
     returns-2)

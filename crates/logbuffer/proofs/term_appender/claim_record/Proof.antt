@@ -8,23 +8,8 @@ use Rattle.logbuffer.proofs.Appending.{claim-record-is}
 use Rattle.logbuffer.proofs.term_appender.claim_record.Statement.{statement}
 use Rattle.logbuffer.proofs.term_appender.claim_record.Tie as tie
 
-cast-t4 : tie.Need-cast-t4
-cast-t4 c = search needs
-
-cast-t5 : tie.Need-cast-t5
-cast-t5 c = search needs
-
-add-t6 : tie.Need-add-t6
-add-t6 c = search needs
-
-cast-t7 : tie.Need-cast-t7
-cast-t7 c = search needs
-
 add-to-i32 : tie.Need-add-to-i32
 add-to-i32 c = omega arith
-
-to-i32-requires : tie.Need-to-i32-requires
-to-i32-requires c κs = search needs
 
 returns : tie.Need-returns
 returns c = let s = c .before .before .before .args in
@@ -32,4 +17,4 @@ returns c = let s = c .before .before .before .args in
 
 pub claim-record-spec : {M : Type 1} → statement M
 claim-record-spec =
-    tie.close (tie.spec cast-t4 cast-t5 add-t6 cast-t7 add-to-i32 to-i32-requires returns)
+    tie.close (tie.spec (search needs) (search needs) (search needs) (search needs) add-to-i32 (search needs) returns)

@@ -9,30 +9,6 @@ use Rattle.logbuffer.proofs.Appending.{claim-refused, claim-stray, clai
 use Rattle.logbuffer.proofs.term_appender.claim_reply.Statement.{statement}
 use Rattle.logbuffer.proofs.term_appender.claim_reply.Tie as tie
 
-add-needed : tie.Need-add-needed
-add-needed c = search needs
-
-add-needed-2 : tie.Need-add-needed-2
-add-needed-2 c = search needs
-
-mul-needed : tie.Need-mul-needed
-mul-needed c = search needs
-
-moved-requires : tie.Need-moved-requires
-moved-requires c κs = search needs
-
-enum-known-way : tie.Need-enum-known-way
-enum-known-way c = search needs
-
-enum-told : tie.Need-enum-told
-enum-told c = search needs
-
-enum-told-2 : tie.Need-enum-told-2
-enum-told-2 c = search needs
-
-enum-told-3 : tie.Need-enum-told-3
-enum-told-3 c = search needs
-
 claim-record-requires : tie.Need-claim-record-requires
 claim-record-requires c κs = let s = c .before .before .before in
     let r : s .args .v .offset + space (s .args .n) ≤ 2147483647 = subst (Room (s .args .v) (space (s .args .n))) (c .enum-told3 .given .1) (s .pre .1 .1 .1) in
@@ -59,14 +35,14 @@ pub claim-reply-spec : {M : Type 1} → statement M
 claim-reply-spec =
     tie.close
     (tie.spec
-    add-needed
-    add-needed-2
-    mul-needed
-    moved-requires
-    enum-known-way
-    enum-told
-    enum-told-2
-    enum-told-3
+    (search needs)
+    (search needs)
+    (search needs)
+    (λ c κs. search needs)
+    (search needs)
+    (search needs)
+    (search needs)
+    (search needs)
     claim-record-requires
     add-t18
     returns

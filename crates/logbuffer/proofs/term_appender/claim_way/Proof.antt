@@ -19,9 +19,6 @@ yes-good c = sym (c .before .good-claiming .ensures) ∙ not-false _ (c .if1 .le
 good : (c : tie.Else1) → (let a = c .before .before .before .args in (a .k ≤ 2) × ((a .v .id < 4294967296) × (a .n ≤ 2147483647)))
 good c = let a = c .before .before .before .args in claiming-true (a .v) (a .k) (a .n) (yes-good c)
 
-good-claiming-requires : tie.Need-good-claiming-requires
-good-claiming-requires c κs = search needs
-
 returns : tie.Need-returns
 returns c = let a = c .before .before .before .args in
     claim-no (a .v) (length (a .log .now)) (a .k) (a .n) (a .given) (sym (c .before .good-claiming .ensures) ∙ not-true _ (c .if1 .taken)) _ _
@@ -42,9 +39,6 @@ way-by-requires : tie.Need-way-by-requires
 way-by-requires c κs = let a = c .before .before .before .before .before .before .before .args in
     (good (c .before .before .before .before) .1 .0, subst (Room (a .v) (space (a .n))) (sym (c .before .before .claim-frame .ensures .0)) (course-room _ _ _ _))
 
-same-length : tie.Need-same-length
-same-length c = search needs
-
 returns-2 : tie.Need-returns-2
 returns-2 c = let a = c .before .before .before .before .before .before .before .before .args in
     let d = c .before .before .before in
@@ -55,12 +49,12 @@ pub claim-way-spec : {M : Type 1} → statement M
 claim-way-spec =
     tie.close
     (tie.spec
-    good-claiming-requires
+    (search needs)
     returns
     claim-frame-requires
     add-way-by
     add-way-by-2
     mul-way-by
     way-by-requires
-    same-length
+    (search needs)
     returns-2)

@@ -10,9 +10,6 @@ use Rattle.logbuffer.proofs.term_appender.good_append.Tie as tie
 good : (c : tie.Else1) → goodMessage (c .before .before .args .k) (c .before .before .args .m) ≡ true
 good c = sym (c .before .good-message .ensures) ∙ not-false _ (c .if1 .left)
 
-good-message-requires : tie.Need-good-message-requires
-good-message-requires c κs = search needs
-
 returns : tie.Need-returns
 returns c = simp (sym (c .before .good-message .ensures) ∙ not-true _ (c .if1 .taken))
 
@@ -31,4 +28,4 @@ returns-5 c = let d = c .before in
 
 pub good-append-spec : {M : Type 1} → statement M
 good-append-spec =
-    tie.close (tie.spec good-message-requires returns returns-2 returns-3 returns-4 returns-5)
+    tie.close (tie.spec (search needs) returns returns-2 returns-3 returns-4 returns-5)

@@ -13,9 +13,6 @@ use Rattle.logbuffer.proofs.term_appender.judge.Tie as tie
 is-so : (c : tie.Else1) → sound (c .before .before .args .v) (c .before .before .args .n) ≡ true
 is-so c = sym (c .before .is-sound .ensures) ∙ not-false _ (c .if1 .left)
 
-is-sound-requires : tie.Need-is-sound-requires
-is-sound-requires c κs = search needs
-
 returns : tie.Need-returns
 returns c = course-unsound _ _ _ _ (sym (c .before .is-sound .ensures) ∙ not-true _ (c .if1 .taken))
 
@@ -36,4 +33,4 @@ returns-5 c = course-fit _ _ _ _ (is-so (c .before .before .before .before .befo
 
 pub judge-spec : {M : Type 1} → statement M
 judge-spec =
-    tie.close (tie.spec is-sound-requires returns add-end returns-2 returns-3 returns-4 returns-5)
+    tie.close (tie.spec (search needs) returns add-end returns-2 returns-3 returns-4 returns-5)

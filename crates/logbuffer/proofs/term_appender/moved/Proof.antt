@@ -7,9 +7,6 @@ use Rattle.logbuffer.proofs.Appending.{moves}
 use Rattle.logbuffer.proofs.term_appender.moved.Statement.{statement}
 use Rattle.logbuffer.proofs.term_appender.moved.Tie as tie
 
-enum-told : tie.Need-enum-told
-enum-told c = search needs
-
 returns : tie.Need-returns
 returns c = ap (movedBy (c .before .before .args .rec) (c .before .before .args .v) (c .before .before .args .k) (c .before .before .args .needed)) (sym (c .enum-told .given .1))
 
@@ -23,4 +20,4 @@ returns-2 : tie.Need-returns-2
 returns-2 c = let s = c .before .before .before in c .with-tail .ensures ∙ moves (s .args .rec) (s .args .v) (s .args .k) (s .args .needed) (s .args .way) (c .before .before .match .keys2) (s .pre .1 .1) .0
 
 pub moved-spec : {M : Type 1} → statement M
-moved-spec = tie.close (tie.spec enum-told returns add-with-tail with-tail-requires returns-2)
+moved-spec = tie.close (tie.spec (search needs) returns add-with-tail with-tail-requires returns-2)

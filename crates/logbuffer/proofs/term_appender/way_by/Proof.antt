@@ -14,9 +14,6 @@ use Rattle.logbuffer.proofs.Ways.{way-moves}
 use Rattle.logbuffer.proofs.term_appender.way_by.Statement.{statement}
 use Rattle.logbuffer.proofs.term_appender.way_by.Tie as tie
 
-enum-told : tie.Need-enum-told
-enum-told c = search needs
-
 returns : tie.Need-returns
 returns c = let a = c .before .before .args in
     ap {B = Way} (λ (x : Course). record { course = x; end = 0; tail = pos 0 }) (c .enum-told .given .1)
@@ -25,17 +22,8 @@ returns c = let a = c .before .before .args in
 add-end : tie.Need-add-end
 add-end c = let s = c .before .before in omega (arith, way-moves (s .args .v) (s .args .needed) (s .args .course) (c .before .match .keys2) (s .pre .1) .1)
 
-add-to-i64 : tie.Need-add-to-i64
-add-to-i64 c = search needs
-
-mul-to-i64 : tie.Need-mul-to-i64
-mul-to-i64 c = search needs
-
 add-to-i64-2 : tie.Need-add-to-i64-2
 add-to-i64-2 c = let s = c .before .before .before in omega (arith, way-moves (s .args .v) (s .args .needed) (s .args .course) (c .before .before .match .keys2) (s .pre .1) .1)
-
-to-i64-requires : tie.Need-to-i64-requires
-to-i64-requires c κs = search needs
 
 returns-2 : tie.Need-returns-2
 unfolding rawOf
@@ -47,11 +35,11 @@ pub way-by-spec : {M : Type 1} → statement M
 way-by-spec =
     tie.close
     (tie.spec
-    enum-told
+    (search needs)
     returns
     add-end
-    add-to-i64
-    mul-to-i64
+    (search needs)
+    (search needs)
     add-to-i64-2
-    to-i64-requires
+    (search needs)
     returns-2)

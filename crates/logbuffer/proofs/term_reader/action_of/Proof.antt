@@ -5,9 +5,6 @@ use Rattle.logbuffer.proofs.Actions.{action-given, action-none}
 use Rattle.logbuffer.proofs.term_reader.action_of.Statement.{statement}
 use Rattle.logbuffer.proofs.term_reader.action_of.Tie as tie
 
-shared-slice-read-result : tie.Need-shared-slice-read-result
-shared-slice-read-result c = search needs
-
 cast-result : tie.Need-cast-result
 cast-result c = omega (arith, c .shared-slice-known .given (c .before .before .args .passed))
 
@@ -18,4 +15,4 @@ returns-2 : tie.Need-returns-2
 returns-2 c = let a = c .before .args in action-none (a .actions .now) (a .passed) (c .if1 .left)
 
 pub action-of-spec : {M : Type 1} → statement M
-action-of-spec = tie.close (tie.spec shared-slice-read-result cast-result returns returns-2)
+action-of-spec = tie.close (tie.spec (search needs) cast-result returns returns-2)

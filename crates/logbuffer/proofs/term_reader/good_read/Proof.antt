@@ -11,9 +11,6 @@ use Rattle.model.specs.LogBufferDescriptor.{goodPartition, goodOffset}
 use Rattle.logbuffer.proofs.term_reader.good_read.Statement.{statement}
 use Rattle.logbuffer.proofs.term_reader.good_read.Tie as tie
 
-good-place-requires : tie.Need-good-place-requires
-good-place-requires c κs = search needs
-
 returns : tie.Need-returns
 returns c =
     let a = c .before .before .args in
@@ -32,4 +29,4 @@ returns-3 c =
     sym e ∙ and-then (goodPartition (a .p .partition)) (goodOffset (a .p .offset) (a .p .read)) _ (sym (c .before .before .good-place .ensures) ∙ not-false _ (c .before .if1 .left))
 
 pub good-read-spec : {M : Type 1} → statement M
-good-read-spec = tie.close (tie.spec good-place-requires returns returns-2 returns-3)
+good-read-spec = tie.close (tie.spec (search needs) returns returns-2 returns-3)

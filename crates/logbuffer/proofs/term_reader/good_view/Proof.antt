@@ -9,15 +9,9 @@ returns : tie.Need-returns
 unfolding goodView
 returns c = let a = c .before .before .args in rw (lt-leb (a .p .partition) 2 (c .if1 .taken))
 
-add-within-term : tie.Need-add-within-term
-add-within-term c = search needs
-
-within-term-requires : tie.Need-within-term-requires
-within-term-requires c κs = search needs
-
 returns-2 : tie.Need-returns-2
 unfolding goodView
 returns-2 c = let a = c .before .before .before .before .args in rw (le-leb (a .p .partition) 2 (c .before .before .if1 .left)) (c .within-term .ensures)
 
 pub good-view-spec : {M : Type 1} → statement M
-good-view-spec = tie.close (tie.spec returns add-within-term within-term-requires returns-2)
+good-view-spec = tie.close (tie.spec returns (search needs) (search needs) returns-2)

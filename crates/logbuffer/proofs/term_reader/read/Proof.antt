@@ -53,51 +53,15 @@ goes c =
     let e = read-goes (a .rec) (a .log .now) (a .partition) (a .offset) (a .limit) (a .entries .now) (p q) (most q) (p-is q) (most-is q) (rows q ∙ passed c) in
     (ap (readFrom (p q .offset)) (c .read-frames .ensures .0) ∙ e .0, c .read-frames .ensures .1 ∙ e .1)
 
-place-requires : tie.Need-place-requires
-place-requires c κs = search needs
-
-natural-requires : tie.Need-natural-requires
-natural-requires c κs = search needs
-
-good-read-requires : tie.Need-good-read-requires
-good-read-requires c κs = search needs
-
-first-rows-requires : tie.Need-first-rows-requires
-first-rows-requires c κs = search needs
-
-enum-known-e : tie.Need-enum-known-e
-enum-known-e c = search needs
-
 returns : tie.Need-returns
 returns c =
     let q = c .before .before .before in
     let a = st q .args in
     read-refused (a .rec) (a .log .now) (a .partition) (a .offset) (a .limit) (a .entries .now) (p q) (most q) (p-is q) (most-is q) (rows q ∙ c .before .e .given .1)
 
-enum-told : tie.Need-enum-told
-enum-told c = search needs
-
 mul-base : tie.Need-mul-base
 mul-base c =
     let q = c .before .before .before in record { fits = omega (arith, place q (c .before .enum-told .given .1) .inside, st q .good) }
-
-sub-read-frames : tie.Need-sub-read-frames
-sub-read-frames c = search needs
-
-part-read-frames-start : tie.Need-part-read-frames-start
-part-read-frames-start c = search needs
-
-part-read-frames-end : tie.Need-part-read-frames-end
-part-read-frames-end c = search needs
-
-read-frames-requires : tie.Need-read-frames-requires
-read-frames-requires c κs = search needs
-
-enum-known-e-2 : tie.Need-enum-known-e-2
-enum-known-e-2 c = search needs
-
-enum-known-walked : tie.Need-enum-known-walked
-enum-known-walked c = search needs
 
 add-t25 : tie.Need-add-t25
 add-t25 c =
@@ -107,16 +71,10 @@ add-t25 c =
     let m = frames-moved _ _ _ _ _ _ _ _ (read-walk (p q) (length (st q .args .log .now)) (most q) (length (st q .args .entries .now)) (g .0) (g .1)) _ (sym (f .read-frames .ensures .0) ∙ c .before .before .walked .given .1) in
     omega (arith, m, place q (passed f))
 
-same-length : tie.Need-same-length
-same-length c = search needs
-
 returns-2 : tie.Need-returns-2
 returns-2 c =
     let f = c .before .before .before .before in
     (ap (readFrom (p (num f) .offset)) (sym (c .before .e2 .given .1)) ∙ goes f .0, goes f .1)
-
-same-length-2 : tie.Need-same-length-2
-same-length-2 c = search needs
 
 returns-3 : tie.Need-returns-3
 returns-3 c =
@@ -127,22 +85,22 @@ pub read-spec : {M : Type 1} → statement M
 read-spec =
     tie.close
     (tie.spec
-    place-requires
-    natural-requires
-    good-read-requires
-    first-rows-requires
-    enum-known-e
+    (search needs)
+    (search needs)
+    (search needs)
+    (search needs)
+    (search needs)
     returns
-    enum-told
+    (search needs)
     mul-base
-    sub-read-frames
-    part-read-frames-start
-    part-read-frames-end
-    read-frames-requires
-    enum-known-e-2
-    enum-known-walked
+    (search needs)
+    (search needs)
+    (search needs)
+    (search needs)
+    (search needs)
+    (search needs)
     add-t25
-    same-length
+    (search needs)
     returns-2
-    same-length-2
+    (search needs)
     returns-3)

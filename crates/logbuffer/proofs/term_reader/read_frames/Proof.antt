@@ -8,9 +8,6 @@ use Rattle.model.proofs.ReaderLaws.{good-walk-true, frames-refused, frames-by}
 use Rattle.logbuffer.proofs.term_reader.read_frames.Statement.{statement}
 use Rattle.logbuffer.proofs.term_reader.read_frames.Tie as tie
 
-good-walk-requires : tie.Need-good-walk-requires
-good-walk-requires c κs = search needs
-
 returns : tie.Need-returns
 returns c =
     let a = c .before .before .before .before .args in
@@ -22,9 +19,6 @@ walk-frames-requires c κs =
     let g = good-walk-true (length (a .log .now)) (a .base) (a .term) (a .end) (a .at) (a .limit) (length (a .entries .now)) (sym (c .before .before .good-walk .ensures) ∙ not-false _ (c .before .if1 .left)) in
     (g .inside, (g .term-high, (g .end-in, omega (arith, g .room))))
 
-same-length : tie.Need-same-length
-same-length c = search needs
-
 returns-2 : tie.Need-returns-2
 returns-2 c =
     let a = c .before .before .before .before .before .before .before .args in
@@ -33,4 +27,4 @@ returns-2 c =
 
 pub read-frames-spec : {M : Type 1} → statement M
 read-frames-spec =
-    tie.close (tie.spec good-walk-requires returns walk-frames-requires same-length returns-2)
+    tie.close (tie.spec (search needs) returns walk-frames-requires (search needs) returns-2)

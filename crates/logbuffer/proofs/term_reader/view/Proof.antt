@@ -30,24 +30,6 @@ inside c =
     let a = c .before .before .before .before .before .args in
     span-in (a .rec) (a .log .now) (a .partition) (a .offset) (a .length) _ _ (is-span c)
 
-view-span-requires : tie.Need-view-span-requires
-view-span-requires c κs = search needs
-
-enum-known-from : tie.Need-enum-known-from
-enum-known-from c = search needs
-
-enum-told : tie.Need-enum-told
-enum-told c = search needs
-
-sub-result : tie.Need-sub-result
-sub-result c = search needs
-
-part-result-start : tie.Need-part-result-start
-part-result-start c = search needs
-
-part-result-end : tie.Need-part-result-end
-part-result-end c = search needs
-
 returns : tie.Need-returns
 returns c =
     let a = c .before .before .before .before .before .args in
@@ -73,12 +55,12 @@ pub view-spec : {M : Type 1} → statement M
 view-spec =
     tie.close
     (tie.spec
-    view-span-requires
-    enum-known-from
-    enum-told
-    sub-result
-    part-result-start
-    part-result-end
+    (search needs)
+    (search needs)
+    (search needs)
+    (search needs)
+    (search needs)
+    (search needs)
     returns
     sub-result-2
     part-result-start-2

@@ -17,18 +17,6 @@ located c =
     let a = s .args in
     c .view-span .ensures ∙ passed-on (viewOf (a .rec) (a .log .now)) (a .partition) (a .offset) (a .length) (s .fits .partition) (s .fits .offset) (s .fits .length)
 
-view-span-requires : tie.Need-view-span-requires
-view-span-requires c κs = search needs
-
-enum-told : tie.Need-enum-told
-enum-told c = search needs
-
-enum-known-e : tie.Need-enum-known-e
-enum-known-e c = search needs
-
-number-requires : tie.Need-number-requires
-number-requires c κs = search needs
-
 returns : tie.Need-returns
 returns c = ap locatedNumber (sym (c .enum-told .given .1) ∙ located (c .before .before))
 
@@ -38,4 +26,4 @@ returns-2 c = toZ-ofZ (record { sfits = c .number .ok }) ∙ c .number .ensures 
 pub view-number-spec : {M : Type 1} → statement M
 view-number-spec =
     tie.close
-    (tie.spec view-span-requires enum-told enum-known-e number-requires returns returns-2)
+    (tie.spec (search needs) (search needs) (search needs) (search needs) returns returns-2)

@@ -51,24 +51,6 @@ by c x h =
     ap (locatedBy (p c .partition * p c .read .term + p c .offset) (p c .partition * p c .read .term + p c .offset + size c)) (sym (rows c ∙ h))
     ∙ view-by (a .rec) (a .log .now) (a .partition) (a .offset) (a .length) (p c) (size c) (p-is c) (size-is c)
 
-place-requires : tie.Need-place-requires
-place-requires c κs = search needs
-
-word-requires : tie.Need-word-requires
-word-requires c κs = search needs
-
-good-view-requires : tie.Need-good-view-requires
-good-view-requires c κs = search needs
-
-first-rows-requires : tie.Need-first-rows-requires
-first-rows-requires c κs = search needs
-
-enum-known-e : tie.Need-enum-known-e
-enum-known-e c = search needs
-
-enum-told : tie.Need-enum-told
-enum-told c = search needs
-
 mul-from : tie.Need-mul-from
 mul-from c =
     let q = c .before .before .before in record { fits = omega (arith, inside q (c .before .enum-told .given .1), st q .good) }
@@ -91,12 +73,12 @@ pub view-span-spec : {M : Type 1} → statement M
 view-span-spec =
     tie.close
     (tie.spec
-    place-requires
-    word-requires
-    good-view-requires
-    first-rows-requires
-    enum-known-e
-    enum-told
+    (search needs)
+    (search needs)
+    (search needs)
+    (search needs)
+    (search needs)
+    (search needs)
     mul-from
     add-from
     add-t14

@@ -52,33 +52,12 @@ loop-holds c =
     let a = c .before .before .args in
     (refl, (omega arith, walks.start (a .log .now) (a .base) (a .term) (a .end) (a .at) (a .limit) (a .actions .now) (a .entries .now) (omega arith)))
 
-add-frame-at : tie.Need-add-frame-at Inv-loop μ-loop
-add-frame-at c = search needs
-
-sub-frame-at : tie.Need-sub-frame-at Inv-loop μ-loop
-sub-frame-at c = search needs
-
-frame-at-requires : tie.Need-frame-at-requires Inv-loop μ-loop
-frame-at-requires c κs = search needs
-
-enum-told : tie.Need-enum-told Inv-loop μ-loop
-enum-told c = search needs
-
-enum-told-2 : tie.Need-enum-told-2 Inv-loop μ-loop
-enum-told-2 c = search needs
-
-same-length : tie.Need-same-length Inv-loop μ-loop
-same-length c = search needs
-
 returns : tie.Need-returns Inv-loop μ-loop
 returns c =
     let l = c .before .before .before .before .before .before in
     let a = st l .args in
     let w = l .loop in
     frames-first (a .log .now) (a .base) (a .term) (a .end) (a .at) (a .limit) (a .actions .now) (a .entries .now) (w .entries) (walks.unsound-first (a .log .now) (a .base) (a .term) (a .end) (a .at) (a .limit) (a .actions .now) (a .entries .now) (w .entries) (w .offset) (w .settled) (w .count) (w .inv .1 .1) (c .if2 .taken) (omega arith) (omega arith) (sym (c .before .before .before .frame-at .ensures) ∙ c .before .enum-told2 .given .1))
-
-enum-known-n : tie.Need-enum-known-n Inv-loop μ-loop
-enum-known-n c = search needs
 
 add-offset : tie.Need-add-offset Inv-loop μ-loop
 add-offset c = omega (arith, padding-in c)
@@ -101,12 +80,6 @@ loop-again c =
     let a = st l .args in
     let w = l .loop in
     (w .inv .0, (refl, walks.padding (a .log .now) (a .base) (a .term) (a .end) (a .at) (a .limit) (a .actions .now) (a .entries .now) (w .entries) (w .offset) (w .settled) (w .count) (c .before .n .given .0 .0) (w .inv .1 .1) (omega arith) (omega arith) (is-padding c)))
-
-enum-known-n-2 : tie.Need-enum-known-n-2 Inv-loop μ-loop
-enum-known-n-2 c = search needs
-
-action-of-requires : tie.Need-action-of-requires Inv-loop μ-loop
-action-of-requires c κs = search needs
 
 add-ends-message : tie.Need-add-ends-message Inv-loop μ-loop
 add-ends-message c = omega (arith, data-in (c .before))
@@ -172,12 +145,6 @@ add-offset-3 c = omega (arith, data-in (c .before .before .before))
 sub-moved-2 : tie.Need-sub-moved-2 Inv-loop μ-loop
 sub-moved-2 c = omega (arith, data-in (c .before .before .before), c .before .before .before .before .before .before .before .before .before .loop .inv .1 .1 .later)
 
-last-settled-requires : tie.Need-last-settled-requires Inv-loop μ-loop
-last-settled-requires c κs = search needs
-
-add-count : tie.Need-add-count Inv-loop μ-loop
-add-count c = search needs
-
 loop-less-2 : tie.Need-loop-less-2 Inv-loop μ-loop
 loop-less-2 c = omega (arith, data-in (c .before .before .before .before .before))
 
@@ -191,18 +158,12 @@ loop-again-2 c = let d = c .before .before .before .before .before in
     let y : toZ w32 (n - 32) ≡ pos (n - 32) = toZ-pos w32 (omega (arith, data-in d)) in
     (simp length-set (w .inv .0), (refl, walks.turn-on (a .log .now) (a .base) (a .term) (a .end) (a .at) (a .limit) (a .actions .now) (a .entries .now) (w .entries) (w .offset) (w .settled) (w .count) n (w .inv .1 .1) (omega arith) (omega arith) (is-data d) (omega arith) (c .before .before .before .ends-message .result) (c .before .last-settled .result) _ _ (c .before .before .before .ends-message .ensures) (c .before .last-settled .ensures) x y (c .before .before .before .before .action-of .result) (c .before .before .before .before .action-of .ensures) (c .before .before .if3 .left) (c .if4 .left)))
 
-same-length-3 : tie.Need-same-length-3 Inv-loop μ-loop
-same-length-3 c = search needs
-
 returns-3 : tie.Need-returns-3 Inv-loop μ-loop
 returns-3 c =
     let l = c .before in
     let a = st l .args in
     let w = l .loop in
     frames-came (a .log .now) (a .base) (a .term) (a .end) (a .at) (a .limit) (a .actions .now) (a .entries .now) (w .entries) (w .count) (w .count) (w .offset - a .at) (w .moved) (w .settled) (walks.full (a .log .now) (a .base) (a .term) (a .end) (a .at) (a .limit) (a .actions .now) (a .entries .now) (w .entries) (w .offset) (w .settled) (w .count) (w .inv .1 .1) (c .loop-test .taken)) (w .inv .1 .0)
-
-same-length-4 : tie.Need-same-length-4 Inv-loop μ-loop
-same-length-4 c = search needs
 
 returns-4 : tie.Need-returns-4 Inv-loop μ-loop
 returns-4 c =
@@ -211,18 +172,12 @@ returns-4 c =
     let w = l .loop in
     frames-came (a .log .now) (a .base) (a .term) (a .end) (a .at) (a .limit) (a .actions .now) (a .entries .now) (w .entries) (w .count) (w .count) (w .offset - a .at) (w .moved) (w .settled) (walks.past (a .log .now) (a .base) (a .term) (a .end) (a .at) (a .limit) (a .actions .now) (a .entries .now) (w .entries) (w .offset) (w .settled) (w .count) (w .inv .1 .1) (c .if1 .taken)) (w .inv .1 .0)
 
-same-length-5 : tie.Need-same-length-5 Inv-loop μ-loop
-same-length-5 c = search needs
-
 returns-5 : tie.Need-returns-5 Inv-loop μ-loop
 returns-5 c =
     let l = c .before .before .before .before .before in
     let a = st l .args in
     let w = l .loop in
     frames-came (a .log .now) (a .base) (a .term) (a .end) (a .at) (a .limit) (a .actions .now) (a .entries .now) (w .entries) (w .count) (w .count) (w .offset - a .at) (w .moved) (w .settled) (walks.absent (a .log .now) (a .base) (a .term) (a .end) (a .at) (a .limit) (a .actions .now) (a .entries .now) (w .entries) (w .offset) (w .settled) (w .count) (w .inv .1 .1) (sym (c .before .before .frame-at .ensures) ∙ c .enum-told .given .1)) (w .inv .1 .0)
-
-same-length-6 : tie.Need-same-length-6 Inv-loop μ-loop
-same-length-6 c = search needs
 
 returns-6 : tie.Need-returns-6 Inv-loop μ-loop
 returns-6 c =
@@ -251,22 +206,22 @@ walk-frames-spec =
     Inv-loop
     μ-loop
     loop-holds
-    add-frame-at
-    sub-frame-at
-    frame-at-requires
-    enum-told
-    enum-told-2
-    same-length
+    (search needs)
+    (search needs)
+    (search needs)
+    (search needs)
+    (search needs)
+    (search needs)
     returns
-    enum-known-n
+    (search needs)
     add-offset
     mul-offset
     add-offset-2
     sub-moved
     loop-less
     loop-again
-    enum-known-n-2
-    action-of-requires
+    (search needs)
+    (search needs)
     add-ends-message
     ends-message-requires
     mul-p
@@ -286,17 +241,17 @@ walk-frames-spec =
     mul-size
     add-offset-3
     sub-moved-2
-    last-settled-requires
-    add-count
+    (search needs)
+    (search needs)
     loop-less-2
     loop-again-2
-    same-length-3
+    (search needs)
     returns-3
-    same-length-4
+    (search needs)
     returns-4
-    same-length-5
+    (search needs)
     returns-5
-    same-length-6
+    (search needs)
     returns-6
     same-length-7
     returns-7)

@@ -48,15 +48,6 @@ add-frame-at-3 c = omega (arith, c .loop .inv .inside)
 sub-frame-at : tie.Need-sub-frame-at Inv-loop μ-loop
 sub-frame-at c = omega (arith, c .loop .inv .inside)
 
-frame-at-requires : tie.Need-frame-at-requires Inv-loop μ-loop
-frame-at-requires c κs = search needs
-
-enum-told : tie.Need-enum-told Inv-loop μ-loop
-enum-told c = search needs
-
-enum-told-2 : tie.Need-enum-told-2 Inv-loop μ-loop
-enum-told-2 c = search needs
-
 returns : tie.Need-returns Inv-loop μ-loop
 returns c =
     let l = c .before .before .before .before in
@@ -68,9 +59,6 @@ outcome-requires c κs = let i = c .before .before .before .before .loop .inv in
 
 returns-2 : tie.Need-returns-2 Inv-loop μ-loop
 returns-2 c = c .outcome .ensures ∙ (let l = c .before .before .before .before .before in let a = st l .args in laws.available-unsound (a .log .now) (a .base) (a .term) (a .at) (a .most) (l .loop .available) (l .loop .padding) (l .loop .inv) (is (c .before .before .before .before) _ (c .before .before .enum-told2 .given .1)) (c .before .if1 .left))
-
-enum-known-n : tie.Need-enum-known-n Inv-loop μ-loop
-enum-known-n c = search needs
 
 add-if2 : tie.Need-add-if2 Inv-loop μ-loop
 add-if2 c = omega (arith, c .before .before .before .before .loop .inv .inside)
@@ -111,9 +99,6 @@ loop-again c =
     let l = c .before .before .before .before .before .before in
     let a = st l .args in
     laws.goes-on (a .log .now) (a .base) (a .term) (a .at) (a .most) (l .loop .available) (l .loop .padding) 32 ((d .before .n .given .0 .0 + 31) / 32 * 32 - 32) (l .loop .inv) (Padding (d .before .n .given .0 .0)) (is (d .before .before .before) _ (d .before .n .given .1)) refl (λ go. refl) (omega arith) (omega arith) (omega (arith, padding-in d)) (c .if3 .left)
-
-enum-known-n-2 : tie.Need-enum-known-n-2 Inv-loop μ-loop
-enum-known-n-2 c = search needs
 
 add-size : tie.Need-add-size Inv-loop μ-loop
 add-size c = omega (arith, data-in c, c .before .before .before .before .loop .inv .inside)
@@ -169,13 +154,13 @@ available-frames-spec =
     add-frame-at-2
     add-frame-at-3
     sub-frame-at
-    frame-at-requires
-    enum-told
-    enum-told-2
+    (search needs)
+    (search needs)
+    (search needs)
     returns
     outcome-requires
     returns-2
-    enum-known-n
+    (search needs)
     add-if2
     outcome-requires-2
     returns-3
@@ -188,7 +173,7 @@ available-frames-spec =
     returns-4
     loop-less
     loop-again
-    enum-known-n-2
+    (search needs)
     add-size
     mul-size
     add-if4

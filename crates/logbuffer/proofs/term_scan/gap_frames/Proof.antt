@@ -45,15 +45,6 @@ add-frame-at c = omega (arith, c .loop .inv .inside)
 sub-frame-at : tie.Need-sub-frame-at Inv-loop μ-loop
 sub-frame-at c = omega (arith, c .loop .inv .inside)
 
-frame-at-requires : tie.Need-frame-at-requires Inv-loop μ-loop
-frame-at-requires c κs = search needs
-
-enum-told : tie.Need-enum-told Inv-loop μ-loop
-enum-told c = search needs
-
-enum-told-2 : tie.Need-enum-told-2 Inv-loop μ-loop
-enum-told-2 c = search needs
-
 returns : tie.Need-returns Inv-loop μ-loop
 returns c =
     let l = c .before .before .before .before in
@@ -65,9 +56,6 @@ returns-2 c =
     let l = c .before .before .before .before in
     let a = st l .args in
     laws.gap-unsound (a .log .now) (a .base) (a .term) (a .high) (a .at) (a .«term-id») (l .loop .offset) (l .loop .inv) (is (c .before .before .before) _ (c .before .enum-told2 .given .1)) (c .if1 .left)
-
-enum-known-n : tie.Need-enum-known-n Inv-loop μ-loop
-enum-known-n c = search needs
 
 add-offset : tie.Need-add-offset Inv-loop μ-loop
 add-offset c = omega (arith, padding-in c)
@@ -92,9 +80,6 @@ loop-again c =
     let l = c .before .before .before .before .before in
     let a = st l .args in
     laws.gap-on (a .log .now) (a .base) (a .term) (a .high) (a .at) (l .loop .offset) _ (Padding (c .before .before .n .given .0 .0)) (l .loop .inv) (is (c .before .before .before .before) _ (c .before .before .n .given .1)) refl refl (omega arith) (c .if2 .left)
-
-enum-known-n-2 : tie.Need-enum-known-n-2 Inv-loop μ-loop
-enum-known-n-2 c = search needs
 
 add-offset-3 : tie.Need-add-offset-3 Inv-loop μ-loop
 add-offset-3 c = omega (arith, data-in c)
@@ -144,19 +129,19 @@ gap-frames-spec =
     loop-holds
     add-frame-at
     sub-frame-at
-    frame-at-requires
-    enum-told
-    enum-told-2
+    (search needs)
+    (search needs)
+    (search needs)
     returns
     returns-2
-    enum-known-n
+    (search needs)
     add-offset
     mul-offset
     add-offset-2
     returns-3
     loop-less
     loop-again
-    enum-known-n-2
+    (search needs)
     add-offset-3
     mul-offset-2
     add-offset-4

@@ -10,9 +10,6 @@ use Rattle.model.specs.LogBufferDescriptor.{goodPartition, goodOffset, withinTe
 use Rattle.logbuffer.proofs.term_scan.good_gap.Statement.{statement}
 use Rattle.logbuffer.proofs.term_scan.good_gap.Tie as tie
 
-good-place-requires : tie.Need-good-place-requires
-good-place-requires c κs = search needs
-
 returns : tie.Need-returns
 returns c =
     let a = c .before .before .args in
@@ -24,9 +21,6 @@ returns-2 c =
     let e : (eqb (a .mark % 32) 0 && withinTerm (a .mark) (a .p .read)) ≡ false = rw (ne-eqb (a .mark % 32) 0 (c .if2 .taken)) in
     sym e ∙ and-then (goodPartition (a .p .partition)) (goodOffset (a .p .offset) (a .p .read)) _ (sym (c .before .before .good-place .ensures) ∙ not-false _ (c .before .if1 .left))
 
-within-term-requires : tie.Need-within-term-requires
-within-term-requires c κs = search needs
-
 returns-3 : tie.Need-returns-3
 returns-3 c =
     let a = c .before .before .before .before .args in
@@ -35,4 +29,4 @@ returns-3 c =
 
 pub good-gap-spec : {M : Type 1} → statement M
 good-gap-spec =
-    tie.close (tie.spec good-place-requires returns returns-2 within-term-requires returns-3)
+    tie.close (tie.spec (search needs) returns returns-2 (search needs) returns-3)

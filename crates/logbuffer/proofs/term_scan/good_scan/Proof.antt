@@ -7,16 +7,10 @@ use Rattle.model.specs.LogBufferDescriptor.{goodPartition, goodOffset}
 use Rattle.logbuffer.proofs.term_scan.good_scan.Statement.{statement}
 use Rattle.logbuffer.proofs.term_scan.good_scan.Tie as tie
 
-good-place-requires : tie.Need-good-place-requires
-good-place-requires c κs = search needs
-
 returns : tie.Need-returns
 returns c =
     let a = c .before .before .args in
     and-not (goodPartition (a .p .partition)) (goodOffset (a .p .offset) (a .p .read)) _ (sym (c .before .good-place .ensures) ∙ not-true _ (c .if1 .taken))
-
-within-term-requires : tie.Need-within-term-requires
-within-term-requires c κs = search needs
 
 returns-2 : tie.Need-returns-2
 returns-2 c =
@@ -24,4 +18,4 @@ returns-2 c =
     c .within-term .ensures ∙ and-then (goodPartition (a .p .partition)) (goodOffset (a .p .offset) (a .p .read)) _ (sym (c .before .before .good-place .ensures) ∙ not-false _ (c .before .if1 .left))
 
 pub good-scan-spec : {M : Type 1} → statement M
-good-scan-spec = tie.close (tie.spec good-place-requires returns within-term-requires returns-2)
+good-scan-spec = tie.close (tie.spec (search needs) returns (search needs) returns-2)

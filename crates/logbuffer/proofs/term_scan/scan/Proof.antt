@@ -37,24 +37,6 @@ rows c = ap (λ (g : Bool). firstRows g (sound (p c .read) (length (st c .args .
 place : (c : tie.After-first-rows) → c .first-rows .result ≡ Pass → Placed (p c .read) (length (st c .args .log .now)) (p c .partition) (p c .offset) × (most c ≤ p c .read .term)
 place c h = let q = rows-placed (p c) _ _ (rows c ∙ h) in (q .0, within (most c) (p c .read) (q .1))
 
-place-requires : tie.Need-place-requires
-place-requires c κs = search needs
-
-natural-requires : tie.Need-natural-requires
-natural-requires c κs = search needs
-
-good-scan-requires : tie.Need-good-scan-requires
-good-scan-requires c κs = search needs
-
-first-rows-requires : tie.Need-first-rows-requires
-first-rows-requires c κs = search needs
-
-enum-known-e : tie.Need-enum-known-e
-enum-known-e c = search needs
-
-enum-told : tie.Need-enum-told
-enum-told c = search needs
-
 mul-scan-frames : tie.Need-mul-scan-frames
 mul-scan-frames c =
     let q = c .before .before .before in record { fits = omega (arith, place q (c .before .enum-told .given .1) .0 .inside, st q .good) }
@@ -79,12 +61,12 @@ pub scan-spec : {M : Type 1} → statement M
 scan-spec =
     tie.close
     (tie.spec
-    place-requires
-    natural-requires
-    good-scan-requires
-    first-rows-requires
-    enum-known-e
-    enum-told
+    (search needs)
+    (search needs)
+    (search needs)
+    (search needs)
+    (search needs)
+    (search needs)
     mul-scan-frames
     scan-frames-requires
     returns

@@ -36,33 +36,12 @@ most-is c =
     let q = c .before .before .before .before in
     c .at-most .ensures ∙ ap (λ (n : ℕ). min n (p q .read .term - p q .offset)) (q .before .before .natural .ensures .0 ∙ handed1 natural (st q .fits .maximum))
 
-place-requires : tie.Need-place-requires
-place-requires c κs = search needs
-
-natural-requires : tie.Need-natural-requires
-natural-requires c κs = search needs
-
-good-place-requires : tie.Need-good-place-requires
-good-place-requires c κs = search needs
-
-first-rows-requires : tie.Need-first-rows-requires
-first-rows-requires c κs = search needs
-
-enum-known-e : tie.Need-enum-known-e
-enum-known-e c = search needs
-
-enum-told : tie.Need-enum-told
-enum-told c = search needs
-
 mul-available-frames : tie.Need-mul-available-frames
 mul-available-frames c =
     let q = c .before .before .before in record { fits = omega (arith, place q (c .before .enum-told .given .1) .inside, st q .good) }
 
 sub-at-most : tie.Need-sub-at-most
 sub-at-most c = omega (arith, place (c .before .before .before) (c .before .enum-told .given .1) .below)
-
-at-most-requires : tie.Need-at-most-requires
-at-most-requires c κs = search needs
 
 available-frames-requires : tie.Need-available-frames-requires
 available-frames-requires c κs =
@@ -85,15 +64,15 @@ pub scan-for-availability-spec : {M : Type 1} → statement M
 scan-for-availability-spec =
     tie.close
     (tie.spec
-    place-requires
-    natural-requires
-    good-place-requires
-    first-rows-requires
-    enum-known-e
-    enum-told
+    (search needs)
+    (search needs)
+    (search needs)
+    (search needs)
+    (search needs)
+    (search needs)
     mul-available-frames
     sub-at-most
-    at-most-requires
+    (search needs)
     available-frames-requires
     returns
     returns-2)

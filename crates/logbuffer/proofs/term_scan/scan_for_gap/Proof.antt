@@ -48,24 +48,6 @@ place c h =
     let m = and-true (eqb (mark c % 32) 0) _ (q .1) in
     (q .0, (within (mark c) (p c .read) (m .1), eqb-true _ _ (m .0)))
 
-place-requires : tie.Need-place-requires
-place-requires c κs = search needs
-
-word-requires : tie.Need-word-requires
-word-requires c κs = search needs
-
-good-gap-requires : tie.Need-good-gap-requires
-good-gap-requires c κs = search needs
-
-first-rows-requires : tie.Need-first-rows-requires
-first-rows-requires c κs = search needs
-
-enum-known-e : tie.Need-enum-known-e
-enum-known-e c = search needs
-
-enum-told : tie.Need-enum-told
-enum-told c = search needs
-
 mul-gap-frames : tie.Need-mul-gap-frames
 mul-gap-frames c =
     let q = c .before .before .before in record { fits = omega (arith, place q (c .before .enum-told .given .1) .0 .inside, st q .good) }
@@ -91,12 +73,12 @@ pub scan-for-gap-spec : {M : Type 1} → statement M
 scan-for-gap-spec =
     tie.close
     (tie.spec
-    place-requires
-    word-requires
-    good-gap-requires
-    first-rows-requires
-    enum-known-e
-    enum-told
+    (search needs)
+    (search needs)
+    (search needs)
+    (search needs)
+    (search needs)
+    (search needs)
     mul-gap-frames
     gap-frames-requires
     returns

@@ -42,29 +42,11 @@ data-in c = lies _ _ (Data (c .before .n2 .given .0 .0)) (is-data c) refl
 loop-holds : tie.Need-loop-holds Inv-loop μ-loop
 loop-holds c = let a = c .before .args in laws.scan-start (a .log .now) (a .base) (a .term) (a .limit) (a .at) (omega arith)
 
-add-frame-at : tie.Need-add-frame-at Inv-loop μ-loop
-add-frame-at c = search needs
-
-sub-frame-at : tie.Need-sub-frame-at Inv-loop μ-loop
-sub-frame-at c = search needs
-
-frame-at-requires : tie.Need-frame-at-requires Inv-loop μ-loop
-frame-at-requires c κs = search needs
-
-enum-told : tie.Need-enum-told Inv-loop μ-loop
-enum-told c = search needs
-
-enum-told-2 : tie.Need-enum-told-2 Inv-loop μ-loop
-enum-told-2 c = search needs
-
 returns : tie.Need-returns Inv-loop μ-loop
 returns c =
     let l = c .before .before .before .before .before in
     let a = st l .args in
     laws.scan-first (a .log .now) (a .base) (a .term) (a .limit) (a .at) (l .loop .offset) (c .if1 .taken) (omega arith) (sym (c .before .before .before .frame-at .ensures) ∙ c .before .enum-told2 .given .1)
-
-enum-known-n : tie.Need-enum-known-n Inv-loop μ-loop
-enum-known-n c = search needs
 
 add-t17 : tie.Need-add-t17 Inv-loop μ-loop
 add-t17 c = omega (arith, padding-in (c .before))
@@ -80,9 +62,6 @@ returns-2 c =
     let l = c .before .before .before .before .before .before in
     let a = st l .args in
     laws.scan-past (a .log .now) (a .base) (a .term) (a .limit) (a .at) (l .loop .offset) (c .before .before .n .given .0 .0) (l .loop .inv) (omega arith) (is-padding (c .before)) (c .if2 .taken)
-
-enum-known-n-2 : tie.Need-enum-known-n-2 Inv-loop μ-loop
-enum-known-n-2 c = search needs
 
 add-next : tie.Need-add-next Inv-loop μ-loop
 add-next c = omega (arith, data-in c)
@@ -139,18 +118,18 @@ scan-frames-spec =
     Inv-loop
     μ-loop
     loop-holds
-    add-frame-at
-    sub-frame-at
-    frame-at-requires
-    enum-told
-    enum-told-2
+    (search needs)
+    (search needs)
+    (search needs)
+    (search needs)
+    (search needs)
     returns
-    enum-known-n
+    (search needs)
     add-t17
     mul-t19
     add-t20
     returns-2
-    enum-known-n-2
+    (search needs)
     add-next
     mul-next
     add-next-2

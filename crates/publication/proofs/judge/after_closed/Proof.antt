@@ -8,9 +8,6 @@ use borrow.Author.Needs.{needs}
 use Rattle.publication.proofs.judge.after_closed.Statement.{statement}
 use Rattle.publication.proofs.judge.after_closed.Tie as tie
 
-add-if1 : tie.Need-add-if1
-add-if1 c = search needs
-
 returns : tie.Need-returns
 returns c = closed-6 _ _ (c .if1 .taken)
 
@@ -20,9 +17,6 @@ mul-if2 c = omega (arith, begin-most _ (c .before .pre .0))
 add-if2 : tie.Need-add-if2
 add-if2 c = omega (arith, begin-most _ (c .before .pre .0))
 
-back-pressure-requires : tie.Need-back-pressure-requires
-back-pressure-requires c κs = search needs
-
 returns-2 : tie.Need-returns-2
 returns-2 c = ap Refuse (c .back-pressure .ensures) ∙ closed-7 _ _ (c .before .before .if1 .left) (c .before .if2 .taken)
 
@@ -31,4 +25,4 @@ returns-3 c = closed-last _ _ (c .before .if1 .left) (c .if2 .left)
 
 pub after-closed-spec : {M : Type 1} → statement M
 after-closed-spec =
-    tie.close (tie.spec add-if1 returns mul-if2 add-if2 back-pressure-requires returns-2 returns-3)
+    tie.close (tie.spec (search needs) returns mul-if2 add-if2 (search needs) returns-2 returns-3)

@@ -15,9 +15,6 @@ add-if1 c = omega (arith, begin-most _ (c .pre .0))
 add-if1-2 : tie.Need-add-if1-2
 add-if1-2 c = omega (arith, begin-most _ (c .pre .0))
 
-mul-if1-2 : tie.Need-mul-if1-2
-mul-if1-2 c = search needs
-
 returns : tie.Need-returns
 returns c = pressed-7 _ _ (c .if1 .taken)
 
@@ -29,4 +26,4 @@ returns-3 c = pressed-9 _ _ (c .before .if1 .left) (c .if2 .left)
 
 pub back-pressure-spec : {M : Type 1} → statement M
 back-pressure-spec =
-    tie.close (tie.spec mul-if1 add-if1 add-if1-2 mul-if1-2 returns returns-2 returns-3)
+    tie.close (tie.spec mul-if1 add-if1 add-if1-2 (search needs) returns returns-2 returns-3)

@@ -13,9 +13,6 @@ use Rattle.publication.proofs.judge.before_offer.Tie as tie
 returns : tie.Need-returns
 returns c = rung-1 _ _ _ (c .if1 .taken)
 
-is-sound-requires : tie.Need-is-sound-requires
-is-sound-requires c κs = search needs
-
 is-so : (c : tie.Else2) → sound (c .before .before .before .args .v) (c .before .before .before .args .n) ≡ true
 is-so c = sym (c .before .is-sound .ensures) ∙ not-false _ (c .if2 .left)
 
@@ -30,12 +27,6 @@ returns-3 c = rung-5 _ _ _ (c .before .before .before .if1 .left) (is-so (c .bef
 
 after-closed-requires : tie.Need-after-closed-requires
 after-closed-requires c κs = (bounds _ _ (so (c .before)), (c .before .before .before .before .pre, c .before .before .before .if1 .left))
-
-enum-told : tie.Need-enum-told
-enum-told c = search needs
-
-enum-told-2 : tie.Need-enum-told-2
-enum-told-2 c = search needs
 
 returns-4 : tie.Need-returns-4
 returns-4 c = rung-7 _ _ _ (c .before .before .before .before .before .before .if1 .left) (is-so (c .before .before .before .before)) (c .before .before .before .if3 .left) _ _ (c .before .before .after-closed .ensures) (c .enum-told2 .given .1)
@@ -54,12 +45,12 @@ before-offer-spec =
     tie.close
     (tie.spec
     returns
-    is-sound-requires
+    (search needs)
     returns-2
     returns-3
     after-closed-requires
-    enum-told
-    enum-told-2
+    (search needs)
+    (search needs)
     returns-4
     too-long-requires
     returns-5

@@ -13,9 +13,6 @@ use Rattle.publication.proofs.judge_claim.before_claim.Tie as tie
 returns : tie.Need-returns
 returns c = claim-1 _ _ _ (c .if1 .taken)
 
-is-sound-requires : tie.Need-is-sound-requires
-is-sound-requires c κs = search needs
-
 is-so : (c : tie.Else2) → sound (c .before .before .before .args .v) (c .before .before .before .args .n) ≡ true
 is-so c = sym (c .before .is-sound .ensures) ∙ not-false _ (c .if2 .left)
 
@@ -37,23 +34,8 @@ returns-4 c = claim-5 _ _ _ (c .before .before .before .before .if1 .left) (is-s
 after-closed-requires : tie.Need-after-closed-requires
 after-closed-requires c κs = (bounds _ _ (so (c .before .before)), (c .before .before .before .before .before .pre, c .before .before .before .before .if1 .left))
 
-enum-told : tie.Need-enum-told
-enum-told c = search needs
-
-enum-told-2 : tie.Need-enum-told-2
-enum-told-2 c = search needs
-
 returns-5 : tie.Need-returns-5
 returns-5 c = claim-7 _ _ _ (c .before .before .before .before .before .before .before .if1 .left) (is-so (c .before .before .before .before .before)) (c .before .before .before .before .if3 .left) (c .before .before .before .if4 .left) _ _ (c .before .before .after-closed .ensures) (c .enum-told2 .given .1)
-
-add-if5 : tie.Need-add-if5
-add-if5 c = search needs
-
-add-if5-2 : tie.Need-add-if5-2
-add-if5-2 c = search needs
-
-mul-if5 : tie.Need-mul-if5
-mul-if5 c = search needs
 
 add-if5-3 : tie.Need-add-if5-3
 add-if5-3 c = omega (arith, so (c .before .before .before .before .before), c .before .before .before .before .before .before .before .if1 .left)
@@ -69,18 +51,18 @@ before-claim-spec =
     tie.close
     (tie.spec
     returns
-    is-sound-requires
+    (search needs)
     returns-2
     sub-payload
     returns-3
     returns-4
     after-closed-requires
-    enum-told
-    enum-told-2
+    (search needs)
+    (search needs)
     returns-5
-    add-if5
-    add-if5-2
-    mul-if5
+    (search needs)
+    (search needs)
+    (search needs)
     add-if5-3
     returns-6
     returns-7)

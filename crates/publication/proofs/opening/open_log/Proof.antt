@@ -27,28 +27,10 @@ judged : (c : tie.After-is-sound) (b : Bool) → c .is-sound .result ≡ b → s
 judged c b h =
     ap (λ (v : Reading). sound v (length (c .before .before .before .before .args .log .now))) (ap reading (sym (made (c .before .before))) ∙ sym (c .before .read-active .ensures)) ∙ sym (c .is-sound .ensures) ∙ h
 
-opened-requires : tie.Need-opened-requires
-opened-requires c κs = search needs
-
-read-active-requires : tie.Need-read-active-requires
-read-active-requires c κs = search needs
-
-is-sound-requires : tie.Need-is-sound-requires
-is-sound-requires c κs = search needs
-
-no-record-requires : tie.Need-no-record-requires
-no-record-requires c κs = search needs
-
 returns : tie.Need-returns
 returns c = let a = c .before .before .before .before .before .before .args in
     let d = open-no (a .log .now) (a .term-length) (a .mtu-length) (a .initial-term-id) (a .session-id) (a .stream-id) (judged (c .before .before) false (not-true _ (c .before .if1 .taken))) in
     (ap (λ (x : LogRecord). record { next = x; answer = Refused IllegalRecord }) (c .no-record .ensures) ∙ d .0, d .1)
-
-clear-requires : tie.Need-clear-requires
-clear-requires c κs = search needs
-
-same-length : tie.Need-same-length
-same-length c = search needs
 
 returns-2 : tie.Need-returns-2
 returns-2 c = let a = c .before .before .before .before .before .before .before .before .before .args in
@@ -59,11 +41,11 @@ pub open-log-spec : {M : Type 1} → statement M
 open-log-spec =
     tie.close
     (tie.spec
-    opened-requires
-    read-active-requires
-    is-sound-requires
-    no-record-requires
+    (search needs)
+    (search needs)
+    (search needs)
+    (search needs)
     returns
-    clear-requires
-    same-length
+    (search needs)
+    (search needs)
     returns-2)

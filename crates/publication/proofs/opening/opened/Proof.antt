@@ -11,24 +11,6 @@ use borrow.Author.Needs.{needs}
 use Rattle.publication.proofs.opening.opened.Statement.{statement}
 use Rattle.publication.proofs.opening.opened.Tie as tie
 
-biased-id-requires : tie.Need-biased-id-requires
-biased-id-requires c κs = search needs
-
-raw-tail-requires : tie.Need-raw-tail-requires
-raw-tail-requires c κs = search needs
-
-before-requires : tie.Need-before-requires
-before-requires c κs = search needs
-
-raw-tail-requires-2 : tie.Need-raw-tail-requires-2
-raw-tail-requires-2 c κs = search needs
-
-before-requires-2 : tie.Need-before-requires-2
-before-requires-2 c κs = search needs
-
-raw-tail-requires-3 : tie.Need-raw-tail-requires-3
-raw-tail-requires-3 c κs = search needs
-
 returns : tie.Need-returns
 returns c = let s = c .before .before .before .before .before .before in
     let e : c .before .before .before .before .before .biased-id .result ≡ biased (word (s .args .initial-term-id)) = c .before .before .before .before .before .biased-id .ensures .0 ∙ ap (λ (z : ℤ). biased (word z)) (toZ-ofZ (s .fits .initial-term-id)) in
@@ -41,10 +23,10 @@ pub opened-spec : {M : Type 1} → statement M
 opened-spec =
     tie.close
     (tie.spec
-    biased-id-requires
-    raw-tail-requires
-    before-requires
-    raw-tail-requires-2
-    before-requires-2
-    raw-tail-requires-3
+    (search needs)
+    (search needs)
+    (search needs)
+    (search needs)
+    (search needs)
+    (search needs)
     returns)

@@ -23,9 +23,6 @@ module _ (c : tie.Start) where
   landed : toZ w64 (ofZ w64 (toZ w64 (c .args .id) -ℤ pos 2147483648)) ≡ pos (c .args .id) -ℤ pos 2147483648
   landed = lands exact (raw-fits (c .args .id) (c .pre) _ adds)
 
-cast-result : tie.Need-cast-result
-cast-result c = search needs
-
 sub-result : tie.Need-sub-result
 sub-result c = asks (exact c) (raw-fits (c .args .id) (c .pre) _ (adds c))
 
@@ -37,4 +34,4 @@ unfolding rawOf
 returns c = ap (λ (z : ℤ). toZ w64 (ofZ w64 (z *ℤ pos 4294967296))) (landed c) ∙ ap (toZ w64) (raw-bits (c .args .id) (c .pre) (pos (c .args .id) -ℤ pos 2147483648) (adds c))
 
 pub raw-tail-spec : {M : Type 1} → statement M
-raw-tail-spec = tie.close (tie.spec cast-result sub-result mul-result returns)
+raw-tail-spec = tie.close (tie.spec (search needs) sub-result mul-result returns)

@@ -37,18 +37,6 @@ module _ (c : tie.After-struct-told) where
       ap₂ (λ (x y : ℤ). x -ℤ y) (toZ-ofZ limit-fits)
       (toZ-ofZ {w = w64} {z = c .before .before .publisher-position .result} (search needs) ∙ c .before .before .publisher-position .ensures)
 
-read-active-requires : tie.Need-read-active-requires
-read-active-requires c κs = search needs
-
-refusal-requires : tie.Need-refusal-requires
-refusal-requires c κs = search needs
-
-enum-known-e : tie.Need-enum-known-e
-enum-known-e c = search needs
-
-enum-told : tie.Need-enum-told
-enum-told c = search needs
-
 publisher-position-requires : tie.Need-publisher-position-requires
 publisher-position-requires c κs = (c .before .before .before .read-active .ensures, number-sound _ (sym (c .before .before .refusal .ensures) ∙ c .enum-told .given .1))
 
@@ -68,10 +56,10 @@ pub available-window-spec : {M : Type 1} → statement M
 available-window-spec =
     tie.close
     (tie.spec
-    read-active-requires
-    refusal-requires
-    enum-known-e
-    enum-told
+    (search needs)
+    (search needs)
+    (search needs)
+    (search needs)
     publisher-position-requires
     sub-t7
     returns

@@ -7,12 +7,6 @@ use borrow.Author.Needs.{needs}
 use Rattle.publication.proofs.positions.change.Statement.{statement}
 use Rattle.publication.proofs.positions.change.Tie as tie
 
-read-active-requires : tie.Need-read-active-requires
-read-active-requires c κs = search needs
-
-is-sound-record-requires : tie.Need-is-sound-record-requires
-is-sound-record-requires c κs = search needs
-
 returns : tie.Need-returns
 returns c = change-no _ _ (ap soundRecord (sym (c .before .before .read-active .ensures)) ∙ sym (c .before .is-sound-record .ensures) ∙ not-true _ (c .if1 .taken))
 
@@ -20,4 +14,4 @@ returns-2 : tie.Need-returns-2
 returns-2 c = change-done _ _ (ap soundRecord (sym (c .before .before .read-active .ensures)) ∙ sym (c .before .is-sound-record .ensures) ∙ not-false _ (c .if1 .left))
 
 pub change-spec : {M : Type 1} → statement M
-change-spec = tie.close (tie.spec read-active-requires is-sound-record-requires returns returns-2)
+change-spec = tie.close (tie.spec (search needs) (search needs) returns returns-2)

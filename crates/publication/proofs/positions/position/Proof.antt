@@ -12,18 +12,6 @@ use borrow.Author.Needs.{needs}
 use Rattle.publication.proofs.positions.position.Statement.{statement}
 use Rattle.publication.proofs.positions.position.Tie as tie
 
-read-active-requires : tie.Need-read-active-requires
-read-active-requires c κs = search needs
-
-refusal-requires : tie.Need-refusal-requires
-refusal-requires c κs = search needs
-
-enum-known-e : tie.Need-enum-known-e
-enum-known-e c = search needs
-
-enum-told : tie.Need-enum-told
-enum-told c = search needs
-
 publisher-position-requires : tie.Need-publisher-position-requires
 publisher-position-requires c κs = (c .before .before .before .read-active .ensures, number-sound _ (sym (c .before .before .refusal .ensures) ∙ c .enum-told .given .1))
 
@@ -39,10 +27,10 @@ pub position-spec : {M : Type 1} → statement M
 position-spec =
     tie.close
     (tie.spec
-    read-active-requires
-    refusal-requires
-    enum-known-e
-    enum-told
+    (search needs)
+    (search needs)
+    (search needs)
+    (search needs)
     publisher-position-requires
     returns
     returns-2)

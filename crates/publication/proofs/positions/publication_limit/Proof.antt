@@ -12,18 +12,6 @@ use borrow.Author.Needs.{needs}
 use Rattle.publication.proofs.positions.publication_limit.Statement.{statement}
 use Rattle.publication.proofs.positions.publication_limit.Tie as tie
 
-read-active-requires : tie.Need-read-active-requires
-read-active-requires c κs = search needs
-
-refusal-requires : tie.Need-refusal-requires
-refusal-requires c κs = search needs
-
-enum-known-e : tie.Need-enum-known-e
-enum-known-e c = search needs
-
-enum-told : tie.Need-enum-told
-enum-told c = search needs
-
 returns : tie.Need-returns
 returns c = number-is _ _ _ (ap numberVerdict (sym (c .before .before .before .before .read-active .ensures)) ∙ sym (c .before .before .before .refusal .ensures) ∙ c .before .e .given .1)
 
@@ -36,4 +24,4 @@ returns-2 c = let v = c .before .before .before .before .read-active in
 pub publication-limit-spec : {M : Type 1} → statement M
 publication-limit-spec =
     tie.close
-    (tie.spec read-active-requires refusal-requires enum-known-e enum-told returns returns-2)
+    (tie.spec (search needs) (search needs) (search needs) (search needs) returns returns-2)

@@ -34,35 +34,8 @@ module _ (c : tie.After-compute-position) where
       (toZ-ofZ {w = w32} {z = c .before .before .term-id .result} (search needs) ∙ c .before .before .term-id .ensures ∙ ap termId (toZ-ofZ tail-fits))
       (c .before .before .before .before .term-offset .ensures ∙ ap (λ (z : ℤ). termOffset z (start .args .v .term)) (toZ-ofZ tail-fits)) (c .before .before .before .position-bits-to-shift .ensures)
 
-mul-raw : tie.Need-mul-raw
-mul-raw c = search needs
-
-element-copy-out-raw : tie.Need-element-copy-out-raw
-element-copy-out-raw c = search needs
-
-term-offset-requires : tie.Need-term-offset-requires
-term-offset-requires c κs = search needs
-
 cast-position-bits-to-shift : tie.Need-cast-position-bits-to-shift
 cast-position-bits-to-shift c = omega (arith, so (c .before .before) .term-high)
-
-position-bits-to-shift-requires : tie.Need-position-bits-to-shift-requires
-position-bits-to-shift-requires c κs = search needs
-
-term-id-requires : tie.Need-term-id-requires
-term-id-requires c κs = search needs
-
-cast-compute-position : tie.Need-cast-compute-position
-cast-compute-position c = search needs
-
-compute-position-requires : tie.Need-compute-position-requires
-compute-position-requires c κs = search needs
-
-enum-known-answer : tie.Need-enum-known-answer
-enum-known-answer c = search needs
-
-enum-told : tie.Need-enum-told
-enum-told c = search needs
 
 returns : tie.Need-returns
 returns c =
@@ -79,15 +52,15 @@ pub publisher-position-spec : {M : Type 1} → statement M
 publisher-position-spec =
     tie.close
     (tie.spec
-    mul-raw
-    element-copy-out-raw
-    term-offset-requires
+    (search needs)
+    (search needs)
+    (search needs)
     cast-position-bits-to-shift
-    position-bits-to-shift-requires
-    term-id-requires
-    cast-compute-position
-    compute-position-requires
-    enum-known-answer
-    enum-told
+    (search needs)
+    (search needs)
+    (search needs)
+    (search needs)
+    (search needs)
+    (search needs)
     returns
     returns-2)

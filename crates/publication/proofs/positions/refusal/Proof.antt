@@ -6,9 +6,6 @@ use borrow.Author.Needs.{needs}
 use Rattle.publication.proofs.positions.refusal.Statement.{statement}
 use Rattle.publication.proofs.positions.refusal.Tie as tie
 
-is-sound-record-requires : tie.Need-is-sound-record-requires
-is-sound-record-requires c κs = search needs
-
 returns : tie.Need-returns
 returns c = number-2 _ (sym (c .before .is-sound-record .ensures) ∙ not-true _ (c .if1 .taken))
 
@@ -19,4 +16,4 @@ returns-3 : tie.Need-returns-3
 returns-3 c = number-last _ (sym (c .before .before .is-sound-record .ensures) ∙ not-false _ (c .before .if1 .left)) (c .if2 .left)
 
 pub refusal-spec : {M : Type 1} → statement M
-refusal-spec = tie.close (tie.spec is-sound-record-requires returns returns-2 returns-3)
+refusal-spec = tie.close (tie.spec (search needs) returns returns-2 returns-3)

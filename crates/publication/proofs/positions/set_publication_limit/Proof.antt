@@ -8,12 +8,9 @@ use borrow.Author.Needs.{needs}
 use Rattle.publication.proofs.positions.set_publication_limit.Statement.{statement}
 use Rattle.publication.proofs.positions.set_publication_limit.Tie as tie
 
-change-requires : tie.Need-change-requires
-change-requires c κs = search needs
-
 returns : tie.Need-returns
 unfolding withLimit changed
 returns c = let s = c .before in c .change .ensures ∙ ap (λ (z : ℤ). changeOf (s .args .rec) (withLimit (s .args .rec) z)) (toZ-ofZ (s .fits .limit))
 
 pub set-publication-limit-spec : {M : Type 1} → statement M
-set-publication-limit-spec = tie.close (tie.spec change-requires returns)
+set-publication-limit-spec = tie.close (tie.spec (search needs) returns)

@@ -8,15 +8,9 @@ use borrow.Author.Needs.{needs}
 use Rattle.replay.proofs.Replay.new.Statement.{statement}
 use Rattle.replay.proofs.Replay.new.Tie as tie
 
-new-requires : tie.Need-new-requires
-new-requires c κs = search needs
-
-new-requires-2 : tie.Need-new-requires-2
-new-requires-2 c κs = search needs
-
 returns : tie.Need-returns
 returns c =
     (ap imageState (c .before .new .ensures) ∙ ap (newImage (pos 0)) (toZ-ofZ (c .before .before .fits .session-id)), c .new2 .ensures)
 
 pub new-spec : {M : Type 1} → statement M
-new-spec = tie.close (tie.spec new-requires new-requires-2 returns)
+new-spec = tie.close (tie.spec (search needs) (search needs) returns)

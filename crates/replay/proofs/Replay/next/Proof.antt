@@ -18,9 +18,6 @@ Inv-loop rec log buffer₀ replay₀ left₀ buffer replay left =
 abbrev μ-loop : tie.MeasureT-loop
 μ-loop rec log buffer₀ replay₀ left₀ buffer replay left = left
 
-word-requires : tie.Need-word-requires Inv-loop μ-loop
-word-requires c κs = search needs
-
 mul-left : tie.Need-mul-left Inv-loop μ-loop
 mul-left c = record { fits = omega (arith, c .word .ensures .1) }
 
@@ -32,12 +29,6 @@ loop-holds c =
     let a = c .before .before .before .before .args in
     (refl, next-starts (a .rec) (a .log .now) (stateOf (a .self) (a .buffer .now)) (c .word .result) (word-by (a .rec .«term_length») (c .word .ensures .0) (search needs)))
 
-turn-requires : tie.Need-turn-requires Inv-loop μ-loop
-turn-requires c κs = search needs
-
-same-length : tie.Need-same-length Inv-loop μ-loop
-same-length c = search needs
-
 returns : tie.Need-returns Inv-loop μ-loop
 returns c =
     let a = c .before .before .before .before .before .before .before .before .before .before .before .before .before .args in
@@ -46,12 +37,6 @@ returns c =
     let w = c .before .before .before .before .before .turn .last .1 .1 .1 .0 in
     next-stops (a .rec) (a .log .now) (stateOf (l .replay) (l .buffer)) (turned (t .result) w) (t .ensures) (l .left) (omega arith) (not-true _ (c .if1 .taken)) ∙ l .inv .1
 
-sub-left : tie.Need-sub-left Inv-loop μ-loop
-sub-left c = search needs
-
-loop-less : tie.Need-loop-less Inv-loop μ-loop
-loop-less c = search needs
-
 loop-again : tie.Need-loop-again Inv-loop μ-loop
 loop-again c =
     let a = c .before .before .before .before .before .before .before .before .before .before .before .before .before .args in
@@ -59,9 +44,6 @@ loop-again c =
     let t = c .before .before .before .before .before .turn in
     let w = c .before .before .before .before .before .turn .last .1 .1 .1 .0 in
     (search needs, next-goes (a .rec) (a .log .now) (stateOf (l .replay) (l .buffer)) (turned (t .result) w) (t .ensures) (l .left) (omega arith) (not-false _ (c .if1 .left)) ∙ l .inv .1)
-
-same-length-2 : tie.Need-same-length-2 Inv-loop μ-loop
-same-length-2 c = search needs
 
 returns-2 : tie.Need-returns-2 Inv-loop μ-loop
 returns-2 c =
@@ -75,15 +57,15 @@ next-spec =
     (tie.spec
     Inv-loop
     μ-loop
-    word-requires
+    (search needs)
     mul-left
     add-left
     loop-holds
-    turn-requires
-    same-length
+    (search needs)
+    (search needs)
     returns
-    sub-left
-    loop-less
+    (search needs)
+    (search needs)
     loop-again
-    same-length-2
+    (search needs)
     returns-2)

@@ -10,8 +10,5 @@ use Rattle.vectors.proofs.values.wide.Tie as tie
 cast-result : tie.Need-cast-result
 cast-result c = subst (SFits w64) (sym (toZ-ofZ (c .fits .v))) (sfits-widen tt (c .fits .v))
 
-returns : tie.Need-returns
-returns c = search needs
-
 pub wide-spec : {M : Type 1} → statement M
-wide-spec = tie.close (tie.spec cast-result returns)
+wide-spec = tie.close (tie.spec cast-result (search needs))

@@ -14,24 +14,6 @@ use Rattle.logbuffer.proofs.fragment_assembler.FragmentAssembler.holdin
 }
 use Rattle.logbuffer.proofs.fragment_assembler.FragmentAssembler.holding.Tie as tie
 
-entered-requires : tie.Need-entered-requires
-entered-requires c κs = search needs
-
-mul-session : tie.Need-mul-session
-mul-session c = search needs
-
-element-set-from-session : tie.Need-element-set-from-session
-element-set-from-session c = search needs
-
-mul-self : tie.Need-mul-self
-mul-self c = search needs
-
-element-write-self : tie.Need-element-write-self
-element-write-self c = search needs
-
-add-self : tie.Need-add-self
-add-self c = search needs
-
 returns : tie.Need-returns
 returns c = let s = c .before .before in held-before (sessionsOf (s .args .t1)) (s .args .k) (toZ w32 (ofZ w32 (s .args .session))) (s .args .n) (c .before .entered .result) (c .before .entered .ensures .0) (omega arith) ∙ ap (λ (z : ℤ). holding (sessionsOf (s .args .t1)) (s .args .k) z (s .args .n)) (toZ-ofZ (s .fits .session))
 
@@ -42,11 +24,11 @@ pub holding-spec : {M : Type 1} → statement M
 holding-spec =
     tie.close
     (tie.spec
-    entered-requires
-    mul-session
-    element-set-from-session
-    mul-self
-    element-write-self
-    add-self
+    (search needs)
+    (search needs)
+    (search needs)
+    (search needs)
+    (search needs)
+    (search needs)
     returns
     returns-2)

@@ -34,18 +34,6 @@ is c x e =
 framed : (c : tie.After-assemble-verdict) → c .assemble-verdict .result ≡ Pass → Framed (st c .args .log .now) (p c .partition * p c .read .term + p c .offset)
 framed c e = verdict-passed (p c .read) (st c .args .log .now) (length (st c .args .buffer .now)) (p c .partition) (p c .offset) (sym (c .assemble-verdict .ensures) ∙ e)
 
-place-requires : tie.Need-place-requires
-place-requires c κs = search needs
-
-assemble-verdict-requires : tie.Need-assemble-verdict-requires
-assemble-verdict-requires c κs = search needs
-
-enum-known-e : tie.Need-enum-known-e
-enum-known-e c = search needs
-
-enum-told : tie.Need-enum-told
-enum-told c = search needs
-
 mul-index : tie.Need-mul-index
 mul-index c =
     let q = c .before .before .before in record { fits = omega (arith, framed q (c .before .enum-told .given .1) .whole, st q .good) }
@@ -63,9 +51,6 @@ join-frame-requires c κs =
 returns : tie.Need-returns
 returns c = three _ _ (is (c .before .before .before) (Refuse (c .before .e .given .0 .0)) (c .before .e .given .1))
 
-same-length : tie.Need-same-length
-same-length c = search needs
-
 returns-2 : tie.Need-returns-2
 returns-2 c =
     let t = three _ _ (is (c .before .before .before .before .before .before .before .before) Pass (c .before .before .before .before .before .before .enum-told .given .1)) in
@@ -76,13 +61,13 @@ pub on-fragment-spec : {M : Type 1} → statement M
 on-fragment-spec =
     tie.close
     (tie.spec
-    place-requires
-    assemble-verdict-requires
-    enum-known-e
-    enum-told
+    (search needs)
+    (search needs)
+    (search needs)
+    (search needs)
     mul-index
     add-index
     join-frame-requires
     returns
-    same-length
+    (search needs)
     returns-2)

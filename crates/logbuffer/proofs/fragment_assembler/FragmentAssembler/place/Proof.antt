@@ -20,23 +20,8 @@ Inv-loop session n ids i₀ i = (i ≤ n) × Left ids n (toZ w32 session) i
 abbrev μ-loop : tie.MeasureT-loop
 μ-loop session n ids i₀ i = n - i
 
-entered-requires : tie.Need-entered-requires Inv-loop μ-loop
-entered-requires c κs = search needs
-
 loop-holds : tie.Need-loop-holds Inv-loop μ-loop
 loop-holds c = (omega arith, left-all (c .before .before .args .self .ids) (c .before .entered .result) _)
-
-mul-if1 : tie.Need-mul-if1 Inv-loop μ-loop
-mul-if1 c = search needs
-
-array-copy-out-if1 : tie.Need-array-copy-out-if1 Inv-loop μ-loop
-array-copy-out-if1 c = search needs
-
-add-i : tie.Need-add-i Inv-loop μ-loop
-add-i c = search needs
-
-loop-less : tie.Need-loop-less Inv-loop μ-loop
-loop-less c = search needs
 
 loop-again : tie.Need-loop-again Inv-loop μ-loop
 loop-again c =
@@ -77,12 +62,12 @@ place-spec =
     (tie.spec
     Inv-loop
     μ-loop
-    entered-requires
+    (search needs)
     loop-holds
-    mul-if1
-    array-copy-out-if1
-    add-i
-    loop-less
+    (search needs)
+    (search needs)
+    (search needs)
+    (search needs)
     loop-again
     returns
     returns-2)
