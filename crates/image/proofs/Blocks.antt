@@ -14,6 +14,7 @@ use mir.Val.{SFits, toZ, ofZ}
 use mir.Facts.{toZ-ofZ}
 use Rattle.model.specs.declared.LogRecord.{LogRecord}
 use Rattle.model.specs.declared.Reading.{Reading}
+use Rattle.model.specs.declared.Place.{Place}
 use Rattle.model.specs.declared.Error.{Error}
 use Rattle.model.specs.declared.Error.the-variants.{UnsoundFrame}
 use Rattle.model.specs.declared.Verdict.the-variants.{Pass, Refuse}
@@ -30,12 +31,13 @@ use Rattle.model.specs.declared.BlockPolled.the-variants.{Block}
 use Rattle.model.specs.Bytes.{word, long, i32, u32}
 use Rattle.model.specs.DataFrameHeader.{headerAt}
 use Rattle.model.specs.FrameDescriptor.{align, frameAt}
-use Rattle.model.specs.LogBufferDescriptor.{reading, sound, partitionOf, goodPartition, goodOffset, withinTerm}
-use Rattle.model.specs.TermReader.{natural, fieldsOf, headerCall}
+use Rattle.model.specs.LogBufferDescriptor.{reading, sound, partitionOf, goodPartition, goodOffset, withinTerm, placeOf}
+use Rattle.model.specs.TermReader.{natural, fieldsOf, headerBy, headerCall}
 use Rattle.model.specs.TermScan.{scanOver, scanFrom, scanBy, scanOf}
 use Rattle.model.specs.Image.{Image as State, refuseIf, readable, unsoundAt, pollVerdict, blockEnd, blockLength, blockBy, blockPollOf}
 use Rattle.model.proofs.FrameLaws.{Lies, lies}
-use Rattle.model.proofs.HeaderRows.{header-fields}
+use Rattle.model.proofs.HeaderRows.{header-by}
+use Rattle.model.proofs.Rows.{no-row}
 use Rattle.model.proofs.ScanRows.{scan-goes}
 use Rattle.image.specs.Images.{blockSaid}
 use Rattle.image.proofs.Places.{At, at-place}
@@ -104,6 +106,16 @@ module _ (r : LogRecord) (log : List ℕ) (v : Reading) (p : ℕ) (ev : v ≡ re
   partition-good : goodPartition (p / v .term % 3) ≡ true
   partition-good = le-leb _ _ (place .partition)
 
+  -- the place that the scan and the header are asked for
+  abbrev named : Place
+  named = record { read = v; partition = p / v .term % 3; offset = p % v .term }
+
+  named-is : named ≡ placeOf r (signed (p / v .term % 3)) (signed (p % v .term))
+  named-is =
+      let k : p / v .term % 3 ≡ word (signed (p / v .term % 3)) = sent _ k-small in
+      let at : p % v .term ≡ word (signed (p % v .term)) = sent _ at-small in
+      cc
+
   pub scan-is : (end : ℕ) → end ≤ v .term
       → scanBy (scanFrom (v .term) log (partitionOf p (v .term) * v .term) (v .term) end true (p % v .term)) (cond (unsoundAt v log p end 1) (Refuse UnsoundFrame) Pass)
       ≡ scanOf r log (signed (p / v .term % 3)) (signed (p % v .term)) (signed end)
@@ -111,13 +123,14 @@ module _ (r : LogRecord) (log : List ℕ) (v : Reading) (p : ℕ) (ev : v ≡ re
       let s : end < 2147483648 = omega (arith, place .term-high) in
       let n : end ≡ natural (signed end) = ap natural (sym (signed-is end s)) in
       let g : (goodPartition (p / v .term % 3) && (goodOffset (p % v .term) v && withinTerm end v)) ≡ true = rw (partition-good, offset-good) (within end e) in
-      scan-goes r log (signed (p / v .term % 3)) (signed (p % v .term)) v (p / v .term % 3) (p % v .term) ev (sent _ k-small) (sent _ at-small) (signed end) end n g h
+      scan-goes r log (signed (p / v .term % 3)) (signed (p % v .term)) named named-is (signed end) end n (sym (no-row _ _ g h))
 
   header-is : Fields (fieldsOf v (p % v .term) (headerAt (drop (partitionOf p (v .term) * v .term + p % v .term) log)))
       ≡ headerCall r log (signed (p / v .term % 3)) (signed (p % v .term))
   header-is =
       let g : (goodPartition (p / v .term % 3) && goodOffset (p % v .term) v) ≡ true = rw partition-good offset-good in
-      header-fields r log (signed (p / v .term % 3)) (signed (p % v .term)) v (p / v .term % 3) (p % v .term) ev (sent _ k-small) (sent _ at-small) g h
+      let f = fieldsOf v (p % v .term) (headerAt (drop (partitionOf p (v .term) * v .term + p % v .term) log)) in
+      ap (headerBy f) (no-row _ _ g h) ∙ header-by r log (signed (p / v .term % 3)) (signed (p % v .term)) named named-is
 
   id-field : fieldsOf v (p % v .term) (headerAt (drop (partitionOf p (v .term) * v .term + p % v .term) log)) .«term_id»
       ≡ i32 (drop (partitionOf p (v .term) * v .term + p % v .term + 20) log)

@@ -24,5 +24,5 @@ appended-spec =
     (search needs)
     returns
     returns-2
-    (search needs)
+    (λ c. search needs)
     returns-4)

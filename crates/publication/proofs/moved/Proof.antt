@@ -26,7 +26,7 @@ moved-spec =
     tie.close
     (tie.spec
     (search needs)
-    (search needs)
+    (λ c. search needs)
     (search needs)
     (search needs)
     returns-2
