@@ -7,20 +7,13 @@ use Rattle.capi.proofs.Handed.{handed2}
 use borrow.Author.Needs.{needs}
 use Rattle.capi.proofs.descriptor.logbuffer_compute_position.Statement.{statement}
 use Rattle.capi.proofs.descriptor.logbuffer_compute_position.Tie as tie
-use Rattle.capi.proofs.descriptor.logbuffer_compute_position.Reads as reads
-use Rattle.capi.proofs.descriptor.logbuffer_compute_position.Lts as lts
-use Rattle.capi.proofs.replies.positioned.Reads as positioned-reads
-use Rattle.logbuffer.proofs.log_buffer_descriptor.compute_position.Reads as compute-position-reads
 
--- src/descriptor.rt:69:25
 compute-position-requires : tie.Need-compute-position-requires
 compute-position-requires c κs = search needs
 
--- src/descriptor.rt:69:5
 positioned-requires : tie.Need-positioned-requires
 positioned-requires c κs = search needs
 
--- src/descriptor.rt:60:1
 returns : tie.Need-returns
 returns c =
     let s = c .before .before in

@@ -7,15 +7,10 @@ use Rattle.model.specs.LogBufferDescriptor.{termId}
 use borrow.Author.Needs.{needs}
 use Rattle.capi.proofs.descriptor.logbuffer_term_id.Statement.{statement}
 use Rattle.capi.proofs.descriptor.logbuffer_term_id.Tie as tie
-use Rattle.capi.proofs.descriptor.logbuffer_term_id.Reads as reads
-use Rattle.capi.proofs.descriptor.logbuffer_term_id.Lts as lts
-use Rattle.logbuffer.proofs.log_buffer_descriptor.term_id.Reads as term-id-reads
 
--- src/descriptor.rt:29:5
 term-id-requires : tie.Need-term-id-requires
 term-id-requires c κs = search needs
 
--- src/descriptor.rt:25:1
 returns : tie.Need-returns
 returns c =
     let back : toZ w32 (ofZ w32 (c .term-id .result)) ≡ c .term-id .result = search needs in

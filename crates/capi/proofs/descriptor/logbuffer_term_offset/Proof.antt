@@ -6,15 +6,10 @@ use Rattle.model.specs.LogBufferDescriptor.{termOffset}
 use borrow.Author.Needs.{needs}
 use Rattle.capi.proofs.descriptor.logbuffer_term_offset.Statement.{statement}
 use Rattle.capi.proofs.descriptor.logbuffer_term_offset.Tie as tie
-use Rattle.capi.proofs.descriptor.logbuffer_term_offset.Reads as reads
-use Rattle.capi.proofs.descriptor.logbuffer_term_offset.Lts as lts
-use Rattle.logbuffer.proofs.log_buffer_descriptor.term_offset.Reads as term-offset-reads
 
--- src/descriptor.rt:36:5
 term-offset-requires : tie.Need-term-offset-requires
 term-offset-requires c κs = search needs
 
--- src/descriptor.rt:32:1
 returns : tie.Need-returns
 returns c =
     c .term-offset .ensures ∙ handed1 (λ (p : ℤ). termOffset p (c .before .args .term-length)) (c .before .fits .raw-tail)

@@ -9,24 +9,16 @@ use Rattle.model.specs.declared.Assembled.{Assembled}
 use borrow.Author.Needs.{needs}
 use Rattle.capi.proofs.reading.logbuffer_assembler_on_fragment.Statement.{statement}
 use Rattle.capi.proofs.reading.logbuffer_assembler_on_fragment.Tie as tie
-use Rattle.capi.proofs.reading.logbuffer_assembler_on_fragment.Reads as reads
-use Rattle.capi.proofs.reading.logbuffer_assembler_on_fragment.Lts as lts
-use Rattle.capi.proofs.replies.assembled.Reads as assembled-reads
-use Rattle.logbuffer.proofs.fragment_assembler.FragmentAssembler.on_fragment.Reads as on-fragment-reads
 
--- src/reading.rt:289:9
 on-fragment-requires : tie.Need-on-fragment-requires
 on-fragment-requires c κs = search needs
 
--- src/reading.rt:292:5
 assembled-requires : tie.Need-assembled-requires
 assembled-requires c κs = search needs
 
--- src/reading.rt:277:1
 same-length : tie.Need-same-length
 same-length c = search needs
 
--- src/reading.rt:277:1
 returns : tie.Need-returns
 returns c =
     let s = c .before .before .before .before .before .before .before .before in

@@ -7,20 +7,13 @@ use Rattle.capi.proofs.Handed.{handed2}
 use borrow.Author.Needs.{needs}
 use Rattle.capi.proofs.reading.logbuffer_header_fields.Statement.{statement}
 use Rattle.capi.proofs.reading.logbuffer_header_fields.Tie as tie
-use Rattle.capi.proofs.reading.logbuffer_header_fields.Reads as reads
-use Rattle.capi.proofs.reading.logbuffer_header_fields.Lts as lts
-use Rattle.capi.proofs.replies.header_read.Reads as header-read-reads
-use Rattle.logbuffer.proofs.header.fields.Reads as fields-reads
 
--- src/reading.rt:47:26
 fields-requires : tie.Need-fields-requires
 fields-requires c κs = search needs
 
--- src/reading.rt:47:5
 header-read-requires : tie.Need-header-read-requires
 header-read-requires c κs = search needs
 
--- src/reading.rt:38:1
 returns : tie.Need-returns
 returns c =
     let s = c .before .before .before in

@@ -8,20 +8,13 @@ use Rattle.capi.proofs.Handed.{handed1}
 use borrow.Author.Needs.{needs}
 use Rattle.capi.proofs.reading.logbuffer_image_block_poll.Statement.{statement}
 use Rattle.capi.proofs.reading.logbuffer_image_block_poll.Tie as tie
-use Rattle.capi.proofs.reading.logbuffer_image_block_poll.Reads as reads
-use Rattle.capi.proofs.reading.logbuffer_image_block_poll.Lts as lts
-use Rattle.capi.proofs.replies.block_polled.Reads as block-polled-reads
-use Rattle.image.proofs.Image.block_poll.Reads as block-poll-reads
 
--- src/reading.rt:222:9
 block-poll-requires : tie.Need-block-poll-requires
 block-poll-requires c κs = search needs
 
--- src/reading.rt:225:5
 block-polled-requires : tie.Need-block-polled-requires
 block-polled-requires c κs = search needs
 
--- src/reading.rt:213:1
 returns : tie.Need-returns
 returns c =
     let s = c .before .before .before .before in

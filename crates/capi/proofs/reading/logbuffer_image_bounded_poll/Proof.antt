@@ -8,24 +8,16 @@ use Rattle.capi.proofs.Handed.{handed2}
 use borrow.Author.Needs.{needs}
 use Rattle.capi.proofs.reading.logbuffer_image_bounded_poll.Statement.{statement}
 use Rattle.capi.proofs.reading.logbuffer_image_bounded_poll.Tie as tie
-use Rattle.capi.proofs.reading.logbuffer_image_bounded_poll.Reads as reads
-use Rattle.capi.proofs.reading.logbuffer_image_bounded_poll.Lts as lts
-use Rattle.capi.proofs.replies.polled.Reads as polled-reads
-use Rattle.image.proofs.Image.bounded_poll.Reads as bounded-poll-reads
 
--- src/reading.rt:173:9
 bounded-poll-requires : tie.Need-bounded-poll-requires
 bounded-poll-requires c κs = search needs
 
--- src/reading.rt:176:5
 polled-requires : tie.Need-polled-requires
 polled-requires c κs = search needs
 
--- src/reading.rt:161:1
 same-length : tie.Need-same-length
 same-length c = search needs
 
--- src/reading.rt:161:1
 returns : tie.Need-returns
 returns c =
     let s = c .before .before .before .before .before .before in

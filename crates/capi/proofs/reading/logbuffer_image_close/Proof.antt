@@ -7,20 +7,13 @@ use Rattle.capi.specs.Replies.{imageReply}
 use borrow.Author.Needs.{needs}
 use Rattle.capi.proofs.reading.logbuffer_image_close.Statement.{statement}
 use Rattle.capi.proofs.reading.logbuffer_image_close.Tie as tie
-use Rattle.capi.proofs.reading.logbuffer_image_close.Reads as reads
-use Rattle.capi.proofs.reading.logbuffer_image_close.Lts as lts
-use Rattle.capi.proofs.replies.outcome_code.Reads as outcome-code-reads
-use Rattle.image.proofs.Image.close.Reads as close-reads
 
--- src/reading.rt:261:9
 close-requires : tie.Need-close-requires
 close-requires c κs = search needs
 
--- src/reading.rt:266:15
 outcome-code-requires : tie.Need-outcome-code-requires
 outcome-code-requires c κs = search needs
 
--- src/reading.rt:257:1
 returns : tie.Need-returns
 returns c =
     let back : toZ w32 (ofZ w32 (c .outcome-code .result)) ≡ c .outcome-code .result = search needs in

@@ -8,24 +8,16 @@ use Rattle.capi.proofs.Handed.{handed2}
 use borrow.Author.Needs.{needs}
 use Rattle.capi.proofs.reading.logbuffer_image_controlled_peek.Statement.{statement}
 use Rattle.capi.proofs.reading.logbuffer_image_controlled_peek.Tie as tie
-use Rattle.capi.proofs.reading.logbuffer_image_controlled_peek.Reads as reads
-use Rattle.capi.proofs.reading.logbuffer_image_controlled_peek.Lts as lts
-use Rattle.capi.proofs.replies.peeked.Reads as peeked-reads
-use Rattle.image.proofs.Image.controlled_peek.Reads as controlled-peek-reads
 
--- src/reading.rt:210:21
 controlled-peek-requires : tie.Need-controlled-peek-requires
 controlled-peek-requires c κs = search needs
 
--- src/reading.rt:210:5
 peeked-requires : tie.Need-peeked-requires
 peeked-requires c κs = search needs
 
--- src/reading.rt:197:1
 same-length : tie.Need-same-length
 same-length c = search needs
 
--- src/reading.rt:197:1
 returns : tie.Need-returns
 returns c =
     let s = c .before .before .before .before .before .before in

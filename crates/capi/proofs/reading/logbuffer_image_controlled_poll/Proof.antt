@@ -8,24 +8,16 @@ use Rattle.capi.proofs.Handed.{handed1}
 use borrow.Author.Needs.{needs}
 use Rattle.capi.proofs.reading.logbuffer_image_controlled_poll.Statement.{statement}
 use Rattle.capi.proofs.reading.logbuffer_image_controlled_poll.Tie as tie
-use Rattle.capi.proofs.reading.logbuffer_image_controlled_poll.Reads as reads
-use Rattle.capi.proofs.reading.logbuffer_image_controlled_poll.Lts as lts
-use Rattle.capi.proofs.replies.polled.Reads as polled-reads
-use Rattle.image.proofs.Image.controlled_poll.Reads as controlled-poll-reads
 
--- src/reading.rt:191:9
 controlled-poll-requires : tie.Need-controlled-poll-requires
 controlled-poll-requires c κs = search needs
 
--- src/reading.rt:194:5
 polled-requires : tie.Need-polled-requires
 polled-requires c κs = search needs
 
--- src/reading.rt:179:1
 same-length : tie.Need-same-length
 same-length c = search needs
 
--- src/reading.rt:179:1
 returns : tie.Need-returns
 returns c =
     let s = c .before .before .before .before .before .before .before in

@@ -4,20 +4,13 @@ use Rattle.capi.specs.Replies.{endOfStreamReply}
 use borrow.Author.Needs.{needs}
 use Rattle.capi.proofs.reading.logbuffer_image_is_end_of_stream.Statement.{statement}
 use Rattle.capi.proofs.reading.logbuffer_image_is_end_of_stream.Tie as tie
-use Rattle.capi.proofs.reading.logbuffer_image_is_end_of_stream.Reads as reads
-use Rattle.capi.proofs.reading.logbuffer_image_is_end_of_stream.Lts as lts
-use Rattle.capi.proofs.replies.end_of_stream.Reads as end-of-stream-reads
-use Rattle.image.proofs.Image.is_end_of_stream.Reads as is-end-of-stream-reads
 
--- src/reading.rt:254:28
 is-end-of-stream-requires : tie.Need-is-end-of-stream-requires
 is-end-of-stream-requires c κs = search needs
 
--- src/reading.rt:254:5
 end-of-stream-requires : tie.Need-end-of-stream-requires
 end-of-stream-requires c κs = search needs
 
--- src/reading.rt:246:1
 returns : tie.Need-returns
 returns c = c .end-of-stream .ensures ∙ ap endOfStreamReply (c .before .is-end-of-stream .ensures)
 

@@ -7,15 +7,10 @@ use Rattle.capi.proofs.Handed.{handed2}
 use borrow.Author.Needs.{needs}
 use Rattle.capi.proofs.reading.logbuffer_image_new.Statement.{statement}
 use Rattle.capi.proofs.reading.logbuffer_image_new.Tie as tie
-use Rattle.capi.proofs.reading.logbuffer_image_new.Reads as reads
-use Rattle.capi.proofs.reading.logbuffer_image_new.Lts as lts
-use Rattle.image.proofs.Image.new.Reads as new-reads
 
--- src/reading.rt:141:5
 new-requires : tie.Need-new-requires
 new-requires c κs = search needs
 
--- src/reading.rt:137:1
 returns : tie.Need-returns
 returns c =
     c .new .ensures ∙ handed2 (λ (p q : ℤ). imageOf (newImage p q)) (c .before .fits .position) (c .before .fits .session-id)

@@ -10,20 +10,13 @@ use Rattle.capi.proofs.Handed.{handed1}
 use borrow.Author.Needs.{needs}
 use Rattle.capi.proofs.reading.logbuffer_image_set_position.Statement.{statement}
 use Rattle.capi.proofs.reading.logbuffer_image_set_position.Tie as tie
-use Rattle.capi.proofs.reading.logbuffer_image_set_position.Reads as reads
-use Rattle.capi.proofs.reading.logbuffer_image_set_position.Lts as lts
-use Rattle.capi.proofs.replies.outcome_code.Reads as outcome-code-reads
-use Rattle.image.proofs.Image.set_position.Reads as set-position-reads
 
--- src/reading.rt:237:9
 set-position-requires : tie.Need-set-position-requires
 set-position-requires c κs = search needs
 
--- src/reading.rt:242:15
 outcome-code-requires : tie.Need-outcome-code-requires
 outcome-code-requires c κs = search needs
 
--- src/reading.rt:228:1
 returns : tie.Need-returns
 returns c =
     let s = c .before .before .before .before in

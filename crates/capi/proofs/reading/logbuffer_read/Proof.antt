@@ -7,24 +7,16 @@ use Rattle.capi.proofs.Handed.{handed3}
 use borrow.Author.Needs.{needs}
 use Rattle.capi.proofs.reading.logbuffer_read.Statement.{statement}
 use Rattle.capi.proofs.reading.logbuffer_read.Tie as tie
-use Rattle.capi.proofs.reading.logbuffer_read.Reads as reads
-use Rattle.capi.proofs.reading.logbuffer_read.Lts as lts
-use Rattle.capi.proofs.replies.term_read.Reads as term-read-reads
-use Rattle.logbuffer.proofs.term_reader.read.Reads as read-reads
 
--- src/reading.rt:62:24
 read-requires : tie.Need-read-requires
 read-requires c κs = search needs
 
--- src/reading.rt:62:5
 term-read-requires : tie.Need-term-read-requires
 term-read-requires c κs = search needs
 
--- src/reading.rt:50:1
 same-length : tie.Need-same-length
 same-length c = search needs
 
--- src/reading.rt:50:1
 returns : tie.Need-returns
 returns c =
     let s = c .before .before .before .before .before in

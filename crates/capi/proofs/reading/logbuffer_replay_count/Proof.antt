@@ -7,24 +7,16 @@ use Rattle.capi.proofs.Handed.{handed1}
 use borrow.Author.Needs.{needs}
 use Rattle.capi.proofs.reading.logbuffer_replay_count.Statement.{statement}
 use Rattle.capi.proofs.reading.logbuffer_replay_count.Tie as tie
-use Rattle.capi.proofs.reading.logbuffer_replay_count.Reads as reads
-use Rattle.capi.proofs.reading.logbuffer_replay_count.Lts as lts
-use Rattle.capi.proofs.replies.counted.Reads as counted-reads
-use Rattle.replay.proofs.count.Reads as count-reads
 
--- src/reading.rt:328:22
 count-requires : tie.Need-count-requires
 count-requires c κs = search needs
 
--- src/reading.rt:328:5
 counted-requires : tie.Need-counted-requires
 counted-requires c κs = search needs
 
--- src/reading.rt:318:1
 same-length : tie.Need-same-length
 same-length c = search needs
 
--- src/reading.rt:318:1
 returns : tie.Need-returns
 returns c =
     let s = c .before .before .before .before .before .before .before in

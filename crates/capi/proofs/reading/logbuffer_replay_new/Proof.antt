@@ -9,15 +9,10 @@ use Rattle.model.specs.FragmentAssembler.{Sessions, fresh}
 use borrow.Author.Needs.{needs}
 use Rattle.capi.proofs.reading.logbuffer_replay_new.Statement.{statement}
 use Rattle.capi.proofs.reading.logbuffer_replay_new.Tie as tie
-use Rattle.capi.proofs.reading.logbuffer_replay_new.Reads as reads
-use Rattle.capi.proofs.reading.logbuffer_replay_new.Lts as lts
-use Rattle.replay.proofs.Replay.new.Reads as new-reads
 
--- src/reading.rt:299:5
 new-requires : tie.Need-new-requires
 new-requires c κs = search needs
 
--- src/reading.rt:295:1
 returns : tie.Need-returns
 returns c =
     let n = c .new .ensures in

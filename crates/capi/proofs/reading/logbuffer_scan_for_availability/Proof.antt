@@ -7,20 +7,13 @@ use Rattle.capi.proofs.Handed.{handed3}
 use borrow.Author.Needs.{needs}
 use Rattle.capi.proofs.reading.logbuffer_scan_for_availability.Statement.{statement}
 use Rattle.capi.proofs.reading.logbuffer_scan_for_availability.Tie as tie
-use Rattle.capi.proofs.reading.logbuffer_scan_for_availability.Reads as reads
-use Rattle.capi.proofs.reading.logbuffer_scan_for_availability.Lts as lts
-use Rattle.capi.proofs.replies.availability_scanned.Reads as availability-scanned-reads
-use Rattle.logbuffer.proofs.term_scan.scan_for_availability.Reads as scan-for-availability-reads
 
--- src/reading.rt:128:35
 scan-for-availability-requires : tie.Need-scan-for-availability-requires
 scan-for-availability-requires c κs = search needs
 
--- src/reading.rt:128:5
 availability-scanned-requires : tie.Need-availability-scanned-requires
 availability-scanned-requires c κs = search needs
 
--- src/reading.rt:118:1
 returns : tie.Need-returns
 returns c =
     let s = c .before .before .before in

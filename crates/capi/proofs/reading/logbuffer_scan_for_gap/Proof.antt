@@ -7,20 +7,13 @@ use Rattle.capi.proofs.Handed.{handed4}
 use borrow.Author.Needs.{needs}
 use Rattle.capi.proofs.reading.logbuffer_scan_for_gap.Statement.{statement}
 use Rattle.capi.proofs.reading.logbuffer_scan_for_gap.Tie as tie
-use Rattle.capi.proofs.reading.logbuffer_scan_for_gap.Reads as reads
-use Rattle.capi.proofs.reading.logbuffer_scan_for_gap.Lts as lts
-use Rattle.capi.proofs.replies.gap_scanned.Reads as gap-scanned-reads
-use Rattle.logbuffer.proofs.term_scan.scan_for_gap.Reads as scan-for-gap-reads
 
--- src/reading.rt:115:26
 scan-for-gap-requires : tie.Need-scan-for-gap-requires
 scan-for-gap-requires c κs = search needs
 
--- src/reading.rt:115:5
 gap-scanned-requires : tie.Need-gap-scanned-requires
 gap-scanned-requires c κs = search needs
 
--- src/reading.rt:104:1
 returns : tie.Need-returns
 returns c =
     let s = c .before .before .before in

@@ -7,20 +7,13 @@ use Rattle.capi.proofs.Handed.{handed3}
 use borrow.Author.Needs.{needs}
 use Rattle.capi.proofs.reading.logbuffer_view.Statement.{statement}
 use Rattle.capi.proofs.reading.logbuffer_view.Tie as tie
-use Rattle.capi.proofs.reading.logbuffer_view.Reads as reads
-use Rattle.capi.proofs.reading.logbuffer_view.Lts as lts
-use Rattle.capi.proofs.replies.located.Reads as located-reads
-use Rattle.logbuffer.proofs.term_reader.view_span.Reads as view-span-reads
 
--- src/reading.rt:75:22
 view-span-requires : tie.Need-view-span-requires
 view-span-requires c κs = search needs
 
--- src/reading.rt:75:5
 located-requires : tie.Need-located-requires
 located-requires c κs = search needs
 
--- src/reading.rt:65:1
 returns : tie.Need-returns
 returns c =
     let s = c .before .before .before in

@@ -9,15 +9,10 @@ use Rattle.capi.proofs.Handed.{handed3}
 use borrow.Author.Needs.{needs}
 use Rattle.capi.proofs.reading.logbuffer_view_number.Statement.{statement}
 use Rattle.capi.proofs.reading.logbuffer_view_number.Tie as tie
-use Rattle.capi.proofs.reading.logbuffer_view_number.Reads as reads
-use Rattle.capi.proofs.reading.logbuffer_view_number.Lts as lts
-use Rattle.logbuffer.proofs.term_reader.view_number.Reads as view-number-reads
 
--- src/reading.rt:88:5
 view-number-requires : tie.Need-view-number-requires
 view-number-requires c κs = search needs
 
--- src/reading.rt:78:1
 returns : tie.Need-returns
 returns c =
     let s = c .before .before in

@@ -8,35 +8,25 @@ use Rattle.capi.specs.Replies.{appendBy}
 use borrow.Author.Needs.{needs}
 use Rattle.capi.proofs.replies.appended.Statement.{statement}
 use Rattle.capi.proofs.replies.appended.Tie as tie
-use Rattle.capi.proofs.replies.appended.Reads as reads
-use Rattle.capi.proofs.replies.appended.Lts as lts
-use Rattle.logbuffer.proofs.errors.number.Reads as number-reads
 
--- src/replies.rt:285:26
 enum-known-answer : tie.Need-enum-known-answer
 enum-known-answer c = search needs
 
--- src/replies.rt:291:30
 enum-told : tie.Need-enum-told
 enum-told c = search needs
 
--- src/replies.rt:297:27
 enum-known-answer-2 : tie.Need-enum-known-answer-2
 enum-known-answer-2 c = search needs
 
--- src/replies.rt:299:19
 number-requires : tie.Need-number-requires
 number-requires c κs = search needs
 
--- src/replies.rt:281:1
 returns : tie.Need-returns
 returns c = ap (appendBy (c .before .before .before .args .next)) (sym (c .before .answer .given .1))
 
--- src/replies.rt:281:1
 returns-2 : tie.Need-returns-2
 returns-2 c = ap (appendBy (c .before .before .args .next)) (sym (c .enum-told .given .1))
 
--- src/replies.rt:281:1
 returns-3 : tie.Need-returns-3
 returns-3 c =
     let back : toZ w32 (ofZ w32 (c .number .result)) ≡ c .number .result = search needs in

@@ -10,45 +10,32 @@ use Rattle.capi.specs.Replies.{appendClaimBy}
 use borrow.Author.Needs.{needs}
 use Rattle.capi.proofs.replies.appended_claim.Statement.{statement}
 use Rattle.capi.proofs.replies.appended_claim.Tie as tie
-use Rattle.capi.proofs.replies.appended_claim.Reads as reads
-use Rattle.capi.proofs.replies.appended_claim.Lts as lts
-use Rattle.capi.proofs.replies.no_claim.Reads as no-claim-reads
-use Rattle.logbuffer.proofs.errors.number.Reads as number-reads
 
--- src/replies.rt:310:32
 enum-known-answer : tie.Need-enum-known-answer
 enum-known-answer c = search needs
 
--- src/replies.rt:322:20
 enum-told : tie.Need-enum-told
 enum-told c = search needs
 
--- src/replies.rt:322:20
 no-claim-requires : tie.Need-no-claim-requires
 no-claim-requires c κs = search needs
 
--- src/replies.rt:324:32
 enum-known-answer-2 : tie.Need-enum-known-answer-2
 enum-known-answer-2 c = search needs
 
--- src/replies.rt:326:19
 number-requires : tie.Need-number-requires
 number-requires c κs = search needs
 
--- src/replies.rt:329:20
 no-claim-requires-2 : tie.Need-no-claim-requires-2
 no-claim-requires-2 c κs = search needs
 
--- src/replies.rt:306:1
 returns : tie.Need-returns
 returns c = ap (appendClaimBy (c .before .before .before .args .next)) (sym (c .before .answer .given .1))
 
--- src/replies.rt:306:1
 returns-2 : tie.Need-returns-2
 returns-2 c =
     ap (λ (x : Claim). record { next = c .before .before .before .args .next; code = pos 0; «is_tripped» = true; offset = 0; claim = x }) (c .no-claim .ensures) ∙ ap (appendClaimBy (c .before .before .before .args .next)) (sym (c .before .enum-told .given .1))
 
--- src/replies.rt:306:1
 returns-3 : tie.Need-returns-3
 returns-3 c =
     let back : toZ w32 (ofZ w32 (c .before .number .result)) ≡ c .before .number .result = search needs in

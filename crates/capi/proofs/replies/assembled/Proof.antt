@@ -7,43 +7,31 @@ use Rattle.capi.specs.Replies.{assemblyBy}
 use borrow.Author.Needs.{needs}
 use Rattle.capi.proofs.replies.assembled.Statement.{statement}
 use Rattle.capi.proofs.replies.assembled.Tie as tie
-use Rattle.capi.proofs.replies.assembled.Reads as reads
-use Rattle.capi.proofs.replies.assembled.Lts as lts
-use Rattle.logbuffer.proofs.errors.number.Reads as number-reads
 
--- src/replies.rt:519:31
 enum-told : tie.Need-enum-told
 enum-told c = search needs
 
--- src/replies.rt:526:29
 enum-known-answer : tie.Need-enum-known-answer
 enum-known-answer c = search needs
 
--- src/replies.rt:533:28
 enum-known-answer-2 : tie.Need-enum-known-answer-2
 enum-known-answer-2 c = search needs
 
--- src/replies.rt:540:28
 enum-known-answer-3 : tie.Need-enum-known-answer-3
 enum-known-answer-3 c = search needs
 
--- src/replies.rt:542:19
 number-requires : tie.Need-number-requires
 number-requires c κs = search needs
 
--- src/replies.rt:515:1
 returns : tie.Need-returns
 returns c = ap (assemblyBy (c .before .before .args .next)) (sym (c .enum-told .given .1))
 
--- src/replies.rt:515:1
 returns-2 : tie.Need-returns-2
 returns-2 c = ap (assemblyBy (c .before .before .before .args .next)) (sym (c .before .answer .given .1))
 
--- src/replies.rt:515:1
 returns-3 : tie.Need-returns-3
 returns-3 c = ap (assemblyBy (c .before .before .before .args .next)) (sym (c .before .answer2 .given .1))
 
--- src/replies.rt:515:1
 returns-4 : tie.Need-returns-4
 returns-4 c =
     let back : toZ w32 (ofZ w32 (c .number .result)) ≡ c .number .result = search needs in

@@ -7,30 +7,22 @@ use Rattle.capi.specs.Replies.{blockBy}
 use borrow.Author.Needs.{needs}
 use Rattle.capi.proofs.replies.block_polled.Statement.{statement}
 use Rattle.capi.proofs.replies.block_polled.Tie as tie
-use Rattle.capi.proofs.replies.block_polled.Reads as reads
-use Rattle.capi.proofs.replies.block_polled.Lts as lts
-use Rattle.logbuffer.proofs.errors.number.Reads as number-reads
 
--- src/replies.rt:483:28
 enum-known-answer : tie.Need-enum-known-answer
 enum-known-answer c = search needs
 
--- src/replies.rt:491:30
 enum-known-answer-2 : tie.Need-enum-known-answer-2
 enum-known-answer-2 c = search needs
 
--- src/replies.rt:493:19
 number-requires : tie.Need-number-requires
 number-requires c κs = search needs
 
--- src/replies.rt:479:1
 returns : tie.Need-returns
 returns c =
     let back0 : toZ w32 (ofZ w32 (c .before .answer .given .0 .1 .1 .0)) ≡ c .before .answer .given .0 .1 .1 .0 = search needs in
     let back1 : toZ w32 (ofZ w32 (c .before .answer .given .0 .1 .1 .1 .0)) ≡ c .before .answer .given .0 .1 .1 .1 .0 = search needs in
     ap (λ (z : ℤ). record { next = c .before .before .before .args .next; code = pos 0; offset = c .before .answer .given .0 .0; length = c .before .answer .given .0 .1 .0; «session_id» = z; «term_id» = toZ w32 (ofZ w32 (c .before .answer .given .0 .1 .1 .1 .0)) }) back0 ∙ ap (λ (z : ℤ). record { next = c .before .before .before .args .next; code = pos 0; offset = c .before .answer .given .0 .0; length = c .before .answer .given .0 .1 .0; «session_id» = c .before .answer .given .0 .1 .1 .0; «term_id» = z }) back1 ∙ ap (blockBy (c .before .before .before .args .next)) (sym (c .before .answer .given .1))
 
--- src/replies.rt:479:1
 returns-2 : tie.Need-returns-2
 returns-2 c =
     let back : toZ w32 (ofZ w32 (c .number .result)) ≡ c .number .result = search needs in

@@ -9,34 +9,24 @@ use Rattle.capi.specs.Replies.{claimBy}
 use borrow.Author.Needs.{needs}
 use Rattle.capi.proofs.replies.claimed.Statement.{statement}
 use Rattle.capi.proofs.replies.claimed.Tie as tie
-use Rattle.capi.proofs.replies.claimed.Reads as reads
-use Rattle.capi.proofs.replies.claimed.Lts as lts
-use Rattle.capi.proofs.replies.no_claim.Reads as no-claim-reads
-use Rattle.logbuffer.proofs.errors.number.Reads as number-reads
 
--- src/replies.rt:238:27
 enum-known-answer : tie.Need-enum-known-answer
 enum-known-answer c = search needs
 
--- src/replies.rt:244:26
 enum-known-answer-2 : tie.Need-enum-known-answer-2
 enum-known-answer-2 c = search needs
 
--- src/replies.rt:246:19
 number-requires : tie.Need-number-requires
 number-requires c κs = search needs
 
--- src/replies.rt:248:20
 no-claim-requires : tie.Need-no-claim-requires
 no-claim-requires c κs = search needs
 
--- src/replies.rt:234:1
 returns : tie.Need-returns
 returns c =
     let back0 : toZ w64 (ofZ w64 (c .before .answer .given .0 .0)) ≡ c .before .answer .given .0 .0 = search needs in
     ap (λ (z : ℤ). record { next = c .before .before .before .args .next; code = pos 0; position = z; claim = c .before .answer .given .0 .1 .0 }) back0 ∙ ap (claimBy (c .before .before .before .args .next)) (sym (c .before .answer .given .1))
 
--- src/replies.rt:234:1
 returns-2 : tie.Need-returns-2
 returns-2 c =
     let back : toZ w32 (ofZ w32 (c .before .number .result)) ≡ c .before .number .result = search needs in

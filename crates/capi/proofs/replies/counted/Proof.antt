@@ -7,27 +7,19 @@ use Rattle.capi.specs.Replies.{countReply}
 use borrow.Author.Needs.{needs}
 use Rattle.capi.proofs.replies.counted.Statement.{statement}
 use Rattle.capi.proofs.replies.counted.Tie as tie
-use Rattle.capi.proofs.replies.counted.Reads as reads
-use Rattle.capi.proofs.replies.counted.Lts as lts
-use Rattle.logbuffer.proofs.errors.number.Reads as number-reads
 
--- src/replies.rt:589:25
 enum-known-answer : tie.Need-enum-known-answer
 enum-known-answer c = search needs
 
--- src/replies.rt:594:26
 enum-known-answer-2 : tie.Need-enum-known-answer-2
 enum-known-answer-2 c = search needs
 
--- src/replies.rt:595:19
 number-requires : tie.Need-number-requires
 number-requires c κs = search needs
 
--- src/replies.rt:585:1
 returns : tie.Need-returns
 returns c = ap countReply (sym (c .before .answer .given .1))
 
--- src/replies.rt:585:1
 returns-2 : tie.Need-returns-2
 returns-2 c =
     let back : toZ w32 (ofZ w32 (c .number .result)) ≡ c .number .result = search needs in

@@ -8,37 +8,27 @@ use Rattle.capi.specs.Replies.{gapReply}
 use borrow.Author.Needs.{needs}
 use Rattle.capi.proofs.replies.gap_scanned.Statement.{statement}
 use Rattle.capi.proofs.replies.gap_scanned.Tie as tie
-use Rattle.capi.proofs.replies.gap_scanned.Reads as reads
-use Rattle.capi.proofs.replies.gap_scanned.Lts as lts
-use Rattle.logbuffer.proofs.errors.number.Reads as number-reads
 
--- src/replies.rt:404:25
 enum-known-answer : tie.Need-enum-known-answer
 enum-known-answer c = search needs
 
--- src/replies.rt:411:27
 enum-known-answer-2 : tie.Need-enum-known-answer-2
 enum-known-answer-2 c = search needs
 
--- src/replies.rt:418:29
 enum-known-answer-3 : tie.Need-enum-known-answer-3
 enum-known-answer-3 c = search needs
 
--- src/replies.rt:419:19
 number-requires : tie.Need-number-requires
 number-requires c κs = search needs
 
--- src/replies.rt:400:1
 returns : tie.Need-returns
 returns c =
     let back0 : toZ w32 (ofZ w32 (c .before .answer .given .0 .0)) ≡ c .before .answer .given .0 .0 = search needs in
     ap (λ (z : ℤ). record { code = pos 0; «is_gap» = true; «term_id» = z; offset = c .before .answer .given .0 .1 .0; length = c .before .answer .given .0 .1 .1 .0 }) back0 ∙ ap gapReply (sym (c .before .answer .given .1))
 
--- src/replies.rt:400:1
 returns-2 : tie.Need-returns-2
 returns-2 c = ap gapReply (sym (c .before .answer2 .given .1))
 
--- src/replies.rt:400:1
 returns-3 : tie.Need-returns-3
 returns-3 c =
     let back : toZ w32 (ofZ w32 (c .number .result)) ≡ c .number .result = search needs in

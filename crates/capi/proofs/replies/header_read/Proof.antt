@@ -9,32 +9,22 @@ use Rattle.capi.specs.Replies.{headerReply}
 use borrow.Author.Needs.{needs}
 use Rattle.capi.proofs.replies.header_read.Statement.{statement}
 use Rattle.capi.proofs.replies.header_read.Tie as tie
-use Rattle.capi.proofs.replies.header_read.Reads as reads
-use Rattle.capi.proofs.replies.header_read.Lts as lts
-use Rattle.capi.proofs.replies.no_fields.Reads as no-fields-reads
-use Rattle.logbuffer.proofs.errors.number.Reads as number-reads
 
--- src/replies.rt:356:28
 enum-known-answer : tie.Need-enum-known-answer
 enum-known-answer c = search needs
 
--- src/replies.rt:360:29
 enum-known-answer-2 : tie.Need-enum-known-answer-2
 enum-known-answer-2 c = search needs
 
--- src/replies.rt:361:19
 number-requires : tie.Need-number-requires
 number-requires c κs = search needs
 
--- src/replies.rt:362:21
 no-fields-requires : tie.Need-no-fields-requires
 no-fields-requires c κs = search needs
 
--- src/replies.rt:352:1
 returns : tie.Need-returns
 returns c = ap headerReply (sym (c .before .answer .given .1))
 
--- src/replies.rt:352:1
 returns-2 : tie.Need-returns-2
 returns-2 c =
     let back : toZ w32 (ofZ w32 (c .before .number .result)) ≡ c .before .number .result = search needs in

@@ -8,33 +8,23 @@ use Rattle.capi.specs.Replies.{spanReply}
 use borrow.Author.Needs.{needs}
 use Rattle.capi.proofs.replies.located.Statement.{statement}
 use Rattle.capi.proofs.replies.located.Tie as tie
-use Rattle.capi.proofs.replies.located.Reads as reads
-use Rattle.capi.proofs.replies.located.Lts as lts
-use Rattle.capi.proofs.replies.difference.Reads as difference-reads
-use Rattle.logbuffer.proofs.errors.number.Reads as number-reads
 
--- src/replies.rt:268:23
 enum-known-answer : tie.Need-enum-known-answer
 enum-known-answer c = search needs
 
--- src/replies.rt:271:21
 difference-requires : tie.Need-difference-requires
 difference-requires c κs = search needs
 
--- src/replies.rt:273:26
 enum-known-answer-2 : tie.Need-enum-known-answer-2
 enum-known-answer-2 c = search needs
 
--- src/replies.rt:274:19
 number-requires : tie.Need-number-requires
 number-requires c κs = search needs
 
--- src/replies.rt:264:1
 returns : tie.Need-returns
 returns c =
     ap (λ (z : ℕ). record { code = pos 0; start = c .before .before .answer .given .0 .0; length = z }) (c .difference .ensures) ∙ ap spanReply (sym (c .before .before .answer .given .1))
 
--- src/replies.rt:264:1
 returns-2 : tie.Need-returns-2
 returns-2 c =
     let back : toZ w32 (ofZ w32 (c .number .result)) ≡ c .number .result = search needs in

@@ -7,29 +7,21 @@ use Rattle.capi.specs.Replies.{offerBy}
 use borrow.Author.Needs.{needs}
 use Rattle.capi.proofs.replies.offered.Statement.{statement}
 use Rattle.capi.proofs.replies.offered.Tie as tie
-use Rattle.capi.proofs.replies.offered.Reads as reads
-use Rattle.capi.proofs.replies.offered.Lts as lts
-use Rattle.logbuffer.proofs.errors.number.Reads as number-reads
 
--- src/replies.rt:221:27
 enum-known-answer : tie.Need-enum-known-answer
 enum-known-answer c = search needs
 
--- src/replies.rt:226:26
 enum-known-answer-2 : tie.Need-enum-known-answer-2
 enum-known-answer-2 c = search needs
 
--- src/replies.rt:228:19
 number-requires : tie.Need-number-requires
 number-requires c κs = search needs
 
--- src/replies.rt:217:1
 returns : tie.Need-returns
 returns c =
     let back0 : toZ w64 (ofZ w64 (c .before .answer .given .0 .0)) ≡ c .before .answer .given .0 .0 = search needs in
     ap (λ (z : ℤ). record { next = c .before .before .before .args .next; code = pos 0; position = z }) back0 ∙ ap (offerBy (c .before .before .before .args .next)) (sym (c .before .answer .given .1))
 
--- src/replies.rt:217:1
 returns-2 : tie.Need-returns-2
 returns-2 c =
     let back : toZ w32 (ofZ w32 (c .number .result)) ≡ c .number .result = search needs in

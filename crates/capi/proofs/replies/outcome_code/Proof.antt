@@ -6,27 +6,19 @@ use Rattle.capi.specs.Replies.{outcomeNumber}
 use borrow.Author.Needs.{needs}
 use Rattle.capi.proofs.replies.outcome_code.Statement.{statement}
 use Rattle.capi.proofs.replies.outcome_code.Tie as tie
-use Rattle.capi.proofs.replies.outcome_code.Reads as reads
-use Rattle.capi.proofs.replies.outcome_code.Lts as lts
-use Rattle.logbuffer.proofs.errors.number.Reads as number-reads
 
--- src/replies.rt:185:26
 enum-told : tie.Need-enum-told
 enum-told c = search needs
 
--- src/replies.rt:186:26
 enum-known-answer : tie.Need-enum-known-answer
 enum-known-answer c = search needs
 
--- src/replies.rt:186:32
 number-requires : tie.Need-number-requires
 number-requires c κs = search needs
 
--- src/replies.rt:181:1
 returns : tie.Need-returns
 returns c = ap outcomeNumber (sym (c .enum-told .given .1))
 
--- src/replies.rt:181:1
 returns-2 : tie.Need-returns-2
 returns-2 c =
     let back : toZ w32 (ofZ w32 (c .number .result)) ≡ c .number .result = search needs in

@@ -7,27 +7,19 @@ use Rattle.capi.specs.Replies.{pollBy}
 use borrow.Author.Needs.{needs}
 use Rattle.capi.proofs.replies.polled.Statement.{statement}
 use Rattle.capi.proofs.replies.polled.Tie as tie
-use Rattle.capi.proofs.replies.polled.Reads as reads
-use Rattle.capi.proofs.replies.polled.Lts as lts
-use Rattle.logbuffer.proofs.errors.number.Reads as number-reads
 
--- src/replies.rt:447:27
 enum-known-answer : tie.Need-enum-known-answer
 enum-known-answer c = search needs
 
--- src/replies.rt:453:25
 enum-known-answer-2 : tie.Need-enum-known-answer-2
 enum-known-answer-2 c = search needs
 
--- src/replies.rt:455:19
 number-requires : tie.Need-number-requires
 number-requires c κs = search needs
 
--- src/replies.rt:443:1
 returns : tie.Need-returns
 returns c = ap (pollBy (c .before .before .before .args .next)) (sym (c .before .answer .given .1))
 
--- src/replies.rt:443:1
 returns-2 : tie.Need-returns-2
 returns-2 c =
     let back : toZ w32 (ofZ w32 (c .number .result)) ≡ c .number .result = search needs in

@@ -6,24 +6,16 @@ use Rattle.capi.specs.Replies.{outcomeNumber}
 use borrow.Author.Needs.{needs}
 use Rattle.capi.proofs.writing.logbuffer_abort.Statement.{statement}
 use Rattle.capi.proofs.writing.logbuffer_abort.Tie as tie
-use Rattle.capi.proofs.writing.logbuffer_abort.Reads as reads
-use Rattle.capi.proofs.writing.logbuffer_abort.Lts as lts
-use Rattle.capi.proofs.replies.outcome_code.Reads as outcome-code-reads
-use Rattle.logbuffer.proofs.buffer_claim.abort.Reads as abort-reads
 
--- src/writing.rt:167:27
 abort-requires : tie.Need-abort-requires
 abort-requires c κs = search needs
 
--- src/writing.rt:167:5
 outcome-code-requires : tie.Need-outcome-code-requires
 outcome-code-requires c κs = search needs
 
--- src/writing.rt:162:1
 same-length : tie.Need-same-length
 same-length c = search needs
 
--- src/writing.rt:162:1
 returns : tie.Need-returns
 returns c =
     let back : toZ w32 (ofZ w32 (c .outcome-code .result)) ≡ c .outcome-code .result = search needs in

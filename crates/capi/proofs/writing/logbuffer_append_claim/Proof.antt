@@ -7,24 +7,16 @@ use Rattle.capi.proofs.Handed.{handed3}
 use borrow.Author.Needs.{needs}
 use Rattle.capi.proofs.writing.logbuffer_append_claim.Statement.{statement}
 use Rattle.capi.proofs.writing.logbuffer_append_claim.Tie as tie
-use Rattle.capi.proofs.writing.logbuffer_append_claim.Reads as reads
-use Rattle.capi.proofs.writing.logbuffer_append_claim.Lts as lts
-use Rattle.capi.proofs.replies.appended_claim.Reads as appended-claim-reads
-use Rattle.logbuffer.proofs.term_appender.claim.Reads as claim-reads
 
--- src/writing.rt:233:9
 claim-requires : tie.Need-claim-requires
 claim-requires c κs = search needs
 
--- src/writing.rt:236:5
 appended-claim-requires : tie.Need-appended-claim-requires
 appended-claim-requires c κs = search needs
 
--- src/writing.rt:222:1
 same-length : tie.Need-same-length
 same-length c = search needs
 
--- src/writing.rt:222:1
 returns : tie.Need-returns
 returns c =
     let s = c .before .before .before .before .before .before .before in

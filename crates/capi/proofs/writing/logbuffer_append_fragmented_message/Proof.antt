@@ -7,24 +7,16 @@ use Rattle.capi.proofs.Handed.{handed3, handed4}
 use borrow.Author.Needs.{needs}
 use Rattle.capi.proofs.writing.logbuffer_append_fragmented_message.Statement.{statement}
 use Rattle.capi.proofs.writing.logbuffer_append_fragmented_message.Tie as tie
-use Rattle.capi.proofs.writing.logbuffer_append_fragmented_message.Reads as reads
-use Rattle.capi.proofs.writing.logbuffer_append_fragmented_message.Lts as lts
-use Rattle.capi.proofs.replies.appended.Reads as appended-reads
-use Rattle.logbuffer.proofs.term_appender.append_fragmented_message.Reads as append-fragmented-message-reads
 
--- src/writing.rt:208:9
 append-fragmented-message-requires : tie.Need-append-fragmented-message-requires
 append-fragmented-message-requires c κs = search needs
 
--- src/writing.rt:219:5
 appended-requires : tie.Need-appended-requires
 appended-requires c κs = search needs
 
--- src/writing.rt:195:1
 same-length : tie.Need-same-length
 same-length c = search needs
 
--- src/writing.rt:195:1
 returns : tie.Need-returns
 returns c =
     let s = c .before .before .before .before .before .before .before .before in

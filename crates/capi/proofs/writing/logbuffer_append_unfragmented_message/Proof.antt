@@ -7,24 +7,16 @@ use Rattle.capi.proofs.Handed.{handed2, handed3}
 use borrow.Author.Needs.{needs}
 use Rattle.capi.proofs.writing.logbuffer_append_unfragmented_message.Statement.{statement}
 use Rattle.capi.proofs.writing.logbuffer_append_unfragmented_message.Tie as tie
-use Rattle.capi.proofs.writing.logbuffer_append_unfragmented_message.Reads as reads
-use Rattle.capi.proofs.writing.logbuffer_append_unfragmented_message.Lts as lts
-use Rattle.capi.proofs.replies.appended.Reads as appended-reads
-use Rattle.logbuffer.proofs.term_appender.append_unfragmented_message.Reads as append-unfragmented-message-reads
 
--- src/writing.rt:182:9
 append-unfragmented-message-requires : tie.Need-append-unfragmented-message-requires
 append-unfragmented-message-requires c κs = search needs
 
--- src/writing.rt:192:5
 appended-requires : tie.Need-appended-requires
 appended-requires c κs = search needs
 
--- src/writing.rt:170:1
 same-length : tie.Need-same-length
 same-length c = search needs
 
--- src/writing.rt:170:1
 returns : tie.Need-returns
 returns c =
     let s = c .before .before .before .before .before .before .before .before in

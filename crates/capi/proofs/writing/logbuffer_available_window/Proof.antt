@@ -4,20 +4,13 @@ use Rattle.capi.specs.Replies.{positionReply}
 use borrow.Author.Needs.{needs}
 use Rattle.capi.proofs.writing.logbuffer_available_window.Statement.{statement}
 use Rattle.capi.proofs.writing.logbuffer_available_window.Tie as tie
-use Rattle.capi.proofs.writing.logbuffer_available_window.Reads as reads
-use Rattle.capi.proofs.writing.logbuffer_available_window.Lts as lts
-use Rattle.capi.proofs.replies.positioned.Reads as positioned-reads
-use Rattle.publication.proofs.positions.available_window.Reads as available-window-reads
 
--- src/writing.rt:110:25
 available-window-requires : tie.Need-available-window-requires
 available-window-requires c κs = search needs
 
--- src/writing.rt:110:5
 positioned-requires : tie.Need-positioned-requires
 positioned-requires c κs = search needs
 
--- src/writing.rt:106:1
 returns : tie.Need-returns
 returns c = c .positioned .ensures ∙ ap positionReply (c .before .available-window .ensures)
 

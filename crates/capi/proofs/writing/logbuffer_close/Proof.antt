@@ -7,20 +7,13 @@ use Rattle.capi.specs.Replies.{recordReply}
 use borrow.Author.Needs.{needs}
 use Rattle.capi.proofs.writing.logbuffer_close.Statement.{statement}
 use Rattle.capi.proofs.writing.logbuffer_close.Tie as tie
-use Rattle.capi.proofs.writing.logbuffer_close.Reads as reads
-use Rattle.capi.proofs.writing.logbuffer_close.Lts as lts
-use Rattle.capi.proofs.replies.outcome_code.Reads as outcome-code-reads
-use Rattle.publication.proofs.positions.close.Reads as close-reads
 
--- src/writing.rt:70:9
 close-requires : tie.Need-close-requires
 close-requires c κs = search needs
 
--- src/writing.rt:75:15
 outcome-code-requires : tie.Need-outcome-code-requires
 outcome-code-requires c κs = search needs
 
--- src/writing.rt:66:1
 returns : tie.Need-returns
 returns c =
     let back : toZ w32 (ofZ w32 (c .outcome-code .result)) ≡ c .outcome-code .result = search needs in

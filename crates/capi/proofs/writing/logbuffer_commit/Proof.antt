@@ -6,24 +6,16 @@ use Rattle.capi.specs.Replies.{outcomeNumber}
 use borrow.Author.Needs.{needs}
 use Rattle.capi.proofs.writing.logbuffer_commit.Statement.{statement}
 use Rattle.capi.proofs.writing.logbuffer_commit.Tie as tie
-use Rattle.capi.proofs.writing.logbuffer_commit.Reads as reads
-use Rattle.capi.proofs.writing.logbuffer_commit.Lts as lts
-use Rattle.capi.proofs.replies.outcome_code.Reads as outcome-code-reads
-use Rattle.logbuffer.proofs.buffer_claim.commit.Reads as commit-reads
 
--- src/writing.rt:159:27
 commit-requires : tie.Need-commit-requires
 commit-requires c κs = search needs
 
--- src/writing.rt:159:5
 outcome-code-requires : tie.Need-outcome-code-requires
 outcome-code-requires c κs = search needs
 
--- src/writing.rt:154:1
 same-length : tie.Need-same-length
 same-length c = search needs
 
--- src/writing.rt:154:1
 returns : tie.Need-returns
 returns c =
     let back : toZ w32 (ofZ w32 (c .outcome-code .result)) ≡ c .outcome-code .result = search needs in

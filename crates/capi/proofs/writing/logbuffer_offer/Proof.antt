@@ -7,24 +7,16 @@ use Rattle.capi.proofs.Handed.{handed1}
 use borrow.Author.Needs.{needs}
 use Rattle.capi.proofs.writing.logbuffer_offer.Statement.{statement}
 use Rattle.capi.proofs.writing.logbuffer_offer.Tie as tie
-use Rattle.capi.proofs.writing.logbuffer_offer.Reads as reads
-use Rattle.capi.proofs.writing.logbuffer_offer.Lts as lts
-use Rattle.capi.proofs.replies.offered.Reads as offered-reads
-use Rattle.publication.proofs.offer.Reads as offer-reads
 
--- src/writing.rt:123:9
 offer-requires : tie.Need-offer-requires
 offer-requires c κs = search needs
 
--- src/writing.rt:126:5
 offered-requires : tie.Need-offered-requires
 offered-requires c κs = search needs
 
--- src/writing.rt:113:1
 same-length : tie.Need-same-length
 same-length c = search needs
 
--- src/writing.rt:113:1
 returns : tie.Need-returns
 returns c =
     let s = c .before .before .before .before .before .before .before .before in

@@ -9,24 +9,16 @@ use Rattle.capi.proofs.Handed.{handed5}
 use borrow.Author.Needs.{needs}
 use Rattle.capi.proofs.writing.logbuffer_open.Statement.{statement}
 use Rattle.capi.proofs.writing.logbuffer_open.Tie as tie
-use Rattle.capi.proofs.writing.logbuffer_open.Reads as reads
-use Rattle.capi.proofs.writing.logbuffer_open.Lts as lts
-use Rattle.capi.proofs.replies.outcome_code.Reads as outcome-code-reads
-use Rattle.publication.proofs.opening.open_log.Reads as open-log-reads
 
--- src/writing.rt:37:9
 open-log-requires : tie.Need-open-log-requires
 open-log-requires c κs = search needs
 
--- src/writing.rt:49:15
 outcome-code-requires : tie.Need-outcome-code-requires
 outcome-code-requires c κs = search needs
 
--- src/writing.rt:25:1
 same-length : tie.Need-same-length
 same-length c = search needs
 
--- src/writing.rt:25:1
 returns : tie.Need-returns
 returns c =
     let s = c .before .before .before .before .before .before .before in

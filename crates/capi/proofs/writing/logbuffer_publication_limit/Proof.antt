@@ -4,20 +4,13 @@ use Rattle.capi.specs.Replies.{positionReply}
 use borrow.Author.Needs.{needs}
 use Rattle.capi.proofs.writing.logbuffer_publication_limit.Statement.{statement}
 use Rattle.capi.proofs.writing.logbuffer_publication_limit.Tie as tie
-use Rattle.capi.proofs.writing.logbuffer_publication_limit.Reads as reads
-use Rattle.capi.proofs.writing.logbuffer_publication_limit.Lts as lts
-use Rattle.capi.proofs.replies.positioned.Reads as positioned-reads
-use Rattle.publication.proofs.positions.publication_limit.Reads as publication-limit-reads
 
--- src/writing.rt:103:25
 publication-limit-requires : tie.Need-publication-limit-requires
 publication-limit-requires c κs = search needs
 
--- src/writing.rt:103:5
 positioned-requires : tie.Need-positioned-requires
 positioned-requires c κs = search needs
 
--- src/writing.rt:99:1
 returns : tie.Need-returns
 returns c = c .positioned .ensures ∙ ap positionReply (c .before .publication-limit .ensures)
 

@@ -9,20 +9,13 @@ use Rattle.capi.proofs.Handed.{handed2}
 use borrow.Author.Needs.{needs}
 use Rattle.capi.proofs.writing.logbuffer_rotate_log.Statement.{statement}
 use Rattle.capi.proofs.writing.logbuffer_rotate_log.Tie as tie
-use Rattle.capi.proofs.writing.logbuffer_rotate_log.Reads as reads
-use Rattle.capi.proofs.writing.logbuffer_rotate_log.Lts as lts
-use Rattle.capi.proofs.replies.outcome_code.Reads as outcome-code-reads
-use Rattle.logbuffer.proofs.log_buffer_descriptor.rotate_log.Reads as rotate-log-reads
 
--- src/writing.rt:83:9
 rotate-log-requires : tie.Need-rotate-log-requires
 rotate-log-requires c κs = search needs
 
--- src/writing.rt:88:15
 outcome-code-requires : tie.Need-outcome-code-requires
 outcome-code-requires c κs = search needs
 
--- src/writing.rt:79:1
 returns : tie.Need-returns
 returns c =
     let s = c .before .before .before in

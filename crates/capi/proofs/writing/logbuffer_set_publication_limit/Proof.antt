@@ -9,20 +9,13 @@ use Rattle.capi.proofs.Handed.{handed1}
 use borrow.Author.Needs.{needs}
 use Rattle.capi.proofs.writing.logbuffer_set_publication_limit.Statement.{statement}
 use Rattle.capi.proofs.writing.logbuffer_set_publication_limit.Tie as tie
-use Rattle.capi.proofs.writing.logbuffer_set_publication_limit.Reads as reads
-use Rattle.capi.proofs.writing.logbuffer_set_publication_limit.Lts as lts
-use Rattle.capi.proofs.replies.outcome_code.Reads as outcome-code-reads
-use Rattle.publication.proofs.positions.set_publication_limit.Reads as set-publication-limit-reads
 
--- src/writing.rt:57:9
 set-publication-limit-requires : tie.Need-set-publication-limit-requires
 set-publication-limit-requires c κs = search needs
 
--- src/writing.rt:62:15
 outcome-code-requires : tie.Need-outcome-code-requires
 outcome-code-requires c κs = search needs
 
--- src/writing.rt:53:1
 returns : tie.Need-returns
 returns c =
     let s = c .before .before .before in

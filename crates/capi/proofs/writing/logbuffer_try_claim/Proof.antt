@@ -7,24 +7,16 @@ use Rattle.capi.proofs.Handed.{handed1}
 use borrow.Author.Needs.{needs}
 use Rattle.capi.proofs.writing.logbuffer_try_claim.Statement.{statement}
 use Rattle.capi.proofs.writing.logbuffer_try_claim.Tie as tie
-use Rattle.capi.proofs.writing.logbuffer_try_claim.Reads as reads
-use Rattle.capi.proofs.writing.logbuffer_try_claim.Lts as lts
-use Rattle.capi.proofs.replies.claimed.Reads as claimed-reads
-use Rattle.publication.proofs.try_claim.Reads as try-claim-reads
 
--- src/writing.rt:134:9
 try-claim-requires : tie.Need-try-claim-requires
 try-claim-requires c κs = search needs
 
--- src/writing.rt:137:5
 claimed-requires : tie.Need-claimed-requires
 claimed-requires c κs = search needs
 
--- src/writing.rt:129:1
 same-length : tie.Need-same-length
 same-length c = search needs
 
--- src/writing.rt:129:1
 returns : tie.Need-returns
 returns c =
     let s = c .before .before .before .before .before .before .before in
