@@ -15,7 +15,9 @@ same-length c = search needs
 
 returns : tie.Need-returns
 returns c =
-    rw (← toZ-ofZ (c .before .before .before .before .before .before .before .before .fits .partition), ← toZ-ofZ (c .before .before .before .before .before .before .before .before .fits .offset), ← c .before .before .before .before .on-fragment .ensures .0 .0, ← c .before .before .before .before .on-fragment .ensures .0 .1, ← c .before .before .before .before .on-fragment .ensures .1) (search needs)
+    let s = c .before .before .before .before .before .before .before .before .fits in
+    let f = c .before .before .before .before .on-fragment .ensures in
+    rw (← toZ-ofZ (s .partition), ← toZ-ofZ (s .offset), ← f .0 .0, ← f .0 .1, ← f .1) (search needs)
 
 pub logbuffer-assembler-on-fragment-spec : {M : Type 1} → statement M
 logbuffer-assembler-on-fragment-spec =

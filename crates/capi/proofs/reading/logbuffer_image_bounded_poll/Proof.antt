@@ -14,7 +14,7 @@ same-length c = search needs
 
 returns : tie.Need-returns
 returns c =
-    rw (c .polled .ensures, c .before .before .before .bounded-poll .ensures .0, c .before .before .before .bounded-poll .ensures .1) (search needs)
+    let f = c .before .before .before .bounded-poll .ensures in rw (c .polled .ensures, f .0, f .1) (search needs)
 
 pub logbuffer-image-bounded-poll-spec : {M : Type 1} → statement M
 logbuffer-image-bounded-poll-spec =

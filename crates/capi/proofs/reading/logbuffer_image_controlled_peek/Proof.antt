@@ -14,7 +14,7 @@ same-length c = search needs
 
 returns : tie.Need-returns
 returns c =
-    rw (c .peeked .ensures, c .before .before .controlled-peek .ensures .0, c .before .before .controlled-peek .ensures .1) (search needs)
+    let f = c .before .before .controlled-peek .ensures in rw (c .peeked .ensures, f .0, f .1) (search needs)
 
 pub logbuffer-image-controlled-peek-spec : {M : Type 1} → statement M
 logbuffer-image-controlled-peek-spec =

@@ -14,7 +14,7 @@ same-length c = search needs
 
 returns : tie.Need-returns
 returns c =
-    rw (c .term-read .ensures, c .before .before .read .ensures .0, c .before .before .read .ensures .1) (search needs)
+    let f = c .before .before .read .ensures in rw (c .term-read .ensures, f .0, f .1) (search needs)
 
 pub logbuffer-read-spec : {M : Type 1} → statement M
 logbuffer-read-spec = tie.close (tie.spec read-requires term-read-requires same-length returns)

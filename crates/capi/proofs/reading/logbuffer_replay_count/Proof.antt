@@ -14,7 +14,7 @@ same-length c = search needs
 
 returns : tie.Need-returns
 returns c =
-    rw (c .counted .ensures, c .before .before .before .count .ensures .0, c .before .before .before .count .ensures .1) (search needs)
+    let f = c .before .before .before .count .ensures in rw (c .counted .ensures, f .0, f .1) (search needs)
 
 pub logbuffer-replay-count-spec : {M : Type 1} → statement M
 logbuffer-replay-count-spec =

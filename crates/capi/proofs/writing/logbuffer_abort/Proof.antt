@@ -15,7 +15,7 @@ same-length c = search needs
 
 returns : tie.Need-returns
 returns c =
-    search (promised (c .outcome-code .ensures), needs, c .before .before .before .abort .ensures .0, c .before .before .before .abort .ensures .1)
+    let f = c .before .before .before .abort .ensures in search (promised (c .outcome-code .ensures), needs, f .0, f .1)
 
 pub logbuffer-abort-spec : {M : Type 1} → statement M
 logbuffer-abort-spec =

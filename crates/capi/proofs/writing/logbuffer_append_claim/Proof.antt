@@ -14,7 +14,7 @@ same-length c = search needs
 
 returns : tie.Need-returns
 returns c =
-    rw (c .appended-claim .ensures, c .before .before .before .before .claim .ensures .0, c .before .before .before .before .claim .ensures .1) (search needs)
+    let f = c .before .before .before .before .claim .ensures in rw (c .appended-claim .ensures, f .0, f .1) (search needs)
 
 pub logbuffer-append-claim-spec : {M : Type 1} → statement M
 logbuffer-append-claim-spec =

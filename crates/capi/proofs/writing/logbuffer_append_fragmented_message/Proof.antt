@@ -14,7 +14,7 @@ same-length c = search needs
 
 returns : tie.Need-returns
 returns c =
-    (rw (c .appended .ensures, c .before .before .before .before .append-fragmented-message .ensures .0) (search needs), search (needs, c .before .before .before .before .append-fragmented-message .ensures .1))
+    let f = c .before .before .before .before .append-fragmented-message .ensures in (rw (c .appended .ensures, f .0) (search needs), search (needs, f .1))
 
 pub logbuffer-append-fragmented-message-spec : {M : Type 1} → statement M
 logbuffer-append-fragmented-message-spec =

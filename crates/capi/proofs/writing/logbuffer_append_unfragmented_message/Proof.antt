@@ -14,7 +14,7 @@ same-length c = search needs
 
 returns : tie.Need-returns
 returns c =
-    rw (c .appended .ensures, c .before .before .before .before .append-unfragmented-message .ensures .0, c .before .before .before .before .append-unfragmented-message .ensures .1) (search needs)
+    let f = c .before .before .before .before .append-unfragmented-message .ensures in rw (c .appended .ensures, f .0, f .1) (search needs)
 
 pub logbuffer-append-unfragmented-message-spec : {M : Type 1} → statement M
 logbuffer-append-unfragmented-message-spec =

@@ -14,7 +14,7 @@ same-length c = search needs
 
 returns : tie.Need-returns
 returns c =
-    rw (c .offered .ensures, c .before .before .before .before .offer .ensures .0, c .before .before .before .before .offer .ensures .1) (search needs)
+    let f = c .before .before .before .before .offer .ensures in rw (c .offered .ensures, f .0, f .1) (search needs)
 
 pub logbuffer-offer-spec : {M : Type 1} → statement M
 logbuffer-offer-spec = tie.close (tie.spec offer-requires offered-requires same-length returns)

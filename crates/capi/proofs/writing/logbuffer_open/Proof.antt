@@ -15,7 +15,7 @@ same-length c = search needs
 
 returns : tie.Need-returns
 returns c =
-    rw (promised (c .outcome-code .ensures) (search needs), c .before .before .before .before .open-log .ensures .0, c .before .before .before .before .open-log .ensures .1) (search needs)
+    let f = c .before .before .before .before .open-log .ensures in rw (promised (c .outcome-code .ensures) (search needs), f .0, f .1) (search needs)
 
 pub logbuffer-open-spec : {M : Type 1} → statement M
 logbuffer-open-spec =

@@ -14,7 +14,7 @@ same-length c = search needs
 
 returns : tie.Need-returns
 returns c =
-    rw (c .claimed .ensures, c .before .before .before .before .try-claim .ensures .0, c .before .before .before .before .try-claim .ensures .1) (search needs)
+    let f = c .before .before .before .before .try-claim .ensures in rw (c .claimed .ensures, f .0, f .1) (search needs)
 
 pub logbuffer-try-claim-spec : {M : Type 1} → statement M
 logbuffer-try-claim-spec =
