@@ -1,2 +1,2 @@
--- Laws that the functions' proofs share.
-pub mod Handed
+-- The law that the functions' proofs share.
+pub mod Promised

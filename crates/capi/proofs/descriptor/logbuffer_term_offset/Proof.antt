@@ -1,8 +1,4 @@
 -- The call's promise, carried into the reply; signed arguments that were handed on are those given.
-use mathlib.Core.Path.{_∙_}
-use lib.IntN.{ℤ}
-use Rattle.capi.proofs.Handed.{handed1}
-use Rattle.model.specs.LogBufferDescriptor.{termOffset}
 use borrow.Author.Needs.{needs}
 use Rattle.capi.proofs.descriptor.logbuffer_term_offset.Statement.{statement}
 use Rattle.capi.proofs.descriptor.logbuffer_term_offset.Tie as tie
@@ -11,8 +7,7 @@ term-offset-requires : tie.Need-term-offset-requires
 term-offset-requires c κs = search needs
 
 returns : tie.Need-returns
-returns c =
-    c .term-offset .ensures ∙ handed1 (λ (p : ℤ). termOffset p (c .before .args .term-length)) (c .before .fits .raw-tail)
+returns c = rw (c .term-offset .ensures) (search needs)
 
 pub logbuffer-term-offset-spec : {M : Type 1} → statement M
 logbuffer-term-offset-spec = tie.close (tie.spec term-offset-requires returns)

@@ -1,10 +1,4 @@
 -- The call's promise, carried into the reply; signed arguments that were handed on are those given.
-use mathlib.Core.Path.{ap, _∙_}
-use lib.IntN.{ℤ}
-use Rattle.image.specs.Images.{blockReplyOf, stateOf}
-use Rattle.model.specs.Image.{blockPollOf}
-use Rattle.capi.specs.Replies.{blockReply}
-use Rattle.capi.proofs.Handed.{handed1}
 use borrow.Author.Needs.{needs}
 use Rattle.capi.proofs.reading.logbuffer_image_block_poll.Statement.{statement}
 use Rattle.capi.proofs.reading.logbuffer_image_block_poll.Tie as tie
@@ -16,10 +10,7 @@ block-polled-requires : tie.Need-block-polled-requires
 block-polled-requires c κs = search needs
 
 returns : tie.Need-returns
-returns c =
-    let s = c .before .before .before .before in
-    let a = s .args in
-    c .block-polled .ensures ∙ ap blockReply (c .before .before .block-poll .ensures) ∙ handed1 (λ (p : ℤ). blockReply (blockReplyOf (blockPollOf (a .rec) (a .log .now) (stateOf (a .image)) p))) (s .fits .limit)
+returns c = rw (c .block-polled .ensures, c .before .before .block-poll .ensures) (search needs)
 
 pub logbuffer-image-block-poll-spec : {M : Type 1} → statement M
 logbuffer-image-block-poll-spec =

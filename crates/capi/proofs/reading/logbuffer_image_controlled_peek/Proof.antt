@@ -1,10 +1,4 @@
 -- The call's promise, carried into the reply; signed arguments that were handed on are those given.
-use mathlib.Core.Path.{ap, _∙_}
-use lib.IntN.{ℤ}
-use Rattle.image.specs.Images.{stateOf}
-use Rattle.model.specs.Image.{peekOf, peekSlots}
-use Rattle.capi.specs.Replies.{peekReply}
-use Rattle.capi.proofs.Handed.{handed2}
 use borrow.Author.Needs.{needs}
 use Rattle.capi.proofs.reading.logbuffer_image_controlled_peek.Statement.{statement}
 use Rattle.capi.proofs.reading.logbuffer_image_controlled_peek.Tie as tie
@@ -20,11 +14,7 @@ same-length c = search needs
 
 returns : tie.Need-returns
 returns c =
-    let s = c .before .before .before .before .before .before in
-    let a = s .args in (
-      c .peeked .ensures ∙ ap peekReply (c .before .before .controlled-peek .ensures .0) ∙ handed2 (λ (p : ℤ) (q : ℤ). peekReply (peekOf (a .rec) (a .log .now) (stateOf (a .image)) (a .entries .now) (a .actions .now) p q)) (s .fits .start) (s .fits .limit-position),
-      c .before .before .controlled-peek .ensures .1 ∙ handed2 (λ (p : ℤ) (q : ℤ). peekSlots (a .rec) (a .log .now) (stateOf (a .image)) (a .entries .now) (a .actions .now) p q) (s .fits .start) (s .fits .limit-position),
-    )
+    let f = c .before .before .controlled-peek .ensures in rw (c .peeked .ensures, f .0, f .1) (search needs)
 
 pub logbuffer-image-controlled-peek-spec : {M : Type 1} → statement M
 logbuffer-image-controlled-peek-spec =

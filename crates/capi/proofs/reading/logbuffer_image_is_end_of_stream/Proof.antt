@@ -1,6 +1,4 @@
 -- The call's promise, carried into the reply.
-use mathlib.Core.Path.{ap, _∙_}
-use Rattle.capi.specs.Replies.{endOfStreamReply}
 use borrow.Author.Needs.{needs}
 use Rattle.capi.proofs.reading.logbuffer_image_is_end_of_stream.Statement.{statement}
 use Rattle.capi.proofs.reading.logbuffer_image_is_end_of_stream.Tie as tie
@@ -12,7 +10,7 @@ end-of-stream-requires : tie.Need-end-of-stream-requires
 end-of-stream-requires c κs = search needs
 
 returns : tie.Need-returns
-returns c = c .end-of-stream .ensures ∙ ap endOfStreamReply (c .before .is-end-of-stream .ensures)
+returns c = rw (c .end-of-stream .ensures, c .before .is-end-of-stream .ensures)
 
 pub logbuffer-image-is-end-of-stream-spec : {M : Type 1} → statement M
 logbuffer-image-is-end-of-stream-spec =

@@ -1,7 +1,4 @@
 -- The call's promise, carried into the reply.
-use mathlib.Core.Path.{ap, _∙_}
-use Rattle.capi.specs.Replies.{replayOf, nextBy}
-use Rattle.model.specs.Replay.{NextReply}
 use borrow.Author.Needs.{needs}
 use Rattle.capi.proofs.reading.logbuffer_replay_next.Statement.{statement}
 use Rattle.capi.proofs.reading.logbuffer_replay_next.Tie as tie
@@ -16,9 +13,7 @@ same-length : tie.Need-same-length
 same-length c = search needs
 
 returns : tie.Need-returns
-returns c =
-    let n = c .before .before .before .before .next .ensures in
-    (c .replayed .ensures ∙ ap (λ (x : NextReply). nextBy (replayOf (x .next)) (x .answer)) n, ap (λ (x : NextReply). x .next .buffer) n)
+returns c = rw (← c .before .before .before .before .next .ensures) (search needs)
 
 pub logbuffer-replay-next-spec : {M : Type 1} → statement M
 logbuffer-replay-next-spec =

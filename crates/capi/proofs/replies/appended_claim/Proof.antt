@@ -1,12 +1,4 @@
 -- Case by case on the answer; a refusal's number is that of its error.
-use mathlib.Core.Path.{_≡_, ap, sym, _∙_}
-use mathlib.Core.Bool.{true, false}
-use lib.IntN.{ℤ, pos}
-use mir.Syntax.{w32}
-use mir.Val.{toZ, ofZ}
-use Rattle.model.specs.Errors.{numberOf}
-use Rattle.model.specs.declared.Claim.{Claim}
-use Rattle.capi.specs.Replies.{appendClaimBy}
 use borrow.Author.Needs.{needs}
 use Rattle.capi.proofs.replies.appended_claim.Statement.{statement}
 use Rattle.capi.proofs.replies.appended_claim.Tie as tie
@@ -30,16 +22,13 @@ no-claim-requires-2 : tie.Need-no-claim-requires-2
 no-claim-requires-2 c κs = search needs
 
 returns : tie.Need-returns
-returns c = ap (appendClaimBy (c .before .before .before .args .next)) (sym (c .before .answer .given .1))
+returns c = rw (c .before .answer .given .1)
 
 returns-2 : tie.Need-returns-2
-returns-2 c =
-    ap (λ (x : Claim). record { next = c .before .before .before .args .next; code = pos 0; «is_tripped» = true; offset = 0; claim = x }) (c .no-claim .ensures) ∙ ap (appendClaimBy (c .before .before .before .args .next)) (sym (c .before .enum-told .given .1))
+returns-2 c = rw (c .no-claim .ensures, c .before .enum-told .given .1)
 
 returns-3 : tie.Need-returns-3
-returns-3 c =
-    let back : toZ w32 (ofZ w32 (c .before .number .result)) ≡ c .before .number .result = search needs in
-    ap (λ (z : ℤ). record { next = c .before .before .before .before .before .args .next; code = z; «is_tripped» = false; offset = 0; claim = c .no-claim2 .result }) (back ∙ c .before .number .ensures) ∙ ap (λ (x : Claim). record { next = c .before .before .before .before .before .args .next; code = numberOf (c .before .before .before .answer2 .given .0 .0); «is_tripped» = false; offset = 0; claim = x }) (c .no-claim2 .ensures) ∙ ap (appendClaimBy (c .before .before .before .before .before .args .next)) (sym (c .before .before .before .answer2 .given .1))
+returns-3 c = search (needs, ← c .before .number .ensures, c .no-claim2 .ensures, c .before .before .before .answer2 .given .1)
 
 pub appended-claim-spec : {M : Type 1} → statement M
 appended-claim-spec =

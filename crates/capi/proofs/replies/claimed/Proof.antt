@@ -1,11 +1,4 @@
 -- Case by case on the answer; a refusal's number is that of its error.
-use mathlib.Core.Path.{_≡_, ap, sym, _∙_}
-use lib.IntN.{ℤ, pos}
-use mir.Syntax.{w32, w64}
-use mir.Val.{toZ, ofZ}
-use Rattle.model.specs.Errors.{numberOf}
-use Rattle.model.specs.declared.Claim.{Claim}
-use Rattle.capi.specs.Replies.{claimBy}
 use borrow.Author.Needs.{needs}
 use Rattle.capi.proofs.replies.claimed.Statement.{statement}
 use Rattle.capi.proofs.replies.claimed.Tie as tie
@@ -23,14 +16,10 @@ no-claim-requires : tie.Need-no-claim-requires
 no-claim-requires c κs = search needs
 
 returns : tie.Need-returns
-returns c =
-    let back0 : toZ w64 (ofZ w64 (c .before .answer .given .0 .0)) ≡ c .before .answer .given .0 .0 = search needs in
-    ap (λ (z : ℤ). record { next = c .before .before .before .args .next; code = pos 0; position = z; claim = c .before .answer .given .0 .1 .0 }) back0 ∙ ap (claimBy (c .before .before .before .args .next)) (sym (c .before .answer .given .1))
+returns c = search (needs, c .before .answer .given .1)
 
 returns-2 : tie.Need-returns-2
-returns-2 c =
-    let back : toZ w32 (ofZ w32 (c .before .number .result)) ≡ c .before .number .result = search needs in
-    ap (λ (z : ℤ). record { next = c .before .before .before .before .before .args .next; code = z; position = pos 0; claim = c .no-claim .result }) (back ∙ c .before .number .ensures) ∙ ap (λ (x : Claim). record { next = c .before .before .before .before .before .args .next; code = numberOf (c .before .before .before .answer2 .given .0 .0); position = pos 0; claim = x }) (c .no-claim .ensures) ∙ ap (claimBy (c .before .before .before .before .before .args .next)) (sym (c .before .before .before .answer2 .given .1))
+returns-2 c = search (needs, ← c .before .number .ensures, c .no-claim .ensures, c .before .before .before .answer2 .given .1)
 
 pub claimed-spec : {M : Type 1} → statement M
 claimed-spec =

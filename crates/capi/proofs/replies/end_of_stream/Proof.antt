@@ -1,10 +1,4 @@
 -- Case by case on the answer; a refusal's number is that of its error.
-use mathlib.Core.Path.{_≡_, ap, sym, _∙_}
-use mathlib.Core.Bool.{false}
-use lib.IntN.{ℤ}
-use mir.Syntax.{w32}
-use mir.Val.{toZ, ofZ}
-use Rattle.capi.specs.Replies.{endOfStreamReply}
 use borrow.Author.Needs.{needs}
 use Rattle.capi.proofs.replies.end_of_stream.Statement.{statement}
 use Rattle.capi.proofs.replies.end_of_stream.Tie as tie
@@ -19,12 +13,10 @@ number-requires : tie.Need-number-requires
 number-requires c κs = search needs
 
 returns : tie.Need-returns
-returns c = ap endOfStreamReply (sym (c .before .answer .given .1))
+returns c = rw (c .before .answer .given .1)
 
 returns-2 : tie.Need-returns-2
-returns-2 c =
-    let back : toZ w32 (ofZ w32 (c .number .result)) ≡ c .number .result = search needs in
-    ap (λ (z : ℤ). record { code = z; «is_eos» = false }) (back ∙ c .number .ensures) ∙ ap endOfStreamReply (sym (c .before .before .answer2 .given .1))
+returns-2 c = search (needs, ← c .number .ensures, c .before .before .answer2 .given .1)
 
 pub end-of-stream-spec : {M : Type 1} → statement M
 end-of-stream-spec =

@@ -1,11 +1,4 @@
 -- Case by case on the answer; a refusal's number is that of its error.
-use mathlib.Core.Path.{_≡_, ap, sym, _∙_}
-use lib.IntN.{ℤ}
-use mir.Syntax.{w32}
-use mir.Val.{toZ, ofZ}
-use Rattle.model.specs.Errors.{numberOf}
-use Rattle.model.specs.declared.HeaderFields.{HeaderFields}
-use Rattle.capi.specs.Replies.{headerReply}
 use borrow.Author.Needs.{needs}
 use Rattle.capi.proofs.replies.header_read.Statement.{statement}
 use Rattle.capi.proofs.replies.header_read.Tie as tie
@@ -23,12 +16,10 @@ no-fields-requires : tie.Need-no-fields-requires
 no-fields-requires c κs = search needs
 
 returns : tie.Need-returns
-returns c = ap headerReply (sym (c .before .answer .given .1))
+returns c = rw (c .before .answer .given .1)
 
 returns-2 : tie.Need-returns-2
-returns-2 c =
-    let back : toZ w32 (ofZ w32 (c .before .number .result)) ≡ c .before .number .result = search needs in
-    ap (λ (z : ℤ). record { code = z; fields = c .no-fields .result }) (back ∙ c .before .number .ensures) ∙ ap (λ (x : HeaderFields). record { code = numberOf (c .before .before .before .answer2 .given .0 .0); fields = x }) (c .no-fields .ensures) ∙ ap headerReply (sym (c .before .before .before .answer2 .given .1))
+returns-2 c = search (needs, ← c .before .number .ensures, c .no-fields .ensures, c .before .before .before .answer2 .given .1)
 
 pub header-read-spec : {M : Type 1} → statement M
 header-read-spec =

@@ -1,10 +1,4 @@
 -- Case by case on the answer; a refusal's number is that of its error.
-use mathlib.Core.Path.{_≡_, ap, sym, _∙_}
-use lib.IntN.{ℤ, pos}
-use mir.Syntax.{w32}
-use mir.Val.{toZ, ofZ}
-use Prim.Native.Nat.{ℕ}
-use Rattle.capi.specs.Replies.{spanReply}
 use borrow.Author.Needs.{needs}
 use Rattle.capi.proofs.replies.located.Statement.{statement}
 use Rattle.capi.proofs.replies.located.Tie as tie
@@ -22,13 +16,10 @@ number-requires : tie.Need-number-requires
 number-requires c κs = search needs
 
 returns : tie.Need-returns
-returns c =
-    ap (λ (z : ℕ). record { code = pos 0; start = c .before .before .answer .given .0 .0; length = z }) (c .difference .ensures) ∙ ap spanReply (sym (c .before .before .answer .given .1))
+returns c = rw (c .difference .ensures, c .before .before .answer .given .1)
 
 returns-2 : tie.Need-returns-2
-returns-2 c =
-    let back : toZ w32 (ofZ w32 (c .number .result)) ≡ c .number .result = search needs in
-    ap (λ (z : ℤ). record { code = z; start = 0; length = 0 }) (back ∙ c .number .ensures) ∙ ap spanReply (sym (c .before .before .answer2 .given .1))
+returns-2 c = search (needs, ← c .number .ensures, c .before .before .answer2 .given .1)
 
 pub located-spec : {M : Type 1} → statement M
 located-spec =

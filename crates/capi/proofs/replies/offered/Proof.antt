@@ -1,9 +1,4 @@
 -- Case by case on the answer; a refusal's number is that of its error.
-use mathlib.Core.Path.{_≡_, ap, sym, _∙_}
-use lib.IntN.{ℤ, pos}
-use mir.Syntax.{w32, w64}
-use mir.Val.{toZ, ofZ}
-use Rattle.capi.specs.Replies.{offerBy}
 use borrow.Author.Needs.{needs}
 use Rattle.capi.proofs.replies.offered.Statement.{statement}
 use Rattle.capi.proofs.replies.offered.Tie as tie
@@ -18,14 +13,10 @@ number-requires : tie.Need-number-requires
 number-requires c κs = search needs
 
 returns : tie.Need-returns
-returns c =
-    let back0 : toZ w64 (ofZ w64 (c .before .answer .given .0 .0)) ≡ c .before .answer .given .0 .0 = search needs in
-    ap (λ (z : ℤ). record { next = c .before .before .before .args .next; code = pos 0; position = z }) back0 ∙ ap (offerBy (c .before .before .before .args .next)) (sym (c .before .answer .given .1))
+returns c = search (needs, c .before .answer .given .1)
 
 returns-2 : tie.Need-returns-2
-returns-2 c =
-    let back : toZ w32 (ofZ w32 (c .number .result)) ≡ c .number .result = search needs in
-    ap (λ (z : ℤ). record { next = c .before .before .before .before .args .next; code = z; position = pos 0 }) (back ∙ c .number .ensures) ∙ ap (offerBy (c .before .before .before .before .args .next)) (sym (c .before .before .answer2 .given .1))
+returns-2 c = search (needs, ← c .number .ensures, c .before .before .answer2 .given .1)
 
 pub offered-spec : {M : Type 1} → statement M
 offered-spec =

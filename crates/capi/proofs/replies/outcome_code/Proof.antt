@@ -1,8 +1,4 @@
 -- Case by case on the answer; a refusal's number is that of its error.
-use mathlib.Core.Path.{_≡_, ap, sym, _∙_}
-use mir.Syntax.{w32}
-use mir.Val.{toZ, ofZ}
-use Rattle.capi.specs.Replies.{outcomeNumber}
 use borrow.Author.Needs.{needs}
 use Rattle.capi.proofs.replies.outcome_code.Statement.{statement}
 use Rattle.capi.proofs.replies.outcome_code.Tie as tie
@@ -17,12 +13,10 @@ number-requires : tie.Need-number-requires
 number-requires c κs = search needs
 
 returns : tie.Need-returns
-returns c = ap outcomeNumber (sym (c .enum-told .given .1))
+returns c = rw (c .enum-told .given .1)
 
 returns-2 : tie.Need-returns-2
-returns-2 c =
-    let back : toZ w32 (ofZ w32 (c .number .result)) ≡ c .number .result = search needs in
-    back ∙ c .number .ensures ∙ ap outcomeNumber (sym (c .before .before .answer .given .1))
+returns-2 c = search (needs, ← c .number .ensures, c .before .before .answer .given .1)
 
 pub outcome-code-spec : {M : Type 1} → statement M
 outcome-code-spec =

@@ -1,9 +1,4 @@
 -- Case by case on the answer; a refusal's number is that of its error.
-use mathlib.Core.Path.{_≡_, ap, sym, _∙_}
-use lib.IntN.{ℤ, pos}
-use mir.Syntax.{w32}
-use mir.Val.{toZ, ofZ}
-use Rattle.capi.specs.Replies.{nextBy}
 use borrow.Author.Needs.{needs}
 use Rattle.capi.proofs.replies.replayed.Statement.{statement}
 use Rattle.capi.proofs.replies.replayed.Tie as tie
@@ -24,18 +19,16 @@ number-requires : tie.Need-number-requires
 number-requires c κs = search needs
 
 returns : tie.Need-returns
-returns c = ap (nextBy (c .before .before .args .next)) (sym (c .enum-told .given .1))
+returns c = rw (c .enum-told .given .1)
 
 returns-2 : tie.Need-returns-2
-returns-2 c = ap (nextBy (c .before .before .before .args .next)) (sym (c .before .answer .given .1))
+returns-2 c = rw (c .before .answer .given .1)
 
 returns-3 : tie.Need-returns-3
-returns-3 c = ap (nextBy (c .before .before .before .args .next)) (sym (c .before .answer2 .given .1))
+returns-3 c = rw (c .before .answer2 .given .1)
 
 returns-4 : tie.Need-returns-4
-returns-4 c =
-    let back : toZ w32 (ofZ w32 (c .number .result)) ≡ c .number .result = search needs in
-    ap (λ (z : ℤ). record { next = c .before .before .before .before .args .next; code = z; place = pos 0; start = 0; length = 0 }) (back ∙ c .number .ensures) ∙ ap (nextBy (c .before .before .before .before .args .next)) (sym (c .before .before .answer3 .given .1))
+returns-4 c = search (needs, ← c .number .ensures, c .before .before .answer3 .given .1)
 
 pub replayed-spec : {M : Type 1} → statement M
 replayed-spec =

@@ -1,9 +1,4 @@
 -- Case by case on the answer; a refusal's number is that of its error.
-use mathlib.Core.Path.{_≡_, ap, sym, _∙_}
-use lib.IntN.{ℤ}
-use mir.Syntax.{w32}
-use mir.Val.{toZ, ofZ}
-use Rattle.capi.specs.Replies.{scanReply}
 use borrow.Author.Needs.{needs}
 use Rattle.capi.proofs.replies.scanned.Statement.{statement}
 use Rattle.capi.proofs.replies.scanned.Tie as tie
@@ -18,12 +13,10 @@ number-requires : tie.Need-number-requires
 number-requires c κs = search needs
 
 returns : tie.Need-returns
-returns c = ap scanReply (sym (c .before .answer .given .1))
+returns c = rw (c .before .answer .given .1)
 
 returns-2 : tie.Need-returns-2
-returns-2 c =
-    let back : toZ w32 (ofZ w32 (c .number .result)) ≡ c .number .result = search needs in
-    ap (λ (z : ℤ). record { code = z; offset = 0 }) (back ∙ c .number .ensures) ∙ ap scanReply (sym (c .before .before .answer2 .given .1))
+returns-2 c = search (needs, ← c .number .ensures, c .before .before .answer2 .given .1)
 
 pub scanned-spec : {M : Type 1} → statement M
 scanned-spec =

@@ -1,8 +1,5 @@
 -- The call's promise, carried into the reply.
-use mathlib.Core.Path.{_≡_, ap, _∙_}
-use mir.Syntax.{w32}
-use mir.Val.{toZ, ofZ}
-use Rattle.capi.specs.Replies.{outcomeNumber}
+use Rattle.capi.proofs.Promised.{promised}
 use borrow.Author.Needs.{needs}
 use Rattle.capi.proofs.writing.logbuffer_abort.Statement.{statement}
 use Rattle.capi.proofs.writing.logbuffer_abort.Tie as tie
@@ -18,8 +15,7 @@ same-length c = search needs
 
 returns : tie.Need-returns
 returns c =
-    let back : toZ w32 (ofZ w32 (c .outcome-code .result)) ≡ c .outcome-code .result = search needs in
-    (back ∙ c .outcome-code .ensures ∙ ap outcomeNumber (c .before .before .before .abort .ensures .0), c .before .before .before .abort .ensures .1)
+    let f = c .before .before .before .abort .ensures in search (promised (c .outcome-code .ensures), needs, f .0, f .1)
 
 pub logbuffer-abort-spec : {M : Type 1} → statement M
 logbuffer-abort-spec =

@@ -1,9 +1,4 @@
 -- The call's promise, carried into the reply; signed arguments that were handed on are those given.
-use mathlib.Core.Path.{ap, _∙_}
-use lib.IntN.{ℤ}
-use Rattle.model.specs.TermAppender.{fragmentedReply, fragmentedBytes}
-use Rattle.capi.specs.Replies.{appendReply}
-use Rattle.capi.proofs.Handed.{handed3, handed4}
 use borrow.Author.Needs.{needs}
 use Rattle.capi.proofs.writing.logbuffer_append_fragmented_message.Statement.{statement}
 use Rattle.capi.proofs.writing.logbuffer_append_fragmented_message.Tie as tie
@@ -19,11 +14,7 @@ same-length c = search needs
 
 returns : tie.Need-returns
 returns c =
-    let s = c .before .before .before .before .before .before .before .before in
-    let a = s .args in (
-      c .appended .ensures ∙ ap appendReply (c .before .before .before .before .append-fragmented-message .ensures .0) ∙ handed3 (λ (p : ℤ) (q : ℤ) (r : ℤ). appendReply (fragmentedReply (a .rec) (a .log .now) p (a .message .now) q r)) (s .fits .partition) (s .fits .payload-limit) (s .fits .term-id),
-      c .before .before .before .before .append-fragmented-message .ensures .1 ∙ handed4 (λ (p : ℤ) (q : ℤ) (r : ℤ) (t : ℤ). fragmentedBytes (a .rec) (a .log .now) p (a .message .now) q r t) (s .fits .partition) (s .fits .reserved-value) (s .fits .payload-limit) (s .fits .term-id),
-    )
+    let f = c .before .before .before .before .append-fragmented-message .ensures in (rw (c .appended .ensures, f .0) (search needs), search (needs, f .1))
 
 pub logbuffer-append-fragmented-message-spec : {M : Type 1} → statement M
 logbuffer-append-fragmented-message-spec =

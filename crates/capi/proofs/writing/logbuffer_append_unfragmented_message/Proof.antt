@@ -1,9 +1,4 @@
 -- The call's promise, carried into the reply; signed arguments that were handed on are those given.
-use mathlib.Core.Path.{ap, _∙_}
-use lib.IntN.{ℤ}
-use Rattle.model.specs.TermAppender.{unfragmentedReply, unfragmentedBytes}
-use Rattle.capi.specs.Replies.{appendReply}
-use Rattle.capi.proofs.Handed.{handed2, handed3}
 use borrow.Author.Needs.{needs}
 use Rattle.capi.proofs.writing.logbuffer_append_unfragmented_message.Statement.{statement}
 use Rattle.capi.proofs.writing.logbuffer_append_unfragmented_message.Tie as tie
@@ -19,11 +14,7 @@ same-length c = search needs
 
 returns : tie.Need-returns
 returns c =
-    let s = c .before .before .before .before .before .before .before .before in
-    let a = s .args in (
-      c .appended .ensures ∙ ap appendReply (c .before .before .before .before .append-unfragmented-message .ensures .0) ∙ handed2 (λ (p : ℤ) (q : ℤ). appendReply (unfragmentedReply (a .rec) (a .log .now) p (a .message .now) q)) (s .fits .partition) (s .fits .term-id),
-      c .before .before .before .before .append-unfragmented-message .ensures .1 ∙ handed3 (λ (p : ℤ) (q : ℤ) (r : ℤ). unfragmentedBytes (a .rec) (a .log .now) p (a .message .now) q r) (s .fits .partition) (s .fits .reserved-value) (s .fits .term-id),
-    )
+    let f = c .before .before .before .before .append-unfragmented-message .ensures in rw (c .appended .ensures, f .0, f .1) (search needs)
 
 pub logbuffer-append-unfragmented-message-spec : {M : Type 1} → statement M
 logbuffer-append-unfragmented-message-spec =

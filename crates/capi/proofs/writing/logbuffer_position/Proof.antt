@@ -1,6 +1,4 @@
 -- The call's promise, carried into the reply.
-use mathlib.Core.Path.{ap, _∙_}
-use Rattle.capi.specs.Replies.{positionReply}
 use borrow.Author.Needs.{needs}
 use Rattle.capi.proofs.writing.logbuffer_position.Statement.{statement}
 use Rattle.capi.proofs.writing.logbuffer_position.Tie as tie
@@ -12,7 +10,7 @@ positioned-requires : tie.Need-positioned-requires
 positioned-requires c κs = search needs
 
 returns : tie.Need-returns
-returns c = c .positioned .ensures ∙ ap positionReply (c .before .position .ensures)
+returns c = rw (c .positioned .ensures, c .before .position .ensures)
 
 pub logbuffer-position-spec : {M : Type 1} → statement M
 logbuffer-position-spec = tie.close (tie.spec position-requires positioned-requires returns)

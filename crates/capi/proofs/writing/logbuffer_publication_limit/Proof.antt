@@ -1,6 +1,4 @@
 -- The call's promise, carried into the reply.
-use mathlib.Core.Path.{ap, _∙_}
-use Rattle.capi.specs.Replies.{positionReply}
 use borrow.Author.Needs.{needs}
 use Rattle.capi.proofs.writing.logbuffer_publication_limit.Statement.{statement}
 use Rattle.capi.proofs.writing.logbuffer_publication_limit.Tie as tie
@@ -12,7 +10,7 @@ positioned-requires : tie.Need-positioned-requires
 positioned-requires c κs = search needs
 
 returns : tie.Need-returns
-returns c = c .positioned .ensures ∙ ap positionReply (c .before .publication-limit .ensures)
+returns c = rw (c .positioned .ensures, c .before .publication-limit .ensures)
 
 pub logbuffer-publication-limit-spec : {M : Type 1} → statement M
 logbuffer-publication-limit-spec =
