@@ -1,7 +1,6 @@
 -- Laws about the definitions, and proofs. Cases holds the marked positions of document 01; Demand proves demand 3.
 pub mod Cases
 pub mod Both
-pub mod Handed
 pub mod Splice
 pub mod Fields
 pub mod Power

@@ -3,15 +3,9 @@ use borrow.Author.Needs.{needs}
 use Rattle.capi.proofs.descriptor.logbuffer_compute_position.Statement.{statement}
 use Rattle.capi.proofs.descriptor.logbuffer_compute_position.Tie as tie
 
-compute-position-requires : tie.Need-compute-position-requires
-compute-position-requires c κs = search needs
-
-positioned-requires : tie.Need-positioned-requires
-positioned-requires c κs = search needs
-
 returns : tie.Need-returns
 returns c = rw (c .positioned .ensures, c .before .compute-position .ensures) (search needs)
 
 pub logbuffer-compute-position-spec : {M : Type 1} → statement M
 logbuffer-compute-position-spec =
-    tie.close (tie.spec compute-position-requires positioned-requires returns)
+    tie.close (tie.spec (search needs) (search needs) returns)

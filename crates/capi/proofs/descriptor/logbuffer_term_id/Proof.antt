@@ -4,11 +4,8 @@ use borrow.Author.Needs.{needs}
 use Rattle.capi.proofs.descriptor.logbuffer_term_id.Statement.{statement}
 use Rattle.capi.proofs.descriptor.logbuffer_term_id.Tie as tie
 
-term-id-requires : tie.Need-term-id-requires
-term-id-requires c κs = search needs
-
 returns : tie.Need-returns
 returns c = search (promised (c .term-id .ensures), needs)
 
 pub logbuffer-term-id-spec : {M : Type 1} → statement M
-logbuffer-term-id-spec = tie.close (tie.spec term-id-requires returns)
+logbuffer-term-id-spec = tie.close (tie.spec (search needs) returns)

@@ -3,11 +3,8 @@ use borrow.Author.Needs.{needs}
 use Rattle.capi.proofs.descriptor.logbuffer_term_offset.Statement.{statement}
 use Rattle.capi.proofs.descriptor.logbuffer_term_offset.Tie as tie
 
-term-offset-requires : tie.Need-term-offset-requires
-term-offset-requires c κs = search needs
-
 returns : tie.Need-returns
 returns c = rw (c .term-offset .ensures) (search needs)
 
 pub logbuffer-term-offset-spec : {M : Type 1} → statement M
-logbuffer-term-offset-spec = tie.close (tie.spec term-offset-requires returns)
+logbuffer-term-offset-spec = tie.close (tie.spec (search needs) returns)

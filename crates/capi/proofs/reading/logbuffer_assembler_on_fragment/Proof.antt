@@ -4,15 +4,6 @@ use borrow.Author.Needs.{needs}
 use Rattle.capi.proofs.reading.logbuffer_assembler_on_fragment.Statement.{statement}
 use Rattle.capi.proofs.reading.logbuffer_assembler_on_fragment.Tie as tie
 
-on-fragment-requires : tie.Need-on-fragment-requires
-on-fragment-requires c κs = search needs
-
-assembled-requires : tie.Need-assembled-requires
-assembled-requires c κs = search needs
-
-same-length : tie.Need-same-length
-same-length c = search needs
-
 returns : tie.Need-returns
 returns c =
     let s = c .before .before .before .before .before .before .before .before .fits in
@@ -21,4 +12,4 @@ returns c =
 
 pub logbuffer-assembler-on-fragment-spec : {M : Type 1} → statement M
 logbuffer-assembler-on-fragment-spec =
-    tie.close (tie.spec on-fragment-requires assembled-requires same-length returns)
+    tie.close (tie.spec (search needs) (search needs) (search needs) returns)

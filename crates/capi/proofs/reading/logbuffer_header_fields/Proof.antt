@@ -3,14 +3,8 @@ use borrow.Author.Needs.{needs}
 use Rattle.capi.proofs.reading.logbuffer_header_fields.Statement.{statement}
 use Rattle.capi.proofs.reading.logbuffer_header_fields.Tie as tie
 
-fields-requires : tie.Need-fields-requires
-fields-requires c κs = search needs
-
-header-read-requires : tie.Need-header-read-requires
-header-read-requires c κs = search needs
-
 returns : tie.Need-returns
 returns c = rw (c .header-read .ensures, c .before .fields .ensures) (search needs)
 
 pub logbuffer-header-fields-spec : {M : Type 1} → statement M
-logbuffer-header-fields-spec = tie.close (tie.spec fields-requires header-read-requires returns)
+logbuffer-header-fields-spec = tie.close (tie.spec (search needs) (search needs) returns)

@@ -3,19 +3,10 @@ use borrow.Author.Needs.{needs}
 use Rattle.capi.proofs.reading.logbuffer_image_bounded_poll.Statement.{statement}
 use Rattle.capi.proofs.reading.logbuffer_image_bounded_poll.Tie as tie
 
-bounded-poll-requires : tie.Need-bounded-poll-requires
-bounded-poll-requires c κs = search needs
-
-polled-requires : tie.Need-polled-requires
-polled-requires c κs = search needs
-
-same-length : tie.Need-same-length
-same-length c = search needs
-
 returns : tie.Need-returns
 returns c =
     let f = c .before .before .before .bounded-poll .ensures in rw (c .polled .ensures, f .0, f .1) (search needs)
 
 pub logbuffer-image-bounded-poll-spec : {M : Type 1} → statement M
 logbuffer-image-bounded-poll-spec =
-    tie.close (tie.spec bounded-poll-requires polled-requires same-length returns)
+    tie.close (tie.spec (search needs) (search needs) (search needs) returns)

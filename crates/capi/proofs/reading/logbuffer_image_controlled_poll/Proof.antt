@@ -3,19 +3,10 @@ use borrow.Author.Needs.{needs}
 use Rattle.capi.proofs.reading.logbuffer_image_controlled_poll.Statement.{statement}
 use Rattle.capi.proofs.reading.logbuffer_image_controlled_poll.Tie as tie
 
-controlled-poll-requires : tie.Need-controlled-poll-requires
-controlled-poll-requires c κs = search needs
-
-polled-requires : tie.Need-polled-requires
-polled-requires c κs = search needs
-
-same-length : tie.Need-same-length
-same-length c = search needs
-
 returns : tie.Need-returns
 returns c =
     let f = c .before .before .before .controlled-poll .ensures in rw (c .polled .ensures, f .0, f .1) (search needs)
 
 pub logbuffer-image-controlled-poll-spec : {M : Type 1} → statement M
 logbuffer-image-controlled-poll-spec =
-    tie.close (tie.spec controlled-poll-requires polled-requires same-length returns)
+    tie.close (tie.spec (search needs) (search needs) (search needs) returns)

@@ -3,11 +3,8 @@ use borrow.Author.Needs.{needs}
 use Rattle.capi.proofs.reading.logbuffer_image_new.Statement.{statement}
 use Rattle.capi.proofs.reading.logbuffer_image_new.Tie as tie
 
-new-requires : tie.Need-new-requires
-new-requires c κs = search needs
-
 returns : tie.Need-returns
 returns c = rw (c .new .ensures) (search needs)
 
 pub logbuffer-image-new-spec : {M : Type 1} → statement M
-logbuffer-image-new-spec = tie.close (tie.spec new-requires returns)
+logbuffer-image-new-spec = tie.close (tie.spec (search needs) returns)

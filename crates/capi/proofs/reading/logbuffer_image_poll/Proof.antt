@@ -3,18 +3,9 @@ use borrow.Author.Needs.{needs}
 use Rattle.capi.proofs.reading.logbuffer_image_poll.Statement.{statement}
 use Rattle.capi.proofs.reading.logbuffer_image_poll.Tie as tie
 
-poll-requires : tie.Need-poll-requires
-poll-requires c κs = search needs
-
-polled-requires : tie.Need-polled-requires
-polled-requires c κs = search needs
-
-same-length : tie.Need-same-length
-same-length c = search needs
-
 returns : tie.Need-returns
 returns c =
     let f = c .before .before .before .poll .ensures in rw (c .polled .ensures, f .0, f .1) (search needs)
 
 pub logbuffer-image-poll-spec : {M : Type 1} → statement M
-logbuffer-image-poll-spec = tie.close (tie.spec poll-requires polled-requires same-length returns)
+logbuffer-image-poll-spec = tie.close (tie.spec (search needs) (search needs) (search needs) returns)

@@ -5,16 +5,10 @@ use borrow.Author.Needs.{needs}
 use Rattle.capi.proofs.reading.logbuffer_image_set_position.Statement.{statement}
 use Rattle.capi.proofs.reading.logbuffer_image_set_position.Tie as tie
 
-set-position-requires : tie.Need-set-position-requires
-set-position-requires c κs = search needs
-
-outcome-code-requires : tie.Need-outcome-code-requires
-outcome-code-requires c κs = search needs
-
 returns : tie.Need-returns
 returns c =
     rw (promised (c .outcome-code .ensures) (search needs), c .before .before .set-position .ensures, toZ-ofZ (c .before .before .before .before .fits .new-position))
 
 pub logbuffer-image-set-position-spec : {M : Type 1} → statement M
 logbuffer-image-set-position-spec =
-    tie.close (tie.spec set-position-requires outcome-code-requires returns)
+    tie.close (tie.spec (search needs) (search needs) returns)

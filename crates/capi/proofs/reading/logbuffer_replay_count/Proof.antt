@@ -3,19 +3,10 @@ use borrow.Author.Needs.{needs}
 use Rattle.capi.proofs.reading.logbuffer_replay_count.Statement.{statement}
 use Rattle.capi.proofs.reading.logbuffer_replay_count.Tie as tie
 
-count-requires : tie.Need-count-requires
-count-requires c κs = search needs
-
-counted-requires : tie.Need-counted-requires
-counted-requires c κs = search needs
-
-same-length : tie.Need-same-length
-same-length c = search needs
-
 returns : tie.Need-returns
 returns c =
     let f = c .before .before .before .count .ensures in rw (c .counted .ensures, f .0, f .1) (search needs)
 
 pub logbuffer-replay-count-spec : {M : Type 1} → statement M
 logbuffer-replay-count-spec =
-    tie.close (tie.spec count-requires counted-requires same-length returns)
+    tie.close (tie.spec (search needs) (search needs) (search needs) returns)

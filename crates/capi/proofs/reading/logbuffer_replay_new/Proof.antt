@@ -7,12 +7,9 @@ use borrow.Author.Needs.{needs}
 use Rattle.capi.proofs.reading.logbuffer_replay_new.Statement.{statement}
 use Rattle.capi.proofs.reading.logbuffer_replay_new.Tie as tie
 
-new-requires : tie.Need-new-requires
-new-requires c κs = search needs
-
 returns : tie.Need-returns
 returns c =
     rw (← toZ-ofZ (c .before .fits .session-id), ← ap imageOf (c .new .ensures .0), ← ap assemblerOf (c .new .ensures .1))
 
 pub logbuffer-replay-new-spec : {M : Type 1} → statement M
-logbuffer-replay-new-spec = tie.close (tie.spec new-requires returns)
+logbuffer-replay-new-spec = tie.close (tie.spec (search needs) returns)

@@ -3,14 +3,8 @@ use borrow.Author.Needs.{needs}
 use Rattle.capi.proofs.reading.logbuffer_scan.Statement.{statement}
 use Rattle.capi.proofs.reading.logbuffer_scan.Tie as tie
 
-scan-requires : tie.Need-scan-requires
-scan-requires c κs = search needs
-
-scanned-requires : tie.Need-scanned-requires
-scanned-requires c κs = search needs
-
 returns : tie.Need-returns
 returns c = rw (c .scanned .ensures, c .before .scan .ensures) (search needs)
 
 pub logbuffer-scan-spec : {M : Type 1} → statement M
-logbuffer-scan-spec = tie.close (tie.spec scan-requires scanned-requires returns)
+logbuffer-scan-spec = tie.close (tie.spec (search needs) (search needs) returns)

@@ -3,16 +3,10 @@ use borrow.Author.Needs.{needs}
 use Rattle.capi.proofs.reading.logbuffer_scan_for_availability.Statement.{statement}
 use Rattle.capi.proofs.reading.logbuffer_scan_for_availability.Tie as tie
 
-scan-for-availability-requires : tie.Need-scan-for-availability-requires
-scan-for-availability-requires c κs = search needs
-
-availability-scanned-requires : tie.Need-availability-scanned-requires
-availability-scanned-requires c κs = search needs
-
 returns : tie.Need-returns
 returns c =
     rw (c .availability-scanned .ensures, c .before .scan-for-availability .ensures) (search needs)
 
 pub logbuffer-scan-for-availability-spec : {M : Type 1} → statement M
 logbuffer-scan-for-availability-spec =
-    tie.close (tie.spec scan-for-availability-requires availability-scanned-requires returns)
+    tie.close (tie.spec (search needs) (search needs) returns)

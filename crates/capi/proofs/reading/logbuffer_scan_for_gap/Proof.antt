@@ -3,15 +3,9 @@ use borrow.Author.Needs.{needs}
 use Rattle.capi.proofs.reading.logbuffer_scan_for_gap.Statement.{statement}
 use Rattle.capi.proofs.reading.logbuffer_scan_for_gap.Tie as tie
 
-scan-for-gap-requires : tie.Need-scan-for-gap-requires
-scan-for-gap-requires c κs = search needs
-
-gap-scanned-requires : tie.Need-gap-scanned-requires
-gap-scanned-requires c κs = search needs
-
 returns : tie.Need-returns
 returns c = rw (c .gap-scanned .ensures, c .before .scan-for-gap .ensures) (search needs)
 
 pub logbuffer-scan-for-gap-spec : {M : Type 1} → statement M
 logbuffer-scan-for-gap-spec =
-    tie.close (tie.spec scan-for-gap-requires gap-scanned-requires returns)
+    tie.close (tie.spec (search needs) (search needs) returns)

@@ -3,14 +3,8 @@ use borrow.Author.Needs.{needs}
 use Rattle.capi.proofs.reading.logbuffer_view.Statement.{statement}
 use Rattle.capi.proofs.reading.logbuffer_view.Tie as tie
 
-view-span-requires : tie.Need-view-span-requires
-view-span-requires c κs = search needs
-
-located-requires : tie.Need-located-requires
-located-requires c κs = search needs
-
 returns : tie.Need-returns
 returns c = rw (c .located .ensures, c .before .view-span .ensures) (search needs)
 
 pub logbuffer-view-spec : {M : Type 1} → statement M
-logbuffer-view-spec = tie.close (tie.spec view-span-requires located-requires returns)
+logbuffer-view-spec = tie.close (tie.spec (search needs) (search needs) returns)

@@ -4,11 +4,8 @@ use borrow.Author.Needs.{needs}
 use Rattle.capi.proofs.reading.logbuffer_view_number.Statement.{statement}
 use Rattle.capi.proofs.reading.logbuffer_view_number.Tie as tie
 
-view-number-requires : tie.Need-view-number-requires
-view-number-requires c κs = search needs
-
 returns : tie.Need-returns
 returns c = search (promised (c .view-number .ensures), needs)
 
 pub logbuffer-view-number-spec : {M : Type 1} → statement M
-logbuffer-view-number-spec = tie.close (tie.spec view-number-requires returns)
+logbuffer-view-number-spec = tie.close (tie.spec (search needs) returns)

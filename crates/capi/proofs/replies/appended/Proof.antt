@@ -3,18 +3,6 @@ use borrow.Author.Needs.{needs}
 use Rattle.capi.proofs.replies.appended.Statement.{statement}
 use Rattle.capi.proofs.replies.appended.Tie as tie
 
-enum-known-answer : tie.Need-enum-known-answer
-enum-known-answer c = search needs
-
-enum-told : tie.Need-enum-told
-enum-told c = search needs
-
-enum-known-answer-2 : tie.Need-enum-known-answer-2
-enum-known-answer-2 c = search needs
-
-number-requires : tie.Need-number-requires
-number-requires c κs = search needs
-
 returns : tie.Need-returns
 returns c = rw (c .before .answer .given .1)
 
@@ -28,10 +16,10 @@ pub appended-spec : {M : Type 1} → statement M
 appended-spec =
     tie.close
     (tie.spec
-    enum-known-answer
-    enum-told
-    enum-known-answer-2
-    number-requires
+    (search needs)
+    (search needs)
+    (search needs)
+    (search needs)
     returns
     returns-2
     returns-3)

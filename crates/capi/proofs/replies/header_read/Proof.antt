@@ -3,18 +3,6 @@ use borrow.Author.Needs.{needs}
 use Rattle.capi.proofs.replies.header_read.Statement.{statement}
 use Rattle.capi.proofs.replies.header_read.Tie as tie
 
-enum-known-answer : tie.Need-enum-known-answer
-enum-known-answer c = search needs
-
-enum-known-answer-2 : tie.Need-enum-known-answer-2
-enum-known-answer-2 c = search needs
-
-number-requires : tie.Need-number-requires
-number-requires c κs = search needs
-
-no-fields-requires : tie.Need-no-fields-requires
-no-fields-requires c κs = search needs
-
 returns : tie.Need-returns
 returns c = rw (c .before .answer .given .1)
 
@@ -25,9 +13,9 @@ pub header-read-spec : {M : Type 1} → statement M
 header-read-spec =
     tie.close
     (tie.spec
-    enum-known-answer
-    enum-known-answer-2
-    number-requires
-    no-fields-requires
+    (search needs)
+    (search needs)
+    (search needs)
+    (search needs)
     returns
     returns-2)

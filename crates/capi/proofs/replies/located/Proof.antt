@@ -3,18 +3,6 @@ use borrow.Author.Needs.{needs}
 use Rattle.capi.proofs.replies.located.Statement.{statement}
 use Rattle.capi.proofs.replies.located.Tie as tie
 
-enum-known-answer : tie.Need-enum-known-answer
-enum-known-answer c = search needs
-
-difference-requires : tie.Need-difference-requires
-difference-requires c κs = search needs
-
-enum-known-answer-2 : tie.Need-enum-known-answer-2
-enum-known-answer-2 c = search needs
-
-number-requires : tie.Need-number-requires
-number-requires c κs = search needs
-
 returns : tie.Need-returns
 returns c = rw (c .difference .ensures, c .before .before .answer .given .1)
 
@@ -25,9 +13,9 @@ pub located-spec : {M : Type 1} → statement M
 located-spec =
     tie.close
     (tie.spec
-    enum-known-answer
-    difference-requires
-    enum-known-answer-2
-    number-requires
+    (search needs)
+    (search needs)
+    (search needs)
+    (search needs)
     returns
     returns-2)

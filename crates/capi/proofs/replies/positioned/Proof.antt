@@ -3,15 +3,6 @@ use borrow.Author.Needs.{needs}
 use Rattle.capi.proofs.replies.positioned.Statement.{statement}
 use Rattle.capi.proofs.replies.positioned.Tie as tie
 
-enum-known-answer : tie.Need-enum-known-answer
-enum-known-answer c = search needs
-
-enum-known-answer-2 : tie.Need-enum-known-answer-2
-enum-known-answer-2 c = search needs
-
-number-requires : tie.Need-number-requires
-number-requires c κs = search needs
-
 returns : tie.Need-returns
 returns c = search (needs, c .before .answer .given .1)
 
@@ -20,4 +11,4 @@ returns-2 c = search (needs, ← c .number .ensures, c .before .before .answer2 
 
 pub positioned-spec : {M : Type 1} → statement M
 positioned-spec =
-    tie.close (tie.spec enum-known-answer enum-known-answer-2 number-requires returns returns-2)
+    tie.close (tie.spec (search needs) (search needs) (search needs) returns returns-2)

@@ -4,19 +4,10 @@ use borrow.Author.Needs.{needs}
 use Rattle.capi.proofs.writing.logbuffer_abort.Statement.{statement}
 use Rattle.capi.proofs.writing.logbuffer_abort.Tie as tie
 
-abort-requires : tie.Need-abort-requires
-abort-requires c κs = search needs
-
-outcome-code-requires : tie.Need-outcome-code-requires
-outcome-code-requires c κs = search needs
-
-same-length : tie.Need-same-length
-same-length c = search needs
-
 returns : tie.Need-returns
 returns c =
     let f = c .before .before .before .abort .ensures in search (promised (c .outcome-code .ensures), needs, f .0, f .1)
 
 pub logbuffer-abort-spec : {M : Type 1} → statement M
 logbuffer-abort-spec =
-    tie.close (tie.spec abort-requires outcome-code-requires same-length returns)
+    tie.close (tie.spec (search needs) (search needs) (search needs) returns)

@@ -3,19 +3,10 @@ use borrow.Author.Needs.{needs}
 use Rattle.capi.proofs.writing.logbuffer_append_fragmented_message.Statement.{statement}
 use Rattle.capi.proofs.writing.logbuffer_append_fragmented_message.Tie as tie
 
-append-fragmented-message-requires : tie.Need-append-fragmented-message-requires
-append-fragmented-message-requires c κs = search needs
-
-appended-requires : tie.Need-appended-requires
-appended-requires c κs = search needs
-
-same-length : tie.Need-same-length
-same-length c = search needs
-
 returns : tie.Need-returns
 returns c =
     let f = c .before .before .before .before .append-fragmented-message .ensures in (rw (c .appended .ensures, f .0) (search needs), search (needs, f .1))
 
 pub logbuffer-append-fragmented-message-spec : {M : Type 1} → statement M
 logbuffer-append-fragmented-message-spec =
-    tie.close (tie.spec append-fragmented-message-requires appended-requires same-length returns)
+    tie.close (tie.spec (search needs) (search needs) (search needs) returns)

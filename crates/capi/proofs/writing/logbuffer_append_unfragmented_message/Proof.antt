@@ -3,19 +3,10 @@ use borrow.Author.Needs.{needs}
 use Rattle.capi.proofs.writing.logbuffer_append_unfragmented_message.Statement.{statement}
 use Rattle.capi.proofs.writing.logbuffer_append_unfragmented_message.Tie as tie
 
-append-unfragmented-message-requires : tie.Need-append-unfragmented-message-requires
-append-unfragmented-message-requires c κs = search needs
-
-appended-requires : tie.Need-appended-requires
-appended-requires c κs = search needs
-
-same-length : tie.Need-same-length
-same-length c = search needs
-
 returns : tie.Need-returns
 returns c =
     let f = c .before .before .before .before .append-unfragmented-message .ensures in rw (c .appended .ensures, f .0, f .1) (search needs)
 
 pub logbuffer-append-unfragmented-message-spec : {M : Type 1} → statement M
 logbuffer-append-unfragmented-message-spec =
-    tie.close (tie.spec append-unfragmented-message-requires appended-requires same-length returns)
+    tie.close (tie.spec (search needs) (search needs) (search needs) returns)

@@ -3,15 +3,9 @@ use borrow.Author.Needs.{needs}
 use Rattle.capi.proofs.writing.logbuffer_available_window.Statement.{statement}
 use Rattle.capi.proofs.writing.logbuffer_available_window.Tie as tie
 
-available-window-requires : tie.Need-available-window-requires
-available-window-requires c κs = search needs
-
-positioned-requires : tie.Need-positioned-requires
-positioned-requires c κs = search needs
-
 returns : tie.Need-returns
 returns c = rw (c .positioned .ensures, c .before .available-window .ensures)
 
 pub logbuffer-available-window-spec : {M : Type 1} → statement M
 logbuffer-available-window-spec =
-    tie.close (tie.spec available-window-requires positioned-requires returns)
+    tie.close (tie.spec (search needs) (search needs) returns)

@@ -4,14 +4,8 @@ use borrow.Author.Needs.{needs}
 use Rattle.capi.proofs.writing.logbuffer_close.Statement.{statement}
 use Rattle.capi.proofs.writing.logbuffer_close.Tie as tie
 
-close-requires : tie.Need-close-requires
-close-requires c κs = search needs
-
-outcome-code-requires : tie.Need-outcome-code-requires
-outcome-code-requires c κs = search needs
-
 returns : tie.Need-returns
 returns c = search (promised (c .outcome-code .ensures), needs, c .before .before .close .ensures)
 
 pub logbuffer-close-spec : {M : Type 1} → statement M
-logbuffer-close-spec = tie.close (tie.spec close-requires outcome-code-requires returns)
+logbuffer-close-spec = tie.close (tie.spec (search needs) (search needs) returns)

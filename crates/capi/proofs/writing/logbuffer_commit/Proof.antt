@@ -4,19 +4,10 @@ use borrow.Author.Needs.{needs}
 use Rattle.capi.proofs.writing.logbuffer_commit.Statement.{statement}
 use Rattle.capi.proofs.writing.logbuffer_commit.Tie as tie
 
-commit-requires : tie.Need-commit-requires
-commit-requires c κs = search needs
-
-outcome-code-requires : tie.Need-outcome-code-requires
-outcome-code-requires c κs = search needs
-
-same-length : tie.Need-same-length
-same-length c = search needs
-
 returns : tie.Need-returns
 returns c =
     let f = c .before .before .before .commit .ensures in search (promised (c .outcome-code .ensures), needs, f .0, f .1)
 
 pub logbuffer-commit-spec : {M : Type 1} → statement M
 logbuffer-commit-spec =
-    tie.close (tie.spec commit-requires outcome-code-requires same-length returns)
+    tie.close (tie.spec (search needs) (search needs) (search needs) returns)

@@ -4,19 +4,10 @@ use borrow.Author.Needs.{needs}
 use Rattle.capi.proofs.writing.logbuffer_open.Statement.{statement}
 use Rattle.capi.proofs.writing.logbuffer_open.Tie as tie
 
-open-log-requires : tie.Need-open-log-requires
-open-log-requires c κs = search needs
-
-outcome-code-requires : tie.Need-outcome-code-requires
-outcome-code-requires c κs = search needs
-
-same-length : tie.Need-same-length
-same-length c = search needs
-
 returns : tie.Need-returns
 returns c =
     let f = c .before .before .before .before .open-log .ensures in rw (promised (c .outcome-code .ensures) (search needs), f .0, f .1) (search needs)
 
 pub logbuffer-open-spec : {M : Type 1} → statement M
 logbuffer-open-spec =
-    tie.close (tie.spec open-log-requires outcome-code-requires same-length returns)
+    tie.close (tie.spec (search needs) (search needs) (search needs) returns)

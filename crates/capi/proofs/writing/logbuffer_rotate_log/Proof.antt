@@ -4,15 +4,9 @@ use borrow.Author.Needs.{needs}
 use Rattle.capi.proofs.writing.logbuffer_rotate_log.Statement.{statement}
 use Rattle.capi.proofs.writing.logbuffer_rotate_log.Tie as tie
 
-rotate-log-requires : tie.Need-rotate-log-requires
-rotate-log-requires c κs = search needs
-
-outcome-code-requires : tie.Need-outcome-code-requires
-outcome-code-requires c κs = search needs
-
 returns : tie.Need-returns
 returns c =
     search (promised (c .outcome-code .ensures), needs, c .before .before .rotate-log .ensures)
 
 pub logbuffer-rotate-log-spec : {M : Type 1} → statement M
-logbuffer-rotate-log-spec = tie.close (tie.spec rotate-log-requires outcome-code-requires returns)
+logbuffer-rotate-log-spec = tie.close (tie.spec (search needs) (search needs) returns)

@@ -3,19 +3,10 @@ use borrow.Author.Needs.{needs}
 use Rattle.capi.proofs.writing.logbuffer_try_claim.Statement.{statement}
 use Rattle.capi.proofs.writing.logbuffer_try_claim.Tie as tie
 
-try-claim-requires : tie.Need-try-claim-requires
-try-claim-requires c κs = search needs
-
-claimed-requires : tie.Need-claimed-requires
-claimed-requires c κs = search needs
-
-same-length : tie.Need-same-length
-same-length c = search needs
-
 returns : tie.Need-returns
 returns c =
     let f = c .before .before .before .before .try-claim .ensures in rw (c .claimed .ensures, f .0, f .1) (search needs)
 
 pub logbuffer-try-claim-spec : {M : Type 1} → statement M
 logbuffer-try-claim-spec =
-    tie.close (tie.spec try-claim-requires claimed-requires same-length returns)
+    tie.close (tie.spec (search needs) (search needs) (search needs) returns)

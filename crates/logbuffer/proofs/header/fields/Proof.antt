@@ -12,7 +12,6 @@ use Rattle.model.specs.declared.HeaderRead.the-variants.{Fields}
 use Rattle.model.specs.DataFrameHeader.{headerAt}
 use Rattle.model.specs.LogBufferDescriptor.{sound, goodPartition, goodOffset, active, placeOf, firstRows}
 use Rattle.model.specs.TermReader.{fieldsOf, headerBy, headerCall}
-use Rattle.model.proofs.Handed.{handed2}
 use Rattle.model.proofs.PlaceLaws.{Placed, passed-place}
 use Rattle.model.proofs.Sound.{initial-small}
 use Rattle.model.proofs.HeaderRows.{header-by}
@@ -26,7 +25,7 @@ abbrev p : tie.After-first-rows → Place
 p c = c .before .before .place .result
 
 p-is : (c : tie.After-first-rows) → p c ≡ placeOf (st c .args .rec) (st c .args .partition) (st c .args .offset)
-p-is c = c .before .before .place .ensures .0 ∙ handed2 (placeOf (st c .args .rec)) (st c .fits .partition) (st c .fits .offset)
+p-is c = c .before .before .place .ensures .0 ∙ search needs
 
 rows : (c : tie.After-first-rows)
     → firstRows (goodPartition (p c .partition) && goodOffset (p c .offset) (p c .read)) (sound (p c .read) (length (st c .args .log .now))) Pass ≡ c .first-rows .result

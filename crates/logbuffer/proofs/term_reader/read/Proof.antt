@@ -9,7 +9,6 @@ use Rattle.model.specs.declared.Place.{Place}
 use Rattle.model.specs.declared.Verdict.the-variants.{Pass}
 use Rattle.model.specs.LogBufferDescriptor.{sound, placeOf, firstRows}
 use Rattle.model.specs.TermReader.{natural, readOf, readEntries}
-use Rattle.model.proofs.Handed.{handed1, handed2}
 use Rattle.model.proofs.Rows.{rows-pass}
 use Rattle.model.proofs.PlaceLaws.{Placed, rows-placed}
 use Rattle.model.proofs.ReadLaws.{goodRead, readFrom, read-refused, read-goes, read-walk, frames-moved}
@@ -26,10 +25,10 @@ abbrev most : tie.After-first-rows → ℕ
 most c = c .before .before .natural .result
 
 p-is : (c : tie.After-first-rows) → p c ≡ placeOf (st c .args .rec) (st c .args .partition) (st c .args .offset)
-p-is c = c .before .before .before .place .ensures .0 ∙ handed2 (placeOf (st c .args .rec)) (st c .fits .partition) (st c .fits .offset)
+p-is c = c .before .before .before .place .ensures .0 ∙ search needs
 
 most-is : (c : tie.After-first-rows) → most c ≡ natural (st c .args .limit)
-most-is c = c .before .before .natural .ensures .0 ∙ handed1 natural (st c .fits .limit)
+most-is c = c .before .before .natural .ensures .0 ∙ search needs
 
 rows : (c : tie.After-first-rows)
     → firstRows (goodRead (p c) (most c) (length (st c .args .entries .now))) (sound (p c .read) (length (st c .args .log .now))) Pass ≡ c .first-rows .result

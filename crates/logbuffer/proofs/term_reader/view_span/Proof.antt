@@ -12,7 +12,6 @@ use Rattle.model.specs.Bytes.{word}
 use Rattle.model.specs.Parts.{locatedBy}
 use Rattle.model.specs.LogBufferDescriptor.{sound, placeOf, firstRows}
 use Rattle.model.specs.TermReader.{goodView, viewOf}
-use Rattle.model.proofs.Handed.{handed2}
 use Rattle.model.proofs.Rows.{rows-pass}
 use Rattle.model.proofs.ViewLaws.{view-in, view-by}
 use Rattle.logbuffer.proofs.Signed.{word-by}
@@ -29,7 +28,7 @@ abbrev size : tie.After-first-rows → ℕ
 size c = c .before .before .word .result
 
 p-is : (c : tie.After-first-rows) → p c ≡ placeOf (st c .args .rec) (st c .args .partition) (st c .args .offset)
-p-is c = c .before .before .before .place .ensures .0 ∙ handed2 (placeOf (st c .args .rec)) (st c .fits .partition) (st c .fits .offset)
+p-is c = c .before .before .before .place .ensures .0 ∙ search needs
 
 size-is : (c : tie.After-first-rows) → size c ≡ word (st c .args .length)
 size-is c = word-by (st c .args .length) (c .before .before .word .ensures .0) (st c .fits .length)

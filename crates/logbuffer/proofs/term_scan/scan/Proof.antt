@@ -9,7 +9,6 @@ use Rattle.model.specs.declared.Place.{Place}
 use Rattle.model.specs.declared.Verdict.the-variants.{Pass}
 use Rattle.model.specs.LogBufferDescriptor.{sound, goodPartition, goodOffset, withinTerm, placeOf, firstRows}
 use Rattle.model.specs.TermReader.{natural}
-use Rattle.model.proofs.Handed.{handed1, handed2}
 use Rattle.model.proofs.PlaceLaws.{Placed, rows-placed, within}
 use Rattle.model.proofs.ScanRows.{scan-refused, scan-goes}
 use Rattle.logbuffer.proofs.term_scan.scan.Statement.{statement}
@@ -25,10 +24,10 @@ abbrev most : tie.After-first-rows → ℕ
 most c = c .before .before .natural .result
 
 p-is : (c : tie.After-first-rows) → p c ≡ placeOf (st c .args .rec) (st c .args .partition) (st c .args .offset)
-p-is c = c .before .before .before .place .ensures .0 ∙ handed2 (placeOf (st c .args .rec)) (st c .fits .partition) (st c .fits .offset)
+p-is c = c .before .before .before .place .ensures .0 ∙ search needs
 
 most-is : (c : tie.After-first-rows) → most c ≡ natural (st c .args .limit)
-most-is c = c .before .before .natural .ensures .0 ∙ handed1 natural (st c .fits .limit)
+most-is c = c .before .before .natural .ensures .0 ∙ search needs
 
 rows : (c : tie.After-first-rows)
     → firstRows (goodPartition (p c .partition) && (goodOffset (p c .offset) (p c .read) && withinTerm (most c) (p c .read))) (sound (p c .read) (length (st c .args .log .now))) Pass ≡ c .first-rows .result

@@ -9,7 +9,6 @@ use Rattle.model.specs.declared.Place.{Place}
 use Rattle.model.specs.declared.Verdict.the-variants.{Pass}
 use Rattle.model.specs.LogBufferDescriptor.{sound, goodPartition, goodOffset, placeOf, firstRows}
 use Rattle.model.specs.TermReader.{natural}
-use Rattle.model.proofs.Handed.{handed1, handed2}
 use Rattle.model.proofs.PlaceLaws.{Placed, passed-place}
 use Rattle.model.proofs.ScanRows.{available-refused, available-goes}
 use Rattle.logbuffer.proofs.term_scan.scan_for_availability.Statement.{statement}
@@ -22,7 +21,7 @@ abbrev p : tie.After-first-rows → Place
 p c = c .before .before .before .place .result
 
 p-is : (c : tie.After-first-rows) → p c ≡ placeOf (st c .args .rec) (st c .args .partition) (st c .args .offset)
-p-is c = c .before .before .before .place .ensures .0 ∙ handed2 (placeOf (st c .args .rec)) (st c .fits .partition) (st c .fits .offset)
+p-is c = c .before .before .before .place .ensures .0 ∙ search needs
 
 rows : (c : tie.After-first-rows)
     → firstRows (goodPartition (p c .partition) && goodOffset (p c .offset) (p c .read)) (sound (p c .read) (length (st c .args .log .now))) Pass ≡ c .first-rows .result
@@ -34,7 +33,7 @@ place c h = passed-place (p c) (length (st c .args .log .now)) (rows c ∙ h)
 most-is : (c : tie.After-at-most) → c .at-most .result ≡ min (natural (st (c .before .before .before .before) .args .maximum)) (p (c .before .before .before .before) .read .term - p (c .before .before .before .before) .offset)
 most-is c =
     let q = c .before .before .before .before in
-    c .at-most .ensures ∙ ap (λ (n : ℕ). min n (p q .read .term - p q .offset)) (q .before .before .natural .ensures .0 ∙ handed1 natural (st q .fits .maximum))
+    c .at-most .ensures ∙ ap (λ (n : ℕ). min n (p q .read .term - p q .offset)) (q .before .before .natural .ensures .0 ∙ search needs)
 
 mul-available-frames : tie.Need-mul-available-frames
 mul-available-frames c =

@@ -13,9 +13,7 @@ use Rattle.model.specs.declared.Place.{Place}
 use Rattle.model.specs.declared.Verdict.the-variants.{Pass}
 use Rattle.model.specs.Bytes.{word}
 use Rattle.model.specs.LogBufferDescriptor.{sound, goodPartition, goodOffset, withinTerm, placeOf, firstRows}
-use Rattle.model.specs.TermScan.{gapOf}
 use Rattle.model.proofs.Both.{and-true}
-use Rattle.model.proofs.Handed.{handed1, handed2}
 use Rattle.model.proofs.PlaceLaws.{Placed, rows-placed, within}
 use Rattle.model.proofs.ScanRows.{gap-refused, gap-goes}
 use Rattle.logbuffer.proofs.Signed.{word-by}
@@ -32,7 +30,7 @@ abbrev mark : tie.After-first-rows → ℕ
 mark c = c .before .before .word .result
 
 p-is : (c : tie.After-first-rows) → p c ≡ placeOf (st c .args .rec) (st c .args .partition) (st c .args .offset)
-p-is c = c .before .before .before .place .ensures .0 ∙ handed2 (placeOf (st c .args .rec)) (st c .fits .partition) (st c .fits .offset)
+p-is c = c .before .before .before .place .ensures .0 ∙ search needs
 
 mark-is : (c : tie.After-first-rows) → mark c ≡ word (st c .args .high)
 mark-is c = word-by (st c .args .high) (c .before .before .word .ensures .0) (st c .fits .high)
@@ -67,7 +65,7 @@ returns-2 c =
     let q = c .before .before .before .before in
     let a = st q .args in
     c .gap-frames .ensures ∙ gap-goes (a .rec) (a .log .now) (a .partition) (a .offset) (p q) (p-is q) (toZ w32 (ofZ w32 (a .«term-id»))) (a .high) (mark q) (mark-is q) (rows q ∙ c .before .before .enum-told .given .1)
-    ∙ handed1 (λ i. gapOf (a .rec) (a .log .now) (a .partition) i (a .offset) (a .high)) (st q .fits .«term-id»)
+    ∙ search needs
 
 pub scan-for-gap-spec : {M : Type 1} → statement M
 scan-for-gap-spec =

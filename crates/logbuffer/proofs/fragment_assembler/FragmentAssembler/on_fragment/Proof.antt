@@ -7,9 +7,7 @@ use borrow.Author.Needs.{needs}
 use Rattle.model.specs.declared.Place.{Place}
 use Rattle.model.specs.declared.Verdict.{Verdict}
 use Rattle.model.specs.declared.Verdict.the-variants.{Pass, Refuse}
-use Rattle.model.specs.LogBufferDescriptor.{placeOf}
 use Rattle.model.specs.FragmentAssembler.{assembleBy, assembleOf}
-use Rattle.model.proofs.Handed.{handed2}
 use Rattle.logbuffer.specs.Assembler.{sessionsOf}
 use Rattle.logbuffer.proofs.Assembly.{three, Framed, verdict-passed, assembles}
 use Rattle.logbuffer.proofs.fragment_assembler.FragmentAssembler.on_fragment.Statement.{
@@ -29,7 +27,7 @@ is : (c : tie.After-assemble-verdict) (x : Verdict) → c .assemble-verdict .res
 is c x e =
     let a = st c .args in
     assembles (a .rec) (a .log .now) (sessionsOf (a .self)) (a .buffer .now) (a .partition) (a .offset) (p c) x
-    (c .before .place .ensures .0 ∙ handed2 (placeOf (a .rec)) (st c .fits .partition) (st c .fits .offset)) (sym e ∙ c .assemble-verdict .ensures)
+    (c .before .place .ensures .0 ∙ search needs) (sym e ∙ c .assemble-verdict .ensures)
 
 framed : (c : tie.After-assemble-verdict) → c .assemble-verdict .result ≡ Pass → Framed (st c .args .log .now) (p c .partition * p c .read .term + p c .offset)
 framed c e = verdict-passed (p c .read) (st c .args .log .now) (length (st c .args .buffer .now)) (p c .partition) (p c .offset) (sym (c .assemble-verdict .ensures) ∙ e)
