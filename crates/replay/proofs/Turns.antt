@@ -109,7 +109,7 @@ pub fragment-in : (r : LogRecord) (log : List ℕ) (s : Sessions) (buffer : List
 unfolding assembleOf
 fragment-in r log s buffer k o at n h = go (assembleVerdict (reading r) log (length buffer) k o) refl h
   where
-    go : (x : Verdict) → x ≡ assembleVerdict (reading r) log (length buffer) k o → assembleBy s buffer (drop (k * reading r .term + o) log) o x .answer ≡ Fragment at n
+    go : (x : Verdict) → assembleVerdict (reading r) log (length buffer) k o ≡ x → assembleBy s buffer (drop (k * reading r .term + o) log) o x .answer ≡ Fragment at n
         → k * reading r .term + at ≤ length log
     go (Refuse e) q h = absurd (let x : _≡_ {A = ℕ} 0 1 = cc in omega arith)
     go Pass q h =

@@ -34,7 +34,7 @@ elsewhere-spec =
     (search needs)
     (search needs)
     (search needs)
-    (search needs)
+    (λ c. search needs)
     returns-2
     returns-3
     returns-4)
