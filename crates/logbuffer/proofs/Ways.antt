@@ -1,50 +1,79 @@
--- The reply built from a way is the appenders' reply; what good arguments say; and the ways by the numbers that the code has.
-use mathlib.Core.Path.{_≡_, refl, sym, ap}
+-- The reply made of a way is the appenders' reply; what good arguments say; and the entry points by the numbers that the code has.
+use mathlib.Core.Path.{_≡_, refl, sym, ap, ap₂, _∙_}
 use mathlib.Core.Logic.{⊎-elim}
-use mathlib.Core.Bool.{Bool, true, false, cond}
+use mathlib.Core.Bool.{Bool, true, false, cond, _&&_}
 use mathlib.Core.List.{List, [], _∷_}
 use Prim.Native.Nat.{ℕ, _+_, _*_, _%_, _≤_, _<_}
 use native.Mathlib.Omega.{arith}
-use borrow.Author.Tests.{leb-true, eqb-true, ltb-true}
+use borrow.Author.Tests.{leb-true, eqb-true, ltb-true, le-leb, eq-eqb, lt-ltb}
 use lib.Dec.{eqb, leb}
-use lib.IntN.{pos}
-use lib.ListN.{length}
+use lib.IntN.{ℤ, pos}
+use lib.ListN.{length, set}
+use lib.Seq.{set-out}
+use mir.Syntax.{w32}
+use mir.Val.{toZ}
+use mir.Facts.{toZ-pos}
 use types.Run.{OneOf}
 use denote.Enum.Declared.{tagOf}
 use Rattle.model.specs.declared.LogRecord.{LogRecord}
 use Rattle.model.specs.declared.Reading.{Reading}
+use Rattle.model.specs.declared.Claim.{Claim}
 use Rattle.model.specs.declared.Error.the-variants.{IllegalArgument}
 use Rattle.model.specs.declared.Course.{Course}
 use Rattle.model.specs.declared.Course.the-variants.{Refuse, Stray, Trip, Fit}
+use Rattle.model.specs.declared.AppendReply.{AppendReply}
+use Rattle.model.specs.declared.AppendedClaim.the-variants.{Claimed}
+use Rattle.model.specs.declared.AppendClaimReply.{AppendClaimReply}
 use Rattle.model.specs.FrameDescriptor.{space}
-use Rattle.model.specs.LogBufferDescriptor.{rawOf, withTail}
-use Rattle.model.specs.TermAppender.{cut, need, written, claimed, course, movedBy, bytesBy, appendedBy, goodMessage}
-use Rattle.model.proofs.Both.{and-true}
+use Rattle.model.specs.LogBufferDescriptor.{readingOf, rawOf, withTail, changed}
+use Rattle.model.specs.TermAppender.{fragment, cut, need, written, claimed, course, bytesBy, replyBy, goodMessage, unfragmentedCourse, claimRecord, claimAppendedBy}
+use Rattle.model.proofs.Both.{and-true, test}
+use Rattle.model.proofs.Choice.{cond-true, cond-false, cond-case}
 use Rattle.model.proofs.Course.{the-type}
-use Rattle.model.proofs.Append.{Room, message-true}
-use Rattle.logbuffer.specs.declared.term_appender.Way.{Way}
-use Rattle.logbuffer.specs.Ways.{wayBy, goodAppend, courseOf, goodClaiming, claimCourse, movedWith, appendedWith}
+use Rattle.model.proofs.Cut.{need-one, cut-one}
+use Rattle.model.proofs.Sound.{id-small}
+use Rattle.model.proofs.Append.{Room, course-room, message-true, appendReply, appendBytes}
+use Rattle.logbuffer.specs.declared.way.Way.{Way}
+use Rattle.logbuffer.specs.Ways.{wayBy, goodAppend, courseOf, goodClaiming, claimCourse, tailAt, movedWith, replyWith, claimReplyWith, messageReply, messageBytes, claimBits}
 
 -- ---- what a caller makes of a way
 
-pub moved-with : (r : LogRecord) (v : Reading) (k m : ℕ) (x : Course) → movedWith r k (wayBy v m x) x ≡ movedBy r v k m x
+pub reply-way : (r : LogRecord) (v : Reading) (k m : ℕ) (x : Course) → replyWith r k (wayBy v m x) ≡ replyBy r v k m x
 unfolding withTail
-moved-with r v k m (Refuse e) = refl
-moved-with r v k m Stray = refl
-moved-with r v k m Trip = refl
-moved-with r v k m Fit = refl
+reply-way r v k m (Refuse e) = refl
+reply-way r v k m Stray = refl
+reply-way r v k m Trip = refl
+reply-way r v k m Fit = refl
 
-pub appended-with : (v : Reading) (m : ℕ) (x : Course) → appendedWith (wayBy v m x) x ≡ appendedBy v m x
-appended-with v m (Refuse e) = refl
-appended-with v m Stray = refl
-appended-with v m Trip = refl
-appended-with v m Fit = refl
+pub claim-way : (r : LogRecord) (v : Reading) (k n : ℕ) (c : Claim) (x : Course) → Room v (space n) x → (x ≡ Fit → v .offset + space n ≤ 2147483647 → c ≡ claimRecord v k n)
+    → claimReplyWith r k (wayBy v (space n) x) c ≡ claimAppendedBy r v k n x
+unfolding withTail
+claim-way r v k n c (Refuse e) room h = refl
+claim-way r v k n c Stray room h = refl
+claim-way r v k n c Trip room h = refl
+claim-way r v k n c Fit room h = ap (λ (d : Claim). record { next = withTail r k (v .id) (v .offset + space n); answer = Claimed (v .offset + space n) d }) (h refl room)
 
-pub way-course : (v : Reading) (m : ℕ) (x : Course) → wayBy v m x .course ≡ x
-way-course v m (Refuse e) = refl
-way-course v m Stray = refl
-way-course v m Trip = refl
-way-course v m Fit = refl
+-- of the four ways, all but a refusal move the tail, to whatever index the code names
+pub tail-moves : (r : LogRecord) (k j : ℕ) (w : Way) (x : Course) (z : ℤ) → OneOf (1 ∷ 2 ∷ 3 ∷ []) (tagOf the-type x) → k ≡ j → z ≡ w .tail
+    → changed r (set (r .tails) j z) (r .«active_term_count») (r .«publication_limit») (r .«is_closed») ≡ movedWith r k w x
+tail-moves r k j w x z h ek ez = ap₂ (λ (i : ℕ) (t : ℤ). changed r (set (r .tails) i t) (r .«active_term_count») (r .«publication_limit») (r .«is_closed»)) (sym ek) ez ∙ go x h
+  where
+    go : (x : Course) → OneOf (1 ∷ 2 ∷ 3 ∷ []) (tagOf the-type x) → tailAt r k w ≡ movedWith r k w x
+    go (Refuse e) h = absurd (⊎-elim (λ e. omega arith) (⊎-elim (λ e. omega arith) (λ e. omega arith)) h)
+    go Stray h = refl
+    go Trip h = refl
+    go Fit h = refl
+
+-- past the last partition there is no tail to move
+same : (r : LogRecord) (k : ℕ) (w : Way) → length (r .tails) ≤ k → r ≡ tailAt r k w
+unfolding changed
+same r k w h = ap (λ (t : List ℤ). changed r t (r .«active_term_count») (r .«publication_limit») (r .«is_closed»)) (sym (set-out (r .tails) k (w .tail) h))
+
+pub none-moves : (r : LogRecord) (k : ℕ) (w : Way) (x : Course) → length (r .tails) ≤ k → r ≡ movedWith r k w x
+none-moves r k w (Refuse e) h = refl
+none-moves r k w Stray h = same r k w h
+none-moves r k w Trip h = same r k w h
+none-moves r k w Fit h = same r k w h
 
 -- of the four ways, all but a refusal have an end and a tail
 pub way-moves : (v : Reading) (m : ℕ) (x : Course) → OneOf (1 ∷ 2 ∷ 3 ∷ []) (tagOf the-type x) → Room v m x
@@ -119,3 +148,100 @@ pub claim-way-is : (v : Reading) (k n g : ℕ) (log out : List ℕ) (x : Course)
     → x ≡ course v (length log) (space n) g → w ≡ wayBy v (space n) x → out ≡ bytesBy v k log (claimed v log (k * v .term) n) (course v (length log) (space n) g)
     → (w ≡ wayBy v (space n) (claimCourse v (length log) k n g)) × (out ≡ bytesBy v k log (claimed v log (k * v .term) n) (claimCourse v (length log) k n g))
 claim-way-is v k n g log out x w ec ex ew eo = (cc, cc)
+
+-- a message by the record, whose numbers were read
+pub message-by : (r : LogRecord) (log out m : List ℕ) (v : Reading) (k p g g′ z z′ : ℕ) (w : Way) (reply : AppendReply) → v ≡ readingOf r k → g ≡ g′ → z ≡ z′
+    → w ≡ wayBy v (need p (length m)) (courseOf v (length log) k p (length m) g)
+    → out ≡ bytesBy v k log (written v log (k * v .term) (v .offset) (cut p z m)) (courseOf v (length log) k p (length m) g) → reply ≡ replyWith r k w
+    → (reply ≡ messageReply r log k p m g′) × (out ≡ messageBytes r log k p m z′ g′)
+message-by r log out m v k p g g′ z z′ w reply ev eg ez ew eo er = (
+  er ∙ ap (replyWith r k) ew ∙ reply-way r v k (need p (length m)) (courseOf v (length log) k p (length m) g)
+      ∙ ap₂ (λ (u : Reading) (i : ℕ). replyBy r u k (need p (length m)) (courseOf u (length log) k p (length m) i)) ev eg,
+  cc,
+)
+
+-- which is the appenders' where the arguments are good
+pub message-good : (r : LogRecord) (log m : List ℕ) (k p z g : ℕ) → k ≤ 2 → 32 ≤ p → p ≤ 2147483648 → p % 32 ≡ 0 → length m ≤ 2147483647
+    → (messageReply r log k p m g ≡ appendReply r log k p m g) × (messageBytes r log k p m z g ≡ appendBytes r log k p m z g)
+message-good r log m k p z g hk low high multiple short =
+    let v = readingOf r k in
+    let e = course-good v (length log) k p (length m) g (simp (le-leb _ _ hk, le-leb _ _ short, le-leb _ _ low, le-leb _ _ high, eq-eqb _ _ multiple, lt-ltb _ _ (id-small r k))) in
+    (ap (replyBy r v k (need p (length m))) e, ap (bytesBy v k log (written v log (k * v .term) (v .offset) (cut p z m))) e)
+
+-- a claim by the record, whose numbers were read
+claim-room : (v : Reading) (n k m g : ℕ) → Room v (space m) (claimCourse v n k m g)
+unfolding claimCourse
+claim-room v n k m g = cond-case (Room v (space m)) (goodClaiming v k m) (course v n (space m) g) (Refuse IllegalArgument) (λ _. course-room v n (space m) g) (λ _. tt)
+
+-- and it fits only into a partition
+fit-in : (v : Reading) (n k m g : ℕ) → claimCourse v n k m g ≡ Fit → k ≤ 2
+unfolding claimCourse
+fit-in v n k m g e =
+    test (goodClaiming v k m) (λ h. claiming-true v k m h .0)
+    (λ h. let z : Refuse IllegalArgument ≡ Fit = sym (cond-false (goodClaiming v k m) (course v n (space m) g) (Refuse IllegalArgument) h) ∙ e in
+    absurd (let y : _≡_ {A = ℕ} 0 1 = cc in omega arith))
+
+pub claim-by : (r : LogRecord) (log out : List ℕ) (v : Reading) (k n g g′ : ℕ) (w : Way) (c : Claim) (reply : AppendClaimReply) → v ≡ readingOf r k → g ≡ g′
+    → w ≡ wayBy v (space n) (claimCourse v (length log) k n g) → out ≡ bytesBy v k log (claimed v log (k * v .term) n) (claimCourse v (length log) k n g)
+    → reply ≡ claimReplyWith r k w c → (k ≤ 2 → v .offset + space n ≤ 2147483647 → c ≡ claimRecord v k n)
+    → (reply ≡ claimAppendedBy r (readingOf r k) k n (claimCourse (readingOf r k) (length log) k n g′))
+    × (out ≡ bytesBy (readingOf r k) k log (claimed (readingOf r k) log (k * readingOf r k .term) n) (claimCourse (readingOf r k) (length log) k n g′))
+claim-by r log out v k n g g′ w c reply ev eg ew eo er ec = (
+  er ∙ ap (λ (y : Way). claimReplyWith r k y c) ew ∙ claim-way r v k n c (claimCourse v (length log) k n g) (claim-room v (length log) k n g) (λ e. ec (fit-in v (length log) k n g e))
+      ∙ ap₂ (λ (u : Reading) (i : ℕ). claimAppendedBy r u k n (claimCourse u (length log) k n i)) ev eg,
+  cc,
+)
+
+-- where the claim fits its bits are its numbers
+pub claim-bits : (v : Reading) (k n : ℕ) → k ≤ 2 → v .offset + space n ≤ 2147483647 → claimBits v k n ≡ claimRecord v k n
+unfolding claimRecord
+claim-bits v k n hk h =
+    let a : toZ w32 k ≡ pos k = toZ-pos w32 (omega arith) in
+    let b : toZ w32 (v .offset) ≡ pos (v .offset) = toZ-pos w32 (omega arith) in
+    let m : (n + 32) % 4294967296 ≡ n + 32 = omega arith in
+    let d : toZ w32 (n + 32) ≡ pos (n + 32) = toZ-pos w32 (omega arith) in
+    cc
+
+-- ---- the entry points' courses, whose ids are always of 32 bits
+
+always : {A : Type 0} (b c : Bool) (x y : A) → c ≡ true → cond (b && c) x y ≡ cond b x y
+always true c x y h = ap (λ (t : Bool). cond t x y) h
+always false c x y h = refl
+
+pub claim-course : (r : LogRecord) (n k m g : ℕ) → claimCourse (readingOf r k) n k m g ≡ unfragmentedCourse r n k m g
+unfolding claimCourse unfragmentedCourse
+claim-course r n k m g = always (goodMessage k m) _ _ _ (lt-ltb _ _ (id-small r k))
+
+module _ (r : LogRecord) (log m : List ℕ) (k z g : ℕ) where
+  abbrev read : Reading
+  read = readingOf r k
+
+  abbrev whole : ℕ
+  whole = 2147483648
+
+  as-message : courseOf read (length log) k whole (length m) g ≡ cond (goodMessage k (length m)) (course read (length log) (need whole (length m)) g) (Refuse IllegalArgument)
+  unfolding courseOf
+  as-message = always (goodMessage k (length m)) _ _ _ (lt-ltb _ _ (id-small r k))
+
+  -- a payload limit above every message cuts none
+  pub unfragmented-is : (messageReply r log k whole m g ≡ replyBy r read k (space (length m)) (unfragmentedCourse r (length log) k (length m) g))
+      × (messageBytes r log k whole m z g
+      ≡ bytesBy read k log (written read log (k * read .term) (read .offset) (fragment 192 z m ∷ [])) (unfragmentedCourse r (length log) k (length m) g))
+  unfolding unfragmentedCourse
+  unfragmented-is =
+      test (goodMessage k (length m))
+      (λ h.
+      let l : length m ≤ 2147483648 = omega (arith, message-true k (length m) h .1) in
+      let e : courseOf read (length log) k whole (length m) g ≡ course read (length log) (need whole (length m)) g = as-message ∙ cond-true _ _ _ h in
+      let f : cond (goodMessage k (length m)) (course read (length log) (space (length m)) g) (Refuse IllegalArgument) ≡ course read (length log) (space (length m)) g = cond-true _ _ _ h in
+      let o = need-one whole (length m) l in
+      let q = cut-one whole z m l in
+      (cc (e, f, o), cc (e, f, o, q)))
+      (λ h.
+      let e : courseOf read (length log) k whole (length m) g ≡ Refuse IllegalArgument = as-message ∙ cond-false _ _ _ h in
+      let f : cond (goodMessage k (length m)) (course read (length log) (space (length m)) g) (Refuse IllegalArgument) ≡ Refuse IllegalArgument = cond-false _ _ _ h in
+      let new = written read log (k * read .term) (read .offset) (cut whole z m) in
+      let one = written read log (k * read .term) (read .offset) (fragment 192 z m ∷ []) in (
+        ap (replyBy r read k (need whole (length m))) e ∙ sym (ap (replyBy r read k (space (length m))) f),
+        ap (bytesBy read k log new) e ∙ sym (ap (bytesBy read k log one) f),
+      ))

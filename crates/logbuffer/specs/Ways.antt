@@ -1,11 +1,14 @@
 -- The way of an append for a caller who has read the record's numbers: its course, the offset after it, and the raw tail that moves.
--- `movedWith` and `appendedWith` say what such a caller makes of it; `moved-with` and `appended-with` (proofs/Ways.antt) are the laws that
--- this is the appenders' reply.
-use Prim.Native.Nat.{ℕ, _+_, _%_}
+-- `replyWith` and `claimReplyWith` say what such a caller makes of it; `reply-way` and `claim-way` (proofs/Ways.antt) are the laws that this
+-- is the appenders' reply.
+use Prim.Native.Nat.{ℕ, _+_, _*_, _%_}
 use mathlib.Core.Bool.{Bool, cond, _&&_}
 use lib.Dec.{eqb, leb, ltb}
-use lib.ListN.{set}
+use mathlib.Core.List.{List}
+use lib.ListN.{set, length}
 use lib.IntN.{pos}
+use mir.Syntax.{w32}
+use mir.Val.{toZ}
 use Rattle.model.specs.declared.LogRecord.{LogRecord}
 use Rattle.model.specs.declared.Reading.{Reading}
 use Rattle.model.specs.declared.Error.the-variants.{IllegalArgument, ActionPossiblyDelayed}
@@ -13,10 +16,15 @@ use Rattle.model.specs.declared.Course.{Course}
 use Rattle.model.specs.declared.Course.the-variants.{Refuse, Stray, Trip, Fit}
 use Rattle.model.specs.declared.Appended.{Appended}
 use Rattle.model.specs.declared.Appended.the-variants.{Offset, Tripped, Refused}
+use Rattle.model.specs.declared.AppendReply.{AppendReply}
+use Rattle.model.specs.declared.Claim.{Claim}
+use Rattle.model.specs.declared.AppendedClaim.{AppendedClaim}
+use Rattle.model.specs.declared.AppendedClaim.the-variants.{Claimed, Tripped as ClaimTripped, Refused as ClaimRefused}
+use Rattle.model.specs.declared.AppendClaimReply.{AppendClaimReply}
 use Rattle.model.specs.FrameDescriptor.{space}
-use Rattle.model.specs.LogBufferDescriptor.{rawOf, changed}
-use Rattle.model.specs.TermAppender.{need, course, goodMessage}
-use Rattle.logbuffer.specs.declared.term_appender.Way.{Way}
+use Rattle.model.specs.LogBufferDescriptor.{biased, readingOf, rawOf, changed}
+use Rattle.model.specs.TermAppender.{cut, need, written, course, bytesBy, replyBy, goodMessage}
+use Rattle.logbuffer.specs.declared.way.Way.{Way}
 
 abbrev pub wayBy : Reading → ℕ → Course → Way
 wayBy v needed (Refuse e) = record { course = Refuse e; end = 0; tail = pos 0 }
@@ -41,14 +49,47 @@ claimCourse v n k m given = cond (goodClaiming v k m) (course v n (space m) give
 
 -- ---- what a caller makes of it
 
+-- the record with partition k's tail at the way's
+abbrev pub tailAt : LogRecord → ℕ → Way → LogRecord
+tailAt r k w = changed r (set (r .tails) k (w .tail)) (r .«active_term_count») (r .«publication_limit») (r .«is_closed»)
+
 abbrev pub movedWith : LogRecord → ℕ → Way → Course → LogRecord
 movedWith r k w (Refuse e) = r
-movedWith r k w Stray = changed r (set (r .tails) k (w .tail)) (r .«active_term_count») (r .«publication_limit») (r .«is_closed»)
-movedWith r k w Trip = changed r (set (r .tails) k (w .tail)) (r .«active_term_count») (r .«publication_limit») (r .«is_closed»)
-movedWith r k w Fit = changed r (set (r .tails) k (w .tail)) (r .«active_term_count») (r .«publication_limit») (r .«is_closed»)
+movedWith r k w Stray = tailAt r k w
+movedWith r k w Trip = tailAt r k w
+movedWith r k w Fit = tailAt r k w
 
 abbrev pub appendedWith : Way → Course → Appended
 appendedWith w (Refuse e) = Refused e
 appendedWith w Stray = Refused ActionPossiblyDelayed
 appendedWith w Trip = Tripped
 appendedWith w Fit = Offset (w .end)
+
+abbrev pub replyWith : LogRecord → ℕ → Way → AppendReply
+replyWith r k w = record { next = movedWith r k w (w .course); answer = appendedWith w (w .course) }
+
+-- with the claim's record, which only a claim that fits answers
+abbrev pub claimedWith : Way → Claim → Course → AppendedClaim
+claimedWith w c (Refuse e) = ClaimRefused e
+claimedWith w c Stray = ClaimRefused ActionPossiblyDelayed
+claimedWith w c Trip = ClaimTripped
+claimedWith w c Fit = Claimed (w .end) c
+
+abbrev pub claimReplyWith : LogRecord → ℕ → Way → Claim → AppendClaimReply
+claimReplyWith r k w c = record { next = movedWith r k w (w .course); answer = claimedWith w c (w .course) }
+
+-- ---- a message by the record: cut by a payload limit p into partition k, its reserved value z, for term id g
+
+abbrev pub messageReply : LogRecord → List ℕ → ℕ → ℕ → List ℕ → ℕ → AppendReply
+messageReply r log k p m g =
+    replyBy r (readingOf r k) k (need p (length m)) (courseOf (readingOf r k) (length log) k p (length m) g)
+
+abbrev pub messageBytes : LogRecord → List ℕ → ℕ → ℕ → List ℕ → ℕ → ℕ → List ℕ
+messageBytes r log k p m z g =
+    bytesBy (readingOf r k) k log (written (readingOf r k) log (k * readingOf r k .term) (readingOf r k .offset) (cut p z m))
+    (courseOf (readingOf r k) (length log) k p (length m) g)
+
+-- the record of a claim of n bytes by its bits
+abbrev pub claimBits : Reading → ℕ → ℕ → Claim
+claimBits v k n =
+    record { partition = toZ w32 k; offset = toZ w32 (v .offset); length = toZ w32 ((n + 32) % 4294967296); «term_id» = toZ w32 (biased (v .id)) }

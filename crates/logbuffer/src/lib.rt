@@ -14,3 +14,4 @@ pub mod log_buffer_descriptor;
 pub mod term_appender;
 pub mod term_reader;
 pub mod term_scan;
+pub mod way;

@@ -5,16 +5,16 @@ ghost use lib.ListN.{length};
 ghost use Rattle.model.specs.Bytes.{word, long};
 ghost use Rattle.model.specs.FrameDescriptor.{space};
 ghost use Rattle.model.specs.LogBufferDescriptor.{biased};
-ghost use Rattle.model.specs.TermAppender.{cut, need, written, claimed, course, movedBy, bytesBy, appendedBy, goodMessage, goodFragments, unfragmentedReply, unfragmentedBytes, fragmentedReply, fragmentedBytes, claimRecord, claimAppendedBy, claimAppendReply, claimAppendBytes};
-ghost use Rattle.model.proofs.Append.{Room, appendReply, appendBytes};
-ghost use Rattle.logbuffer.specs.Ways.{wayBy, goodAppend, courseOf, goodClaiming, claimCourse};
+ghost use Rattle.model.specs.TermAppender.{cut, need, written, claimed, course, bytesBy, goodMessage, goodFragments, unfragmentedReply, unfragmentedBytes, fragmentedReply, fragmentedBytes, claimAppendReply, claimAppendBytes};
+ghost use Rattle.logbuffer.specs.Ways.{wayBy, goodAppend, courseOf, goodClaiming, claimCourse, messageReply, messageBytes, claimBits};
 use crate::cast;
 use crate::header;
 use crate::log_buffer_descriptor;
+use crate::way;
+use crate::way::Way;
 use model::AppendClaimReply;
 use model::AppendReply;
 use model::Appended;
-use model::AppendedClaim;
 use model::Claim;
 use model::Course;
 use model::Error;
@@ -93,29 +93,6 @@ fn begin_append(v: Reading, log: &mut [u8], k: usize, needed: usize, given: usiz
     way
 }
 
-// The record after it: the tail moves first, on every way that is not refused before it.
-fn moved(rec: LogRecord, v: Reading, k: usize, needed: usize, way: Course) -> LogRecord
-    requires { ⌜ (k ≤ 2) × ((v .id < 4294967296) × Room v needed way) ⌝ }
-    ensures { λ r. ⌜ r ≡ movedBy rec v k needed way ⌝ }
-{
-    if let Course::Refuse(_) = way {
-        return rec;
-    }
-    log_buffer_descriptor::with_tail(rec, k, v.id, v.offset + needed)
-}
-
-fn appended(v: Reading, needed: usize, way: Course) -> Appended
-    requires { ⌜ Room v needed way ⌝ }
-    ensures { λ r. ⌜ r ≡ appendedBy v needed way ⌝ }
-{
-    match way {
-        Course::Refuse(e) => Appended::Refused(e),
-        Course::Stray => Appended::Refused(Error::ActionPossiblyDelayed),
-        Course::Trip => Appended::Tripped,
-        Course::Fit => Appended::Offset(v.offset + needed),
-    }
-}
-
 // ---- messages
 
 // What a message of m bytes needs: its aligned length, or the sum over its frames.
@@ -183,67 +160,6 @@ fn append(
     way
 }
 
-// Both appenders of messages, their arguments judged.
-fn append_message(
-    rec: LogRecord,
-    log: &mut [u8],
-    k: usize,
-    payload: usize,
-    message: &[u8],
-    reserved: i64,
-    term_id: i32,
-) -> AppendReply
-    requires { ⌜ (k ≤ 2) × ((32 ≤ payload) × ((payload ≤ 2147483648) × ((payload % 32 ≡ 0) × (length (now message) ≤ 2147483647)))) ⌝ }
-    ensures { λ r. ⌜ r ≡ appendReply rec (now (log .entry)) k payload (now (message .entry)) (biased (word «term_id»)) ⌝ }
-    ensures { λ _. ⌜ now (log .exit) ≡ appendBytes rec (now (log .entry)) k payload (now (message .entry)) (long reserved) (biased (word «term_id»)) ⌝ }
-{
-    let v = log_buffer_descriptor::read(rec, k);
-    let needed = need_of(payload, message.len());
-    let way = append(
-        v,
-        log,
-        k,
-        payload,
-        message,
-        cast::long(reserved),
-        needed,
-        biased_id(term_id),
-    );
-    let next = moved(rec, v, k, needed, way);
-    AppendReply {
-        next: next,
-        answer: appended(v, needed, way),
-    }
-}
-
-// ---- the same for a caller who has read the numbers, and builds the record once
-
-// How an append goes, the offset after it, and the raw tail that moves; 0 both where it is refused.
-pub struct Way {
-    pub course: Course,
-    pub end: usize,
-    pub tail: i64,
-}
-
-fn way_by(v: Reading, needed: usize, course: Course) -> Way
-    requires { ⌜ (v .id < 4294967296) × Room v needed course ⌝ }
-    ensures { λ r. ⌜ r ≡ wayBy v needed course ⌝ }
-{
-    if let Course::Refuse(_) = course {
-        return Way {
-            course: course,
-            end: 0,
-            tail: 0,
-        };
-    }
-    let end = v.offset + needed;
-    Way {
-        course: course,
-        end: end,
-        tail: cast::to_i64((v.id + 2147483648) % 4294967296 * 4294967296 + end),
-    }
-}
-
 fn good_append(v: Reading, k: usize, payload: usize, m: usize) -> bool
     ensures { λ r. ⌜ r ≡ goodAppend v k payload m ⌝ }
 {
@@ -262,7 +178,7 @@ fn good_append(v: Reading, k: usize, payload: usize, m: usize) -> bool
     v.id < 4294967296
 }
 
-// A message at partition k, as one frame or as many.
+// A message at partition k, as one frame or as many, for a caller who has read the record's numbers.
 pub fn append_way(
     v: Reading,
     log: &mut [u8],
@@ -276,24 +192,31 @@ pub fn append_way(
     ensures { λ _. ⌜ now (log .exit) ≡ bytesBy v k (now (log .entry)) (written v (now (log .entry)) (k * v .term) (v .offset) (cut payload (long reserved) (now (message .entry)))) (courseOf v (length (now (log .entry))) k payload (length (now (message .entry))) given) ⌝ }
 {
     if !good_append(v, k, payload, message.len()) {
-        return Way {
-            course: Course::Refuse(Error::IllegalArgument),
-            end: 0,
-            tail: 0,
-        };
+        return way::refused(Error::IllegalArgument);
     }
     let needed = need_of(payload, message.len());
-    let way = append(
-        v,
-        log,
-        k,
-        payload,
-        message,
-        cast::long(reserved),
-        needed,
-        given,
-    );
-    way_by(v, needed, way)
+    let bits = cast::long(reserved);
+    let course = append(v, log, k, payload, message, bits, needed, given);
+    way::way_by(v, needed, course)
+}
+
+// The same for one who has not.
+fn append_message(
+    rec: LogRecord,
+    log: &mut [u8],
+    k: usize,
+    payload: usize,
+    message: &[u8],
+    reserved: i64,
+    term_id: i32,
+) -> AppendReply
+    ensures { λ r. ⌜ r ≡ messageReply rec (now (log .entry)) k payload (now (message .entry)) (biased (word «term_id»)) ⌝ }
+    ensures { λ _. ⌜ now (log .exit) ≡ messageBytes rec (now (log .entry)) k payload (now (message .entry)) (long reserved) (biased (word «term_id»)) ⌝ }
+{
+    let v = log_buffer_descriptor::read(rec, k);
+    let given = biased_id(term_id);
+    let way = append_way(v, log, k, payload, message, reserved, given);
+    way::append_reply(rec, k, way)
 }
 
 // A message as one frame: one whose payload limit is above every message.
@@ -309,12 +232,6 @@ pub fn append_unfragmented_message(
     ensures { λ _. ⌜ now (log .exit) ≡ unfragmentedBytes rec (now (log .entry)) partition (now (message .entry)) reserved «term_id» ⌝ }
 {
     let k = cast::word(partition);
-    if !good_message(k, message.len()) {
-        return AppendReply {
-            next: rec,
-            answer: Appended::Refused(Error::IllegalArgument),
-        };
-    }
     append_message(rec, log, k, 2147483648, message, reserved, term_id)
 }
 
@@ -344,15 +261,15 @@ pub fn append_fragmented_message(
 
 // ---- claims
 
-// The record of a claim of n bytes at the tail.
+// The record of a claim of n bytes at the tail, by its bits: where the claim fits they are its numbers.
 fn claim_record(v: Reading, k: usize, n: usize) -> Claim
-    requires { ⌜ (k ≤ 2) × ((v .id < 4294967296) × ((v .offset ≤ 2147483647) × (n ≤ 2147483615))) ⌝ }
-    ensures { λ r. ⌜ r ≡ claimRecord v k n ⌝ }
+    requires { ⌜ (k < 4294967296) × ((v .id < 4294967296) × ((v .offset < 4294967296) × (n < 4294967296))) ⌝ }
+    ensures { λ r. ⌜ r ≡ claimBits v k n ⌝ }
 {
     Claim {
-        partition: k as i32,
-        offset: v.offset as i32,
-        length: (n + 32) as i32,
+        partition: cast::to_i32(k),
+        offset: cast::to_i32(v.offset),
+        length: cast::to_i32((n + 32) % 4294967296),
         term_id: cast::to_i32((v.id + 2147483648) % 4294967296),
     }
 }
@@ -371,34 +288,25 @@ fn claim_frame(v: Reading, log: &mut [u8], k: usize, n: usize, given: usize) -> 
     way
 }
 
-// The reply of a claim of n bytes that went its way.
-fn claim_reply(rec: LogRecord, v: Reading, k: usize, n: usize, way: Course) -> AppendClaimReply
-    requires { ⌜ (k ≤ 2) × ((v .id < 4294967296) × ((n ≤ 2147483647) × Room v (space n) way)) ⌝ }
-    ensures { λ r. ⌜ r ≡ claimAppendedBy rec v k n way ⌝ }
+fn good_claiming(v: Reading, k: usize, n: usize) -> bool
+    ensures { λ r. ⌜ r ≡ goodClaiming v k n ⌝ }
 {
-    let needed = (n + 32 + 31) / 32 * 32;
-    let next = moved(rec, v, k, needed, way);
-    match way {
-        Course::Refuse(e) => AppendClaimReply {
-            next: rec,
-            answer: AppendedClaim::Refused(e),
-        },
-        Course::Stray => AppendClaimReply {
-            next: next,
-            answer: AppendedClaim::Refused(Error::ActionPossiblyDelayed),
-        },
-        Course::Trip => AppendClaimReply {
-            next: next,
-            answer: AppendedClaim::Tripped,
-        },
-        Course::Fit => {
-            let claim = claim_record(v, k, n);
-            AppendClaimReply {
-                next: next,
-                answer: AppendedClaim::Claimed(v.offset + needed, claim),
-            }
-        }
+    if !good_message(k, n) {
+        return false;
     }
+    v.id < 4294967296
+}
+
+// A frame of n bytes claimed, for a caller who has read the record's numbers.
+pub fn claim_way(v: Reading, log: &mut [u8], k: usize, n: usize, given: usize) -> Way
+    ensures { λ r. ⌜ r ≡ wayBy v (space n) (claimCourse v (length (now (log .entry))) k n given) ⌝ }
+    ensures { λ _. ⌜ now (log .exit) ≡ bytesBy v k (now (log .entry)) (claimed v (now (log .entry)) (k * v .term) n) (claimCourse v (length (now (log .entry))) k n given) ⌝ }
+{
+    if !good_claiming(v, k, n) {
+        return way::refused(Error::IllegalArgument);
+    }
+    let course = claim_frame(v, log, k, n, given);
+    way::way_by(v, (n + 32 + 31) / 32 * 32, course)
 }
 
 // A frame of n bytes claimed, to be written and committed later.
@@ -414,38 +322,7 @@ pub fn claim(
 {
     let k = cast::word(partition);
     let n = cast::word(length);
-    if !good_message(k, n) {
-        return AppendClaimReply {
-            next: rec,
-            answer: AppendedClaim::Refused(Error::IllegalArgument),
-        };
-    }
     let v = log_buffer_descriptor::read(rec, k);
-    let way = claim_frame(v, log, k, n, biased_id(term_id));
-    claim_reply(rec, v, k, n, way)
-}
-
-fn good_claiming(v: Reading, k: usize, n: usize) -> bool
-    ensures { λ r. ⌜ r ≡ goodClaiming v k n ⌝ }
-{
-    if !good_message(k, n) {
-        return false;
-    }
-    v.id < 4294967296
-}
-
-// The same for a caller who has read the numbers, as `append_way`.
-pub fn claim_way(v: Reading, log: &mut [u8], k: usize, n: usize, given: usize) -> Way
-    ensures { λ r. ⌜ r ≡ wayBy v (space n) (claimCourse v (length (now (log .entry))) k n given) ⌝ }
-    ensures { λ _. ⌜ now (log .exit) ≡ bytesBy v k (now (log .entry)) (claimed v (now (log .entry)) (k * v .term) n) (claimCourse v (length (now (log .entry))) k n given) ⌝ }
-{
-    if !good_claiming(v, k, n) {
-        return Way {
-            course: Course::Refuse(Error::IllegalArgument),
-            end: 0,
-            tail: 0,
-        };
-    }
-    let way = claim_frame(v, log, k, n, given);
-    way_by(v, (n + 32 + 31) / 32 * 32, way)
+    let way = claim_way(v, log, k, n, biased_id(term_id));
+    way::claim_reply(rec, k, way, claim_record(v, k, n))
 }

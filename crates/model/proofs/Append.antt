@@ -5,7 +5,7 @@ use Prim.Native.Nat.{ℕ, _+_, _*_, _%_, _≤_, _<_}
 use native.Mathlib.Omega.{arith}
 use native.Mathlib.Nat.{mul-le-mul-right}
 use borrow.Author.Tests.{le-leb, lt-leb, leb-true, leb-false, eqb-true, eq-eqb, ne-eqb}
-use mathlib.Core.List.{List, [], _∷_}
+use mathlib.Core.List.{List}
 use lib.Dec.{eqb, leb}
 use lib.ListN.{length}
 use lib.IntN.{ℤ}
@@ -16,13 +16,11 @@ use Rattle.model.specs.declared.Course.{Course}
 use Rattle.model.specs.declared.Course.the-variants.{Refuse, Stray, Trip, Fit}
 use Rattle.model.specs.declared.Appended.the-variants.{Refused}
 use Rattle.model.specs.declared.AppendReply.{AppendReply}
-use Rattle.model.specs.declared.AppendedClaim.the-variants.{Refused as ClaimRefused}
 use Rattle.model.specs.declared.AppendClaimReply.{AppendClaimReply}
 use Rattle.model.specs.Bytes.{word, long}
 use Rattle.model.specs.FrameDescriptor.{space}
 use Rattle.model.specs.LogBufferDescriptor.{biased, readingOf, sound, Sound}
-use Rattle.model.specs.TermAppender.{fragment, written, cut, need, claimed, course, bytesBy, replyBy, goodMessage, goodFragments, unfragmentedCourse, fragmentedCourse, unfragmentedReply, unfragmentedBytes, fragmentedReply, fragmentedBytes, claimAppendedBy, claimAppendReply, claimAppendBytes}
-use Rattle.model.proofs.Cut.{need-one, cut-one}
+use Rattle.model.specs.TermAppender.{written, cut, need, claimed, course, bytesBy, replyBy, goodMessage, goodFragments, unfragmentedCourse, fragmentedCourse, fragmentedReply, fragmentedBytes, claimAppendedBy}
 use Rattle.model.proofs.Sound.{sound-true}
 use Rattle.model.proofs.Both.{and-true}
 
@@ -120,9 +118,9 @@ fragments-good : (k m p : ℕ) → k ≤ 2 → m ≤ 2147483647 → 1 ≤ m → 
 fragments-good k m p h1 h2 h3 h4 h5 h6 = simp (le-leb _ _ h1, le-leb _ _ h2, le-leb _ _ h3, le-leb _ _ h4, le-leb _ _ h5, eq-eqb _ _ h6)
 
 module _ (r : LogRecord) (n k m g : ℕ) where
-  unfragmented-by : (b : Bool) → goodMessage k m ≡ b → unfragmentedCourse r n k m g ≡ cond b (course (readingOf r k) n (space m) g) (Refuse IllegalArgument)
+  pub unfragmented-good : k ≤ 2 → m ≤ 2147483647 → unfragmentedCourse r n k m g ≡ course (readingOf r k) n (space m) g
   unfolding unfragmentedCourse
-  unfragmented-by b h = ap (λ (t : Bool). cond t (course (readingOf r k) n (space m) g) (Refuse IllegalArgument)) h
+  unfragmented-good hk hm = simp (le-leb _ _ hk, le-leb _ _ hm)
 
   fragmented-by : (p : ℕ) (b : Bool) → goodFragments k m p ≡ b → fragmentedCourse r n k m p g ≡ cond b (course (readingOf r k) n (need p m) g) (Refuse IllegalArgument)
   unfolding fragmentedCourse
@@ -138,15 +136,6 @@ appendBytes r log k p m z g =
     bytesBy (readingOf r k) k log (written (readingOf r k) log (k * readingOf r k .term) (readingOf r k .offset) (cut p z m))
     (course (readingOf r k) (length log) (need p (length m)) g)
 
--- the unfragmented one does that with any payload limit that the message is within
-pub unfragmented-does : (r : LogRecord) (log m : List ℕ) (partition reserved given : ℤ) (k p z g : ℕ) → word partition ≡ k → long reserved ≡ z → biased (word given) ≡ g → k ≤ 2 → length m ≤ 2147483647 → length m ≤ p
-    → (unfragmentedReply r log partition m given ≡ appendReply r log k p m g) × (unfragmentedBytes r log partition m reserved given ≡ appendBytes r log k p m z g)
-unfragmented-does r log m partition reserved given k p z g ek ez eg hk hm hp =
-    let u = unfragmented-by r (length log) k (length m) g true (simp (le-leb _ _ hk, le-leb _ _ hm)) in
-    let o = need-one p (length m) hp in
-    let f = cut-one p z m hp in
-    (cc (u, o), cc (u, o, f))
-
 pub fragmented-does : (r : LogRecord) (log m : List ℕ) (partition reserved payload given : ℤ) (k p z g : ℕ) → word partition ≡ k → long reserved ≡ z → word payload ≡ p → biased (word given) ≡ g
     → k ≤ 2 → length m ≤ 2147483647 → 1 ≤ length m → 32 ≤ p → p ≤ 2147483647 → p % 32 ≡ 0
     → (fragmentedReply r log partition m payload given ≡ appendReply r log k p m g) × (fragmentedBytes r log partition m reserved payload given ≡ appendBytes r log k p m z g)
@@ -154,14 +143,7 @@ fragmented-does r log m partition reserved payload given k p z g ek ez ep eg h1 
     let u = fragmented-by r (length log) k (length m) g p true (fragments-good k (length m) p h1 h2 h3 h4 h5 h6) in
     (cc u, cc u)
 
--- refused for their arguments
-pub unfragmented-no : (r : LogRecord) (log m : List ℕ) (partition reserved given : ℤ) → goodMessage (word partition) (length m) ≡ false
-    → (record { next = r; answer = Refused IllegalArgument } ≡ unfragmentedReply r log partition m given) × (log ≡ unfragmentedBytes r log partition m reserved given)
-unfragmented-no r log m partition reserved given h =
-    let v = readingOf r (word partition) in
-    let e = unfragmented-by r (length log) (word partition) (length m) (biased (word given)) false h in
-    (sym (ap (replyBy r v (word partition) (space (length m))) e), sym (ap (bytesBy v (word partition) log (written v log (word partition * v .term) (v .offset) (fragment 192 (long reserved) m ∷ []))) e))
-
+-- refused for its arguments
 pub fragmented-no : (r : LogRecord) (log m : List ℕ) (partition reserved payload given : ℤ) → goodFragments (word partition) (length m) (word payload) ≡ false
     → (record { next = r; answer = Refused IllegalArgument } ≡ fragmentedReply r log partition m payload given) × (log ≡ fragmentedBytes r log partition m reserved payload given)
 fragmented-no r log m partition reserved payload given h =
@@ -177,16 +159,3 @@ claimingReply r log k n g = claimAppendedBy r (readingOf r k) k n (course (readi
 abbrev pub claimingBytes : LogRecord → List ℕ → ℕ → ℕ → ℕ → List ℕ
 claimingBytes r log k n g =
     bytesBy (readingOf r k) k log (claimed (readingOf r k) log (k * readingOf r k .term) n) (course (readingOf r k) (length log) (space n) g)
-
-pub claim-does : (r : LogRecord) (log : List ℕ) (partition len given : ℤ) (k n g : ℕ) → word partition ≡ k → word len ≡ n → biased (word given) ≡ g → k ≤ 2 → n ≤ 2147483647
-    → (claimAppendReply r log partition len given ≡ claimingReply r log k n g) × (claimAppendBytes r log partition len given ≡ claimingBytes r log k n g)
-claim-does r log partition len given k n g ek en eg hk hn =
-    let u = unfragmented-by r (length log) k n g true (simp (le-leb _ _ hk, le-leb _ _ hn)) in
-    (cc u, cc u)
-
-pub claim-no : (r : LogRecord) (log : List ℕ) (partition len given : ℤ) → goodMessage (word partition) (word len) ≡ false
-    → (record { next = r; answer = ClaimRefused IllegalArgument } ≡ claimAppendReply r log partition len given) × (log ≡ claimAppendBytes r log partition len given)
-claim-no r log partition len given h =
-    let v = readingOf r (word partition) in
-    let e = unfragmented-by r (length log) (word partition) (word len) (biased (word given)) false h in
-    (sym (ap (claimAppendedBy r v (word partition) (word len)) e), sym (ap (bytesBy v (word partition) log (claimed v log (word partition * v .term) (word len))) e))

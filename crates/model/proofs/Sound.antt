@@ -76,6 +76,10 @@ pub id-small : (r : LogRecord) (k : ℕ) → readingOf r k .id < 4294967296
 unfolding readingOf
 id-small r k = omega arith
 
+pub offset-small : (r : LogRecord) (k : ℕ) → readingOf r k .offset < 4294967296
+unfolding readingOf
+offset-small r k = omega arith
+
 pub initial-small : (r : LogRecord) (k : ℕ) → readingOf r k .initial < 4294967296
 unfolding readingOf
 initial-small r k = omega arith

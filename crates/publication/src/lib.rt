@@ -5,16 +5,15 @@ ghost use lib.ListN.{length as lengthOf};
 ghost use Rattle.model.specs.declared.Verdict.the-variants.{Pass};
 ghost use Rattle.model.specs.Bytes.{word, long};
 ghost use Rattle.model.specs.FrameDescriptor.{space};
-ghost use Rattle.model.specs.LogBufferDescriptor.{biased, readingOf, reading, changed};
+ghost use Rattle.model.specs.LogBufferDescriptor.{biased, readingOf, reading};
 ghost use Rattle.model.specs.Publication.{beforeAppend, tripNext, tripError, offerOf, offerBytes, claimVerdict, claimOf, claimBytes};
 ghost use Rattle.model.proofs.Sound.{Bounds};
 ghost use Rattle.model.proofs.Append.{appendReply, appendBytes, claimingReply, claimingBytes};
 ghost use Rattle.model.proofs.OfferLaws.{Turns};
-ghost use Rattle.logbuffer.specs.Ways.{movedWith, appendedWith};
 use logbuffer::cast;
 use logbuffer::log_buffer_descriptor;
 use logbuffer::term_appender;
-use logbuffer::term_appender::Way;
+use logbuffer::way;
 use model::AppendClaimReply;
 use model::AppendReply;
 use model::Appended;
@@ -22,7 +21,6 @@ use model::AppendedClaim;
 use model::Claim;
 use model::ClaimReply;
 use model::Claimed;
-use model::Course;
 use model::Error;
 use model::LogRecord;
 use model::OfferReply;
@@ -84,62 +82,6 @@ fn after_trip(next: LogRecord, v: Reading, count: i32, term_id: i32) -> Trip
     }
 }
 
-// ---- the record after an append, built once
-
-// The record with its tails changed, field by field: a copy of the whole would carry its padding through memory.
-fn with_tails(rec: LogRecord, tails: [i64; 3]) -> LogRecord
-    ensures { λ r. ⌜ r ≡ changed rec tails (rec .«active_term_count») (rec .«publication_limit») (rec .«is_closed») ⌝ }
-{
-    LogRecord {
-        tails: tails,
-        active_term_count: rec.active_term_count,
-        initial_term_id: rec.initial_term_id,
-        term_length: rec.term_length,
-        mtu_length: rec.mtu_length,
-        session_id: rec.session_id,
-        stream_id: rec.stream_id,
-        is_connected: rec.is_connected,
-        publication_limit: rec.publication_limit,
-        end_of_stream_position: rec.end_of_stream_position,
-        is_closed: rec.is_closed,
-    }
-}
-
-// With partition k's tail at the way's; every index is a constant, so that the tails need not stand in memory.
-fn moved(rec: LogRecord, k: usize, way: Way) -> LogRecord
-    requires { ⌜ k ≤ 2 ⌝ }
-    ensures { λ r. ⌜ r ≡ movedWith rec k way (way .course) ⌝ }
-{
-    let course = way.course;
-    if let Course::Refuse(_) = course {
-        return rec;
-    }
-    let tail = way.tail;
-    let mut tails = rec.tails;
-    if k == 0 {
-        tails[0] = tail;
-        return with_tails(rec, tails);
-    }
-    if k == 1 {
-        tails[1] = tail;
-        return with_tails(rec, tails);
-    }
-    tails[2] = tail;
-    with_tails(rec, tails)
-}
-
-fn appended(way: Way) -> Appended
-    ensures { λ r. ⌜ r ≡ appendedWith way (way .course) ⌝ }
-{
-    let course = way.course;
-    match course {
-        Course::Refuse(e) => Appended::Refused(e),
-        Course::Stray => Appended::Refused(Error::ActionPossiblyDelayed),
-        Course::Trip => Appended::Tripped,
-        Course::Fit => Appended::Offset(way.end),
-    }
-}
-
 // ---- offer
 
 // One frame or as many as the message needs, at partition k, whose numbers are read.
@@ -157,11 +99,7 @@ fn append_message(
     ensures { λ _. ⌜ now (log .exit) ≡ appendBytes rec (now (log .entry)) k payload (now (message .entry)) (long reserved) (v .id) ⌝ }
 {
     let way = term_appender::append_way(v, log, k, payload, message, reserved, v.id);
-    let next = moved(rec, k, way);
-    AppendReply {
-        next: next,
-        answer: appended(way),
-    }
+    way::append_reply(rec, k, way)
 }
 
 // The append of an offer that nothing refuses before it, and what its answer leads to.
@@ -229,34 +167,13 @@ fn claiming(
     ensures { λ _. ⌜ now (log .exit) ≡ claimingBytes rec (now (log .entry)) k n (v .id) ⌝ }
 {
     let way = term_appender::claim_way(v, log, k, n, v.id);
-    let next = moved(rec, k, way);
-    let course = way.course;
-    match course {
-        Course::Refuse(e) => AppendClaimReply {
-            next: next,
-            answer: AppendedClaim::Refused(e),
-        },
-        Course::Stray => AppendClaimReply {
-            next: next,
-            answer: AppendedClaim::Refused(Error::ActionPossiblyDelayed),
-        },
-        Course::Trip => AppendClaimReply {
-            next: next,
-            answer: AppendedClaim::Tripped,
-        },
-        Course::Fit => {
-            let claim = Claim {
-                partition: k as i32,
-                offset: v.offset as i32,
-                length: (n + 32) as i32,
-                term_id: term_id,
-            };
-            AppendClaimReply {
-                next: next,
-                answer: AppendedClaim::Claimed(way.end, claim),
-            }
-        }
-    }
+    let claim = Claim {
+        partition: k as i32,
+        offset: v.offset as i32,
+        length: (n + 32) as i32,
+        term_id: term_id,
+    };
+    way::claim_reply(rec, k, way, claim)
 }
 
 // The claiming append of a claim that nothing refuses, and what its answer leads to.

@@ -1,4 +1,4 @@
--- The way that the appender answers, made into the record and the answer, is the append of the definition.
+-- The way that the appender answers, made into the reply, is the append of the definition.
 use mathlib.Core.Path.{ap}
 use borrow.Author.Needs.{needs}
 use mir.Facts.{toZ-ofZ}
@@ -8,13 +8,14 @@ use Rattle.publication.proofs.append_message.Statement.{statement}
 use Rattle.publication.proofs.append_message.Tie as tie
 
 returns : tie.Need-returns
-returns c = let s = c .before .before .before .before .before .before .before .before in
+returns c =
+    let s = c .before .before .before .before .before .before .before in
     let a = s .args in
-    let d = c .before .before .before .before in
-    append-by (a .rec) (c .before .moved .result) (a .log .now) (d .append-way .last .1 .0) (a .message .now) (a .v) (a .k) (a .payload) (d .append-way .result)
+    let d = c .before .before .before .append-way in
+    append-by (a .rec) (a .log .now) (d .last .1 .0) (a .message .now) (a .v) (a .k) (a .payload) _ _ (d .result) (c .append-reply .result)
     (s .pre .0) (s .pre .1 .0) (s .pre .1 .1 .0) (s .pre .1 .1 .1 .0) (s .pre .1 .1 .1 .1 .0) (s .pre .1 .1 .1 .1 .1)
-    (c .appended .result) _ _ (ap long (toZ-ofZ (s .fits .reserved))) (d .append-way .ensures .0) (d .append-way .ensures .1) (c .before .moved .ensures) (c .appended .ensures)
+    (ap long (toZ-ofZ (s .fits .reserved))) (d .ensures .0) (d .ensures .1) (c .append-reply .ensures)
 
 pub append-message-spec : {M : Type 1} → statement M
 append-message-spec =
-    tie.close (tie.spec (search needs) (search needs) (search needs) (search needs) returns)
+    tie.close (tie.spec (search needs) (search needs) (search needs) returns)

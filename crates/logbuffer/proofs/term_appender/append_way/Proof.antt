@@ -22,8 +22,11 @@ good : (c : tie.Else1) → (let a = c .before .before .before .before .args in G
 good c = append-true _ _ _ _ (yes-good c)
 
 returns : tie.Need-returns
-returns c = let a = c .before .before .before .before .args in
-    way-no (a .v) (length (a .log .now)) (a .k) (a .payload) (length (a .message .now)) (a .given) (sym (c .before .good-append .ensures) ∙ not-true _ (c .if1 .taken)) _ _ _
+returns c =
+    let q = c .before in
+    let a = q .before .before .before .before .args in
+    let no = way-no (a .v) (length (a .log .now)) (a .k) (a .payload) (length (a .message .now)) (a .given) (sym (q .before .good-append .ensures) ∙ not-true _ (q .if1 .taken)) _ _ _ in
+    (c .refused .ensures ∙ no .0, no .1)
 
 need-of-requires : tie.Need-need-of-requires
 need-of-requires c κs = let g = good c in (g .low, (g .high, g .whole))
@@ -42,13 +45,14 @@ returns-2 : tie.Need-returns-2
 returns-2 c = let s = c .before .before .before .before .before .before .before .before .before .before .before in
     let a = s .args in
     let d = c .before .before .before in
-    way-is (a .v) (a .k) (a .payload) (a .given) (d .before .long .result) _ (d .before .before .before .need-of .result) (a .log .now) (d .append .last .1 .0) (a .message .now) (d .append .result) (c .way-by .result)
-    (course-good _ _ _ _ _ _ (yes-good (d .before .before .before .before))) (d .before .before .before .need-of .ensures) (d .before .long .ensures .0 ∙ ap (ofZ w64) (toZ-ofZ (s .fits .reserved))) (d .append .ensures .0) (c .way-by .ensures) (d .append .ensures .1)
+    way-is (a .v) (a .k) (a .payload) (a .given) (d .before .before .long .result) _ (d .before .before .before .need-of .result) (a .log .now) (d .append .last .1 .0) (a .message .now) (d .append .result) (c .way-by .result)
+    (course-good _ _ _ _ _ _ (yes-good (d .before .before .before .before))) (d .before .before .before .need-of .ensures) (d .before .before .long .ensures .0 ∙ ap (ofZ w64) (toZ-ofZ (s .fits .reserved))) (d .append .ensures .0) (c .way-by .ensures) (d .append .ensures .1)
 
 pub append-way-spec : {M : Type 1} → statement M
 append-way-spec =
     tie.close
     (tie.spec
+    (search needs)
     (search needs)
     returns
     need-of-requires

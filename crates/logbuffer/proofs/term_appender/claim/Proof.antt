@@ -1,54 +1,41 @@
--- Row 1, and then the parts' promises, joined by one law over the numbers that the code has.
-use mathlib.Core.Path.{_≡_, refl, sym, ap, ap₂, subst, _∙_}
-use Prim.Native.Nat.{ℕ, _≤_, _<_}
-use borrow.Author.Tests.{not-true, not-false}
+-- The record's numbers are read, and the way that the claim goes makes the reply.
+use mathlib.Core.Path.{_≡_, sym, ap, subst, _∙_}
+use Prim.Native.Nat.{_<_}
 use borrow.Author.Needs.{needs}
-use lib.ListN.{length}
 use lib.IntN.{ℤ}
-use mir.Syntax.{w32}
-use mir.Val.{ofZ}
+use lib.ListN.{length}
 use mir.Facts.{toZ-ofZ}
+use Rattle.model.specs.declared.Reading.{Reading}
 use Rattle.model.specs.Bytes.{word}
 use Rattle.model.specs.LogBufferDescriptor.{biased}
-use Rattle.model.specs.declared.Reading.{Reading}
-use Rattle.model.specs.FrameDescriptor.{space}
-use Rattle.model.specs.TermAppender.{goodMessage}
-use Rattle.model.proofs.Sound.{id-small}
-use Rattle.model.proofs.Append.{Room, course-room, message-true, claim-does, claim-no}
-use Rattle.logbuffer.proofs.Appending.{claim-is}
+use Rattle.model.proofs.Sound.{id-small, offset-small}
+use Rattle.logbuffer.proofs.Ways.{claim-by, claim-bits, claim-course}
 use Rattle.logbuffer.proofs.term_appender.claim.Statement.{statement}
 use Rattle.logbuffer.proofs.term_appender.claim.Tie as tie
 
-part : (c : tie.After-word) → c .word .result ≡ word (c .before .before .args .partition)
-part c = c .word .ensures .0 ∙ ap (ofZ w32) (toZ-ofZ (c .before .before .fits .partition))
-
-asked : (c : tie.After-word2) → c .word2 .result ≡ word (c .before .before .before .args .length)
-asked c = c .word2 .ensures .0 ∙ ap (ofZ w32) (toZ-ofZ (c .before .before .before .fits .length))
-
-good : (c : tie.Else1) → (c .before .before .before .word .result ≤ 2) × (c .before .before .word2 .result ≤ 2147483647)
-good c = message-true _ _ (sym (c .before .good-message .ensures) ∙ not-false _ (c .if1 .left))
-
-id-in : (c : tie.After-read) → c .read .result .id < 4294967296
-id-in c = subst (λ (v : Reading). v .id < 4294967296) (sym (c .read .ensures)) (id-small _ _)
+claim-record-requires : tie.Need-claim-record-requires
+claim-record-requires c κs =
+    let e = sym (c .before .before .before .before .before .read .ensures) in (
+      c .before .before .before .before .before .before .before .word .ensures .1,
+      (subst (λ (v : Reading). v .id < 4294967296) e (id-small _ _), (subst (λ (v : Reading). v .offset < 4294967296) e (offset-small _ _), c .before .before .before .before .before .before .word2 .ensures .1)),
+    )
 
 returns : tie.Need-returns
-returns c = let a = c .before .before .before .before .before .args in
-    claim-no (a .rec) (a .log .now) (a .partition) (a .length) (a .term-id) (ap₂ (λ (k n : ℕ). goodMessage k n) (sym (part (c .before .before .before))) (sym (asked (c .before .before))) ∙ sym (c .before .good-message .ensures) ∙ not-true _ (c .if1 .taken))
-
-claim-frame-requires : tie.Need-claim-frame-requires
-claim-frame-requires c κs = let g = good (c .before .before .before) in (g .0, (id-in (c .before .before), g .1))
-
-claim-reply-requires : tie.Need-claim-reply-requires
-claim-reply-requires c κs = let g = good (c .before .before .before .before .before .before) in (g .0, (id-in (c .before .before .before .before .before), (g .1, subst (Room (c .before .before .before .before .before .read .result) (space (c .before .before .before .before .before .before .before .before .word2 .result))) (sym (c .before .before .claim-frame .ensures .0)) (course-room _ _ _ _))))
-
-returns-2 : tie.Need-returns-2
-returns-2 c = let s = c .before .before .before .before .before .before .before .before .before .before .before .before in
+returns c =
+    let s = c .before .before .before .before .before .before .before .before .before .before .before in
     let a = s .args in
-    let g = good (c .before .before .before .before .before .before .before) in
-    let made = claim-is (a .rec) (a .log .now) (c .before .before .before .claim-frame .last .1 .0) (c .before .before .before .before .before .before .before .before .before .before .word .result) (c .before .before .before .before .before .before .before .before .before .word2 .result) (c .before .before .before .before .biased-id .result) (biased (word (a .term-id))) (c .before .before .before .before .before .before .read .result) (c .before .before .before .claim-frame .result) (c .claim-reply .result)
-    (c .before .before .before .before .before .before .read .ensures) (c .before .before .before .before .biased-id .ensures ∙ ap (λ (z : ℤ). biased (word z)) (toZ-ofZ (s .fits .term-id))) (c .before .before .before .claim-frame .ensures .0) (c .claim-reply .ensures) (c .before .before .before .claim-frame .ensures .1) in
-    let law = claim-does (a .rec) (a .log .now) (a .partition) (a .length) (a .term-id) (c .before .before .before .before .before .before .before .before .before .before .word .result) (c .before .before .before .before .before .before .before .before .before .word2 .result) (biased (word (a .term-id))) (sym (part (c .before .before .before .before .before .before .before .before .before .before))) (sym (asked (c .before .before .before .before .before .before .before .before .before))) refl (g .0) (g .1) in
-    (made .0 ∙ sym (law .0), made .1 ∙ sym (law .1))
+    let d = c .before .before .before .before .claim-way in
+    let g = c .before .before .before .before .before .biased-id in
+    let v = c .before .before .before .before .before .before .before .read in
+    let n = c .before .before .before .before .before .before .before .before .word2 in
+    let k = c .before .before .before .before .before .before .before .before .before .word in
+    let en : n .result ≡ word (a .length) = n .ensures .0 ∙ search needs in
+    let ek : k .result ≡ word (a .partition) = k .ensures .0 ∙ search needs in
+    let by = claim-by (a .rec) (a .log .now) (d .last .1 .0) (v .result) (k .result) (n .result) (g .result) (biased (word (a .term-id))) (d .result) (c .before .claim-record .result) (c .claim-reply .result)
+    (v .ensures) (g .ensures ∙ ap (λ (z : ℤ). biased (word z)) (toZ-ofZ (s .fits .term-id))) (d .ensures .0) (d .ensures .1) (c .claim-reply .ensures)
+    (λ hk h. c .before .claim-record .ensures ∙ claim-bits (v .result) (k .result) (n .result) hk h) in
+    let law = claim-course (a .rec) (length (a .log .now)) (word (a .partition)) (word (a .length)) (biased (word (a .term-id))) in
+    (cc (by .0, law), cc (by .1, law))
 
 pub claim-spec : {M : Type 1} → statement M
 claim-spec =
@@ -57,10 +44,9 @@ claim-spec =
     (search needs)
     (search needs)
     (search needs)
-    returns
     (search needs)
     (search needs)
-    claim-frame-requires
-    claim-reply-requires
+    claim-record-requires
     (search needs)
-    returns-2)
+    (search needs)
+    returns)

@@ -20,8 +20,11 @@ good : (c : tie.Else1) → (let a = c .before .before .before .args in (a .k ≤
 good c = let a = c .before .before .before .args in claiming-true (a .v) (a .k) (a .n) (yes-good c)
 
 returns : tie.Need-returns
-returns c = let a = c .before .before .before .args in
-    claim-no (a .v) (length (a .log .now)) (a .k) (a .n) (a .given) (sym (c .before .good-claiming .ensures) ∙ not-true _ (c .if1 .taken)) _ _
+returns c =
+    let q = c .before in
+    let a = q .before .before .before .args in
+    let no = claim-no (a .v) (length (a .log .now)) (a .k) (a .n) (a .given) (sym (q .before .good-claiming .ensures) ∙ not-true _ (q .if1 .taken)) _ _ in
+    (c .refused .ensures ∙ no .0, no .1)
 
 claim-frame-requires : tie.Need-claim-frame-requires
 claim-frame-requires c κs = good (c .before)
@@ -49,6 +52,7 @@ pub claim-way-spec : {M : Type 1} → statement M
 claim-way-spec =
     tie.close
     (tie.spec
+    (search needs)
     (search needs)
     returns
     claim-frame-requires

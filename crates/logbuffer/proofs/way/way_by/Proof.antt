@@ -3,21 +3,19 @@ use mathlib.Core.Path.{sym, ap, _∙_}
 use native.Mathlib.Omega.{arith}
 use borrow.Author.Needs.{needs}
 use Prim.Native.Nat.{_+_}
-use lib.IntN.{ℤ, pos}
+use lib.IntN.{ℤ}
 use mir.Facts.{toZ-ofZ}
 use mir.Syntax.{w64}
-use Rattle.model.specs.declared.Course.{Course}
 use Rattle.model.specs.LogBufferDescriptor.{rawOf}
-use Rattle.logbuffer.specs.declared.term_appender.Way.{Way}
+use Rattle.logbuffer.specs.declared.way.Way.{Way}
 use Rattle.logbuffer.specs.Ways.{wayBy}
 use Rattle.logbuffer.proofs.Ways.{way-moves}
-use Rattle.logbuffer.proofs.term_appender.way_by.Statement.{statement}
-use Rattle.logbuffer.proofs.term_appender.way_by.Tie as tie
+use Rattle.logbuffer.proofs.way.way_by.Statement.{statement}
+use Rattle.logbuffer.proofs.way.way_by.Tie as tie
 
 returns : tie.Need-returns
-returns c = let a = c .before .before .args in
-    ap {B = Way} (λ (x : Course). record { course = x; end = 0; tail = pos 0 }) (c .enum-told .given .1)
-    ∙ ap (wayBy (a .v) (a .needed)) (sym (c .enum-told .given .1))
+returns c =
+    let a = c .before .before .before .before .args in c .refused .ensures ∙ ap (wayBy (a .v) (a .needed)) (sym (c .before .before .course .given .1))
 
 add-end : tie.Need-add-end
 add-end c = let s = c .before .before in omega (arith, way-moves (s .args .v) (s .args .needed) (s .args .course) (c .before .match .keys2) (s .pre .1) .1)
@@ -35,6 +33,7 @@ pub way-by-spec : {M : Type 1} → statement M
 way-by-spec =
     tie.close
     (tie.spec
+    (search needs)
     (search needs)
     returns
     add-end

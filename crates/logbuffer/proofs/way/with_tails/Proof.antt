@@ -7,8 +7,8 @@ use mir.Facts.{toZ-ofZ}
 use mir.Syntax.{w32, w64}
 use Rattle.model.specs.declared.LogRecord.{LogRecord}
 use Rattle.model.specs.LogBufferDescriptor.{changed}
-use Rattle.publication.proofs.with_tails.Statement.{statement}
-use Rattle.publication.proofs.with_tails.Tie as tie
+use Rattle.logbuffer.proofs.way.with_tails.Statement.{statement}
+use Rattle.logbuffer.proofs.way.with_tails.Tie as tie
 
 rebuilt : (r : LogRecord) (t : List ℤ) (a b c d e f g i j : ℤ) → a ≡ r .«active_term_count» → b ≡ r .«initial_term_id» → c ≡ r .«term_length» → d ≡ r .«mtu_length» → e ≡ r .«session_id» → f ≡ r .«stream_id» → g ≡ r .«is_connected» → i ≡ r .«publication_limit» → j ≡ r .«end_of_stream_position»
     → record {
