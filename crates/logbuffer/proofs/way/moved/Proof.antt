@@ -10,6 +10,9 @@ use Rattle.logbuffer.proofs.Ways.{tail-moves, none-moves}
 use Rattle.logbuffer.proofs.way.moved.Statement.{statement}
 use Rattle.logbuffer.proofs.way.moved.Tie as tie
 
+returns : tie.Need-returns
+returns c = search needs
+
 returns-2 : tie.Need-returns-2
 returns-2 c = let a = c .before .before .before .before .before .args in
     c .with-tails .ensures ∙ tail-moves (a .rec) (a .k) 0 (a .way) (a .way .course) _ (c .before .before .before .before .match .keys2) (omega arith) (toZ-ofZ {w = w64} {z = a .way .tail} (search needs))
@@ -33,7 +36,7 @@ moved-spec =
     tie.close
     (tie.spec
     (search needs)
-    (λ c. search needs)
+    returns
     (search needs)
     (search needs)
     returns-2
