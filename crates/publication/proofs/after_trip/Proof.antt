@@ -10,15 +10,6 @@ use borrow.Author.Needs.{needs}
 use Rattle.publication.proofs.after_trip.Statement.{statement}
 use Rattle.publication.proofs.after_trip.Tie as tie
 
-mul-if1 : tie.Need-mul-if1
-mul-if1 c = omega (arith, begin-most _ (c .pre .0))
-
-add-if1 : tie.Need-add-if1
-add-if1 c = omega (arith, begin-most _ (c .pre .0))
-
-add-if1-2 : tie.Need-add-if1-2
-add-if1-2 c = omega (arith, begin-most _ (c .pre .0))
-
 returns : tie.Need-returns
 returns c = let v = c .before .args .v in (trip-7 v _ _ _ (c .if1 .taken), trip-7 v _ _ _ (c .if1 .taken))
 
@@ -39,9 +30,9 @@ pub after-trip-spec : {M : Type 1} → statement M
 after-trip-spec =
     tie.close
     (tie.spec
-    mul-if1
-    add-if1
-    add-if1-2
+    (λ c. omega (arith, begin-most _ (c .pre .0)))
+    (λ c. omega (arith, begin-most _ (c .pre .0)))
+    (λ c. omega (arith, begin-most _ (c .pre .0)))
     (search needs)
     returns
     returns-2

@@ -5,15 +5,6 @@ use borrow.Author.Needs.{needs}
 use Rattle.readrows.proofs.frame.Statement.{statement}
 use Rattle.readrows.proofs.frame.Tie as tie
 
-slice-write-log-2 : tie.Need-slice-write-log-2
-slice-write-log-2 c = simp length-set (omega arith)
-
-slice-write-log-3 : tie.Need-slice-write-log-3
-slice-write-log-3 c = simp length-set (omega arith)
-
-slice-write-log-4 : tie.Need-slice-write-log-4
-slice-write-log-4 c = simp length-set (omega arith)
-
 pub frame-spec : {M : Type 1} → statement M
 frame-spec =
     tie.close
@@ -23,10 +14,10 @@ frame-spec =
     (search needs)
     (search needs)
     (search needs)
-    slice-write-log-2
+    (λ c. simp length-set (omega arith))
     (search needs)
-    slice-write-log-3
+    (λ c. simp length-set (omega arith))
     (search needs)
-    slice-write-log-4
+    (λ c. simp length-set (omega arith))
     (search needs)
     (search needs))

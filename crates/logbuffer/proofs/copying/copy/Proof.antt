@@ -20,27 +20,6 @@ loop-holds c =
     let s = c .before .before in
     (omega arith, (none-yet (s .args .dst .now) (s .args .src .now) (s .args .b) (s .args .a), refl))
 
-sub-chunk : tie.Need-sub-chunk Inv-loop μ-loop
-sub-chunk c = omega arith
-
-chunk-requires : tie.Need-chunk-requires Inv-loop μ-loop
-chunk-requires c κs = omega arith
-
-add-copy-chunk : tie.Need-add-copy-chunk Inv-loop μ-loop
-add-copy-chunk c = omega arith
-
-add-copy-chunk-2 : tie.Need-add-copy-chunk-2 Inv-loop μ-loop
-add-copy-chunk-2 c = omega arith
-
-copy-chunk-requires : tie.Need-copy-chunk-requires Inv-loop μ-loop
-copy-chunk-requires c κs = omega arith
-
-add-i : tie.Need-add-i Inv-loop μ-loop
-add-i c = omega arith
-
-loop-less : tie.Need-loop-less Inv-loop μ-loop
-loop-less c = omega arith
-
 loop-again : tie.Need-loop-again Inv-loop μ-loop
 loop-again c =
     let call = c .before .before in
@@ -72,13 +51,13 @@ copy-spec =
     Inv-loop
     μ-loop
     loop-holds
-    sub-chunk
-    chunk-requires
-    add-copy-chunk
-    add-copy-chunk-2
-    copy-chunk-requires
-    add-i
-    loop-less
+    (λ c. omega arith)
+    (λ c κs. omega arith)
+    (λ c. omega arith)
+    (λ c. omega arith)
+    (λ c κs. omega arith)
+    (λ c. omega arith)
+    (λ c. omega arith)
     loop-again
     same-length
     returns)

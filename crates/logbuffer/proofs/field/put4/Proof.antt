@@ -13,20 +13,11 @@ cast-log c = fits-low8 (c .args .n)
 cast-log-2 : tie.Need-cast-log-2
 cast-log-2 c = fits-low8 (c .args .n / 256)
 
-slice-write-log-2 : tie.Need-slice-write-log-2
-slice-write-log-2 c = simp length-set (omega arith)
-
 cast-log-3 : tie.Need-cast-log-3
 cast-log-3 c = fits-low8 (c .args .n / 65536)
 
-slice-write-log-3 : tie.Need-slice-write-log-3
-slice-write-log-3 c = simp length-set (omega arith)
-
 cast-log-4 : tie.Need-cast-log-4
 cast-log-4 c = fits-low8 (c .args .n / 16777216)
-
-slice-write-log-4 : tie.Need-slice-write-log-4
-slice-write-log-4 c = simp length-set (omega arith)
 
 returns : tie.Need-returns
 returns c = four (c .args .log .now) (c .args .at) (c .args .n) (c .pre)
@@ -39,12 +30,12 @@ put4-spec =
     (search needs)
     cast-log-2
     (search needs)
-    slice-write-log-2
+    (λ c. simp length-set (omega arith))
     cast-log-3
     (search needs)
-    slice-write-log-3
+    (λ c. simp length-set (omega arith))
     cast-log-4
     (search needs)
-    slice-write-log-4
+    (λ c. simp length-set (omega arith))
     (search needs)
     returns)

@@ -29,15 +29,6 @@ returns c =
 claim-frame-requires : tie.Need-claim-frame-requires
 claim-frame-requires c κs = good (c .before)
 
-add-way-by : tie.Need-add-way-by
-add-way-by c = omega (arith, good (c .before .before .before .before))
-
-add-way-by-2 : tie.Need-add-way-by-2
-add-way-by-2 c = omega (arith, good (c .before .before .before .before))
-
-mul-way-by : tie.Need-mul-way-by
-mul-way-by c = omega (arith, good (c .before .before .before .before))
-
 way-by-requires : tie.Need-way-by-requires
 way-by-requires c κs = let a = c .before .before .before .before .before .before .before .args in
     (good (c .before .before .before .before) .1 .0, subst (Room (a .v) (space (a .n))) (sym (c .before .before .claim-frame .ensures .0)) (course-room _ _ _ _))
@@ -56,9 +47,9 @@ claim-way-spec =
     (search needs)
     returns
     claim-frame-requires
-    add-way-by
-    add-way-by-2
-    mul-way-by
+    (λ c. omega (arith, good (c .before .before .before .before)))
+    (λ c. omega (arith, good (c .before .before .before .before)))
+    (λ c. omega (arith, good (c .before .before .before .before)))
     way-by-requires
     (search needs)
     returns-2)

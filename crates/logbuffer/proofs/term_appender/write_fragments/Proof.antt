@@ -22,9 +22,6 @@ abbrev μ-loop : tie.MeasureT-loop
 loop-holds : tie.Need-loop-holds Inv-loop μ-loop
 loop-holds c = let s = c .before .before in (omega arith, (refl, (omega arith, left-all (s .args .v) (s .args .log .now) (s .args .base) (s .args .payload) (s .args .reserved) (s .args .message .now) (omega (arith, s .pre .1 .1 .1 .1, need-is (s .args .payload) (s .args .reserved) (s .args .message .now) (omega arith) (s .pre .1 .1 .1 .0))))))
 
-sub-loop : tie.Need-sub-loop Inv-loop μ-loop
-sub-loop c = omega arith
-
 -- what a turn's fragment leaves, and that it has room
 turn : (c : tie.In-loop Inv-loop μ-loop) → (let l = c .before .loop in let s = c .before .before .before .before .args in
     Left (s .v) (splice (l .log) (s .base + l .offset) (fragmentBytes (s .v) (l .offset) (fragment (l .flags) (s .reserved) (take (s .payload) (drop (l .at) (s .message .now)))))) (s .base)
@@ -64,35 +61,17 @@ rest-is c =
     let s = c .before .before .before .before .args in
     take-all (length (s .message .now) - l .at) (drop (l .at) (s .message .now)) (omega (arith, length-drop (l .at) (s .message .now)))
 
-add-part : tie.Need-add-part Inv-loop μ-loop
-add-part c = omega arith
-
-sub-part : tie.Need-sub-part Inv-loop μ-loop
-sub-part c = omega arith
-
-part-part-start : tie.Need-part-part-start Inv-loop μ-loop
-part-part-start c = omega arith
-
-part-part-end : tie.Need-part-part-end Inv-loop μ-loop
-part-part-end c = omega arith
-
 add-write-fragment : tie.Need-add-write-fragment Inv-loop μ-loop
 add-write-fragment c = let r = turn (c .before .before) .1 in omega arith
 
 write-fragment-requires : tie.Need-write-fragment-requires Inv-loop μ-loop
 write-fragment-requires c κs = let r = turn (c .before .before) .1 in let l = c .before .before .before .loop in let s = c .before .before .before .before .before .before in (omega (arith, l .inv .1 .0, part-is (c .before .before) .1), (s .pre .1 .0, omega arith))
 
-add-at : tie.Need-add-at Inv-loop μ-loop
-add-at c = omega arith
-
 add-offset : tie.Need-add-offset Inv-loop μ-loop
 add-offset c = let r = turn (c .before .before .before .before .before) .1 in omega arith
 
 add-offset-2 : tie.Need-add-offset-2 Inv-loop μ-loop
 add-offset-2 c = let r = turn (c .before .before .before .before .before) .1 in omega arith
-
-loop-less : tie.Need-loop-less Inv-loop μ-loop
-loop-less c = omega arith
 
 loop-again : tie.Need-loop-again Inv-loop μ-loop
 loop-again c = let l = c .before .before .before .before .before .before .loop in
@@ -113,20 +92,8 @@ loop-again c = let l = c .before .before .before .before .before .before .loop i
       ),
     )
 
-sub-rest : tie.Need-sub-rest Inv-loop μ-loop
-sub-rest c = omega arith
-
-part-rest-start : tie.Need-part-rest-start Inv-loop μ-loop
-part-rest-start c = omega arith
-
-part-rest-end : tie.Need-part-rest-end Inv-loop μ-loop
-part-rest-end c = omega arith
-
 add-write-fragment-2 : tie.Need-add-write-fragment-2 Inv-loop μ-loop
 add-write-fragment-2 c = let r = ended (c .before .before) .1 in omega arith
-
-add-write-fragment-3 : tie.Need-add-write-fragment-3 Inv-loop μ-loop
-add-write-fragment-3 c = omega arith
 
 write-fragment-requires-2 : tie.Need-write-fragment-requires-2 Inv-loop μ-loop
 write-fragment-requires-2 c κs = let r = ended (c .before .before) .1 in let l = c .before .before .before .loop in let s = c .before .before .before .before .before .before in (omega (arith, l .inv .1 .0, ap length (rest-is (c .before .before))), (s .pre .1 .0, omega arith))
@@ -146,23 +113,23 @@ write-fragments-spec =
     Inv-loop
     μ-loop
     loop-holds
-    sub-loop
-    add-part
-    sub-part
-    part-part-start
-    part-part-end
+    (λ c. omega arith)
+    (λ c. omega arith)
+    (λ c. omega arith)
+    (λ c. omega arith)
+    (λ c. omega arith)
     add-write-fragment
     write-fragment-requires
-    add-at
+    (λ c. omega arith)
     add-offset
     add-offset-2
-    loop-less
+    (λ c. omega arith)
     loop-again
-    sub-rest
-    part-rest-start
-    part-rest-end
+    (λ c. omega arith)
+    (λ c. omega arith)
+    (λ c. omega arith)
     add-write-fragment-2
-    add-write-fragment-3
+    (λ c. omega arith)
     write-fragment-requires-2
     same-length
     returns)

@@ -59,20 +59,8 @@ returns c =
     let w = l .loop in
     frames-first (a .log .now) (a .base) (a .term) (a .end) (a .at) (a .limit) (a .actions .now) (a .entries .now) (w .entries) (walks.unsound-first (a .log .now) (a .base) (a .term) (a .end) (a .at) (a .limit) (a .actions .now) (a .entries .now) (w .entries) (w .offset) (w .settled) (w .count) (w .inv .1 .1) (c .if2 .taken) (omega arith) (omega arith) (sym (c .before .before .before .frame-at .ensures) ∙ c .before .enum-told2 .given .1))
 
-add-offset : tie.Need-add-offset Inv-loop μ-loop
-add-offset c = omega (arith, padding-in c)
-
-mul-offset : tie.Need-mul-offset Inv-loop μ-loop
-mul-offset c = omega (arith, padding-in c)
-
-add-offset-2 : tie.Need-add-offset-2 Inv-loop μ-loop
-add-offset-2 c = omega (arith, padding-in c)
-
 sub-moved : tie.Need-sub-moved Inv-loop μ-loop
 sub-moved c = omega (arith, padding-in c, c .before .before .before .before .before .before .loop .inv .1 .1 .later)
-
-loop-less : tie.Need-loop-less Inv-loop μ-loop
-loop-less c = omega (arith, padding-in c)
 
 loop-again : tie.Need-loop-again Inv-loop μ-loop
 loop-again c =
@@ -87,38 +75,14 @@ add-ends-message c = omega (arith, data-in (c .before))
 ends-message-requires : tie.Need-ends-message-requires Inv-loop μ-loop
 ends-message-requires c κs = omega (arith, data-in (c .before))
 
-mul-p : tie.Need-mul-p Inv-loop μ-loop
-mul-p c = omega (arith, data-in (c .before .before))
-
-add-entries : tie.Need-add-entries Inv-loop μ-loop
-add-entries c = omega (arith, data-in (c .before .before))
-
 cast-entries : tie.Need-cast-entries Inv-loop μ-loop
 cast-entries c = record { sfits = omega (arith, data-in (c .before .before)) }
-
-mul-entries : tie.Need-mul-entries Inv-loop μ-loop
-mul-entries c = omega (arith, data-in (c .before .before))
-
-slice-set-from-entries : tie.Need-slice-set-from-entries Inv-loop μ-loop
-slice-set-from-entries c = omega (arith, data-in (c .before .before))
-
-sub-entries : tie.Need-sub-entries Inv-loop μ-loop
-sub-entries c = omega (arith, data-in (c .before .before))
 
 cast-entries-2 : tie.Need-cast-entries-2 Inv-loop μ-loop
 cast-entries-2 c = record { sfits = omega (arith, data-in (c .before .before)) }
 
-add-t30 : tie.Need-add-t30 Inv-loop μ-loop
-add-t30 c = omega (arith, data-in (c .before .before))
-
-mul-t32 : tie.Need-mul-t32 Inv-loop μ-loop
-mul-t32 c = omega (arith, data-in (c .before .before))
-
 slice-set-from-entries-2 : tie.Need-slice-set-from-entries-2 Inv-loop μ-loop
 slice-set-from-entries-2 c = simp length-set (omega arith)
-
-add-t35 : tie.Need-add-t35 Inv-loop μ-loop
-add-t35 c = omega (arith, data-in (c .before .before .before))
 
 same-length-2 : tie.Need-same-length-2 Inv-loop μ-loop
 same-length-2 c = simp length-set (search needs)
@@ -132,15 +96,6 @@ returns-2 c = let d = c .before .before .before in
     let x : toZ w32 (w .offset + 32) ≡ pos (w .offset + 32) = toZ-pos w32 (omega (arith, data-in d)) in
     let y : toZ w32 (n - 32) ≡ pos (n - 32) = toZ-pos w32 (omega (arith, data-in d)) in
     frames-came (a .log .now) (a .base) (a .term) (a .end) (a .at) (a .limit) (a .actions .now) (a .entries .now) _ (w .count + 1) (w .count) (w .moved) (w .moved) (w .settled) (walks.turn-aborted (a .log .now) (a .base) (a .term) (a .end) (a .at) (a .limit) (a .actions .now) (a .entries .now) (w .entries) (w .offset) (w .settled) (w .count) n (w .inv .1 .1) (omega arith) (omega arith) (is-data d) (omega arith) _ _ x y (c .before .before .action-of .result) (w .moved) (c .before .before .action-of .ensures) (c .if3 .taken) (w .inv .1 .0)) refl
-
-add-size : tie.Need-add-size Inv-loop μ-loop
-add-size c = omega (arith, data-in (c .before .before .before))
-
-mul-size : tie.Need-mul-size Inv-loop μ-loop
-mul-size c = omega (arith, data-in (c .before .before .before))
-
-add-offset-3 : tie.Need-add-offset-3 Inv-loop μ-loop
-add-offset-3 c = omega (arith, data-in (c .before .before .before))
 
 sub-moved-2 : tie.Need-sub-moved-2 Inv-loop μ-loop
 sub-moved-2 c = omega (arith, data-in (c .before .before .before), c .before .before .before .before .before .before .before .before .before .loop .inv .1 .1 .later)
@@ -214,32 +169,32 @@ walk-frames-spec =
     (search needs)
     returns
     (search needs)
-    add-offset
-    mul-offset
-    add-offset-2
+    (λ c. omega (arith, padding-in c))
+    (λ c. omega (arith, padding-in c))
+    (λ c. omega (arith, padding-in c))
     sub-moved
-    loop-less
+    (λ c. omega (arith, padding-in c))
     loop-again
     (search needs)
     (search needs)
     add-ends-message
     ends-message-requires
-    mul-p
-    add-entries
+    (λ c. omega (arith, data-in (c .before .before)))
+    (λ c. omega (arith, data-in (c .before .before)))
     cast-entries
-    mul-entries
-    slice-set-from-entries
-    sub-entries
+    (λ c. omega (arith, data-in (c .before .before)))
+    (λ c. omega (arith, data-in (c .before .before)))
+    (λ c. omega (arith, data-in (c .before .before)))
     cast-entries-2
-    add-t30
-    mul-t32
+    (λ c. omega (arith, data-in (c .before .before)))
+    (λ c. omega (arith, data-in (c .before .before)))
     slice-set-from-entries-2
-    add-t35
+    (λ c. omega (arith, data-in (c .before .before .before)))
     same-length-2
     returns-2
-    add-size
-    mul-size
-    add-offset-3
+    (λ c. omega (arith, data-in (c .before .before .before)))
+    (λ c. omega (arith, data-in (c .before .before .before)))
+    (λ c. omega (arith, data-in (c .before .before .before)))
     sub-moved-2
     (search needs)
     (search needs)

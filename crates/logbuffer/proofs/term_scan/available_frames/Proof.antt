@@ -36,18 +36,6 @@ data-in c = lies _ _ (Data (c .before .n2 .given .0 .0)) (is (c .before .before 
 loop-holds : tie.Need-loop-holds Inv-loop μ-loop
 loop-holds c = let a = c .before .args in laws.available-start (a .log .now) (a .base) (a .term) (a .at) (a .most) (omega arith)
 
-add-frame-at : tie.Need-add-frame-at Inv-loop μ-loop
-add-frame-at c = omega (arith, c .loop .inv .inside)
-
-add-frame-at-2 : tie.Need-add-frame-at-2 Inv-loop μ-loop
-add-frame-at-2 c = omega (arith, c .loop .inv .inside)
-
-add-frame-at-3 : tie.Need-add-frame-at-3 Inv-loop μ-loop
-add-frame-at-3 c = omega (arith, c .loop .inv .inside)
-
-sub-frame-at : tie.Need-sub-frame-at Inv-loop μ-loop
-sub-frame-at c = omega (arith, c .loop .inv .inside)
-
 returns : tie.Need-returns Inv-loop μ-loop
 returns c =
     let l = c .before .before .before .before in
@@ -150,10 +138,10 @@ available-frames-spec =
     Inv-loop
     μ-loop
     loop-holds
-    add-frame-at
-    add-frame-at-2
-    add-frame-at-3
-    sub-frame-at
+    (λ c. omega (arith, c .loop .inv .inside))
+    (λ c. omega (arith, c .loop .inv .inside))
+    (λ c. omega (arith, c .loop .inv .inside))
+    (λ c. omega (arith, c .loop .inv .inside))
     (search needs)
     (search needs)
     (search needs)

@@ -57,15 +57,6 @@ returns-2 c =
     let a = st l .args in
     laws.gap-unsound (a .log .now) (a .base) (a .term) (a .high) (a .at) (a .«term-id») (l .loop .offset) (l .loop .inv) (is (c .before .before .before) _ (c .before .enum-told2 .given .1)) (c .if1 .left)
 
-add-offset : tie.Need-add-offset Inv-loop μ-loop
-add-offset c = omega (arith, padding-in c)
-
-mul-offset : tie.Need-mul-offset Inv-loop μ-loop
-mul-offset c = omega (arith, padding-in c)
-
-add-offset-2 : tie.Need-add-offset-2 Inv-loop μ-loop
-add-offset-2 c = omega (arith, padding-in c)
-
 returns-3 : tie.Need-returns-3 Inv-loop μ-loop
 returns-3 c =
     let l = c .before .before .before .before .before in
@@ -80,15 +71,6 @@ loop-again c =
     let l = c .before .before .before .before .before in
     let a = st l .args in
     laws.gap-on (a .log .now) (a .base) (a .term) (a .high) (a .at) (l .loop .offset) _ (Padding (c .before .before .n .given .0 .0)) (l .loop .inv) (is (c .before .before .before .before) _ (c .before .before .n .given .1)) refl refl (omega arith) (c .if2 .left)
-
-add-offset-3 : tie.Need-add-offset-3 Inv-loop μ-loop
-add-offset-3 c = omega (arith, data-in c)
-
-mul-offset-2 : tie.Need-mul-offset-2 Inv-loop μ-loop
-mul-offset-2 c = omega (arith, data-in c)
-
-add-offset-4 : tie.Need-add-offset-4 Inv-loop μ-loop
-add-offset-4 c = omega (arith, data-in c)
 
 returns-4 : tie.Need-returns-4 Inv-loop μ-loop
 returns-4 c =
@@ -135,16 +117,16 @@ gap-frames-spec =
     returns
     returns-2
     (search needs)
-    add-offset
-    mul-offset
-    add-offset-2
+    (λ c. omega (arith, padding-in c))
+    (λ c. omega (arith, padding-in c))
+    (λ c. omega (arith, padding-in c))
     returns-3
     loop-less
     loop-again
     (search needs)
-    add-offset-3
-    mul-offset-2
-    add-offset-4
+    (λ c. omega (arith, data-in c))
+    (λ c. omega (arith, data-in c))
+    (λ c. omega (arith, data-in c))
     returns-4
     loop-less-2
     loop-again-2

@@ -16,23 +16,8 @@ abbrev μ-loop : tie.MeasureT-loop
 loop-holds : tie.Need-loop-holds Inv-loop μ-loop
 loop-holds c = let a = c .before .args in (omega arith, laws.measure-start (a .log .now) (a .base) (a .term) (a .high) (a .at) (omega arith))
 
-add-loop : tie.Need-add-loop Inv-loop μ-loop
-add-loop c = omega arith
-
-add-word4 : tie.Need-add-word4 Inv-loop μ-loop
-add-word4 c = omega arith
-
-add-word4-2 : tie.Need-add-word4-2 Inv-loop μ-loop
-add-word4-2 c = omega arith
-
 word4-requires : tie.Need-word4-requires Inv-loop μ-loop
 word4-requires c κs = omega (arith, c .before .loop .inv .1 .aligned)
-
-add-gap : tie.Need-add-gap Inv-loop μ-loop
-add-gap c = omega arith
-
-loop-less : tie.Need-loop-less Inv-loop μ-loop
-loop-less c = omega arith
 
 loop-again : tie.Need-loop-again Inv-loop μ-loop
 loop-again c = (omega (arith, c .before .before .before .loop .inv .1 .aligned), let l = c .before .before .before in let a = l .before .before .args in laws.measure-on (a .log .now) (a .base) (a .term) (a .high) (a .at) (l .loop .gap) (l .loop .inv .1) (omega arith) (sym (c .before .word4 .ensures .0) ∙ c .if1 .left))
@@ -56,12 +41,12 @@ gap-length-spec =
     Inv-loop
     μ-loop
     loop-holds
-    add-loop
-    add-word4
-    add-word4-2
+    (λ c. omega arith)
+    (λ c. omega arith)
+    (λ c. omega arith)
     word4-requires
-    add-gap
-    loop-less
+    (λ c. omega arith)
+    (λ c. omega arith)
     loop-again
     returns
     returns-2)

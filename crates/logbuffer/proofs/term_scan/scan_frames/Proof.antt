@@ -48,29 +48,11 @@ returns c =
     let a = st l .args in
     laws.scan-first (a .log .now) (a .base) (a .term) (a .limit) (a .at) (l .loop .offset) (c .if1 .taken) (omega arith) (sym (c .before .before .before .frame-at .ensures) ∙ c .before .enum-told2 .given .1)
 
-add-t17 : tie.Need-add-t17 Inv-loop μ-loop
-add-t17 c = omega (arith, padding-in (c .before))
-
-mul-t19 : tie.Need-mul-t19 Inv-loop μ-loop
-mul-t19 c = omega (arith, padding-in (c .before))
-
-add-t20 : tie.Need-add-t20 Inv-loop μ-loop
-add-t20 c = omega (arith, padding-in (c .before))
-
 returns-2 : tie.Need-returns-2 Inv-loop μ-loop
 returns-2 c =
     let l = c .before .before .before .before .before .before in
     let a = st l .args in
     laws.scan-past (a .log .now) (a .base) (a .term) (a .limit) (a .at) (l .loop .offset) (c .before .before .n .given .0 .0) (l .loop .inv) (omega arith) (is-padding (c .before)) (c .if2 .taken)
-
-add-next : tie.Need-add-next Inv-loop μ-loop
-add-next c = omega (arith, data-in c)
-
-mul-next : tie.Need-mul-next Inv-loop μ-loop
-mul-next c = omega (arith, data-in c)
-
-add-next-2 : tie.Need-add-next-2 Inv-loop μ-loop
-add-next-2 c = omega (arith, data-in c)
 
 loop-less : tie.Need-loop-less Inv-loop μ-loop
 loop-less c = omega (arith, data-in (c .before))
@@ -125,14 +107,14 @@ scan-frames-spec =
     (search needs)
     returns
     (search needs)
-    add-t17
-    mul-t19
-    add-t20
+    (λ c. omega (arith, padding-in (c .before)))
+    (λ c. omega (arith, padding-in (c .before)))
+    (λ c. omega (arith, padding-in (c .before)))
     returns-2
     (search needs)
-    add-next
-    mul-next
-    add-next-2
+    (λ c. omega (arith, data-in c))
+    (λ c. omega (arith, data-in c))
+    (λ c. omega (arith, data-in c))
     loop-less
     loop-again
     returns-3

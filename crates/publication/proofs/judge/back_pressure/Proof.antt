@@ -6,15 +6,6 @@ use borrow.Author.Needs.{needs}
 use Rattle.publication.proofs.judge.back_pressure.Statement.{statement}
 use Rattle.publication.proofs.judge.back_pressure.Tie as tie
 
-mul-if1 : tie.Need-mul-if1
-mul-if1 c = omega (arith, begin-most _ (c .pre .0))
-
-add-if1 : tie.Need-add-if1
-add-if1 c = omega (arith, begin-most _ (c .pre .0))
-
-add-if1-2 : tie.Need-add-if1-2
-add-if1-2 c = omega (arith, begin-most _ (c .pre .0))
-
 returns : tie.Need-returns
 returns c = pressed-7 _ _ (c .if1 .taken)
 
@@ -26,4 +17,4 @@ returns-3 c = pressed-9 _ _ (c .before .if1 .left) (c .if2 .left)
 
 pub back-pressure-spec : {M : Type 1} → statement M
 back-pressure-spec =
-    tie.close (tie.spec mul-if1 add-if1 add-if1-2 (search needs) returns returns-2 returns-3)
+    tie.close (tie.spec (λ c. omega (arith, begin-most _ (c .pre .0))) (λ c. omega (arith, begin-most _ (c .pre .0))) (λ c. omega (arith, begin-most _ (c .pre .0))) (search needs) returns returns-2 returns-3)
