@@ -1,0 +1,31 @@
+-- A number cut to a list's length takes and drops as much of the list as the number itself.
+use mathlib.Core.Path.{_≡_, ap, _∙_}
+use mathlib.Core.List.{List, [], _∷_, _++_}
+use Prim.Native.Nat.{ℕ, zero, suc, _-_, min}
+use native.Mathlib.Nat.{zero-min, suc-min-suc, min-comm}
+use native.Mathlib.Omega.{arith}
+use lib.ListN.{length, take, drop, length-take, length-drop}
+use lib.Seq.{take-all, take-length, take-nil, drop-nil}
+
+pub take-cut : (n : ℕ) (l : List ℕ) → take (min n (length l)) l ≡ take n l
+take-cut zero l = ap (λ (k : ℕ). take k l) (zero-min (length l))
+take-cut (suc n) [] = take-nil (min (suc n) 0)
+take-cut (suc n) (x ∷ xs) = ap (λ (k : ℕ). take k (x ∷ xs)) (suc-min-suc n (length xs)) ∙ ap (λ (l : List ℕ). x ∷ l) (take-cut n xs)
+
+pub drop-cut : (n : ℕ) (l : List ℕ) → drop (min n (length l)) l ≡ drop n l
+drop-cut zero l = ap (λ (k : ℕ). drop k l) (zero-min (length l))
+drop-cut (suc n) [] = drop-nil (min (suc n) 0)
+drop-cut (suc n) (x ∷ xs) = ap (λ (k : ℕ). drop k (x ∷ xs)) (suc-min-suc n (length xs)) ∙ drop-cut n xs
+
+-- all that lies behind an index
+pub behind : (a : ℕ) (l : List ℕ) → take (length l - a) (drop a l) ≡ drop a l
+behind a l = take-all (length l - a) (drop a l) (omega (arith, length-drop a l))
+
+-- the first of s, as many as d has, laid over d
+pub laid-over : (d s : List ℕ) → let p = take (length d) s in
+    take (length p) p ++ drop (length p) d ≡ take (length d) s ++ drop (length s) d
+laid-over d s =
+    let p = take (length d) s in
+    ap (λ (l : List ℕ). l ++ drop (length p) d) (take-length p)
+    ∙ ap (λ (k : ℕ). p ++ drop k d) (length-take (length d) s ∙ min-comm (length d) (length s))
+    ∙ ap (λ (l : List ℕ). p ++ l) (drop-cut (length s) d)
