@@ -68,8 +68,7 @@ fn term_read(answer: TermRead) -> Values {
 pub fn slots(v: Vector, input: &[u8], k: usize, most: usize) -> usize
     ensures { λ r. ⌜ r ≤ most ⌝ }
 {
-    let n = decode::size(v, input, k);
-    if n > most { most } else { n }
+    support::least(decode::size(v, input, k), most)
 }
 
 fn read_into(v: Vector, input: &[u8], rec: LogRecord, log: &[u8], entries: &mut [i32]) -> Values {

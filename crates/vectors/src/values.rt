@@ -34,16 +34,11 @@ pub fn truth(b: bool) -> i64 {
 }
 
 pub fn one(a: i64) -> Values {
-    let mut row = [UNTOUCHED; 72];
-    row[0] = a;
-    Values { row: row }
+    two(a, UNTOUCHED)
 }
 
 pub fn two(a: i64, b: i64) -> Values {
-    let mut row = [UNTOUCHED; 72];
-    row[0] = a;
-    row[1] = b;
-    Values { row: row }
+    four(a, b, UNTOUCHED, UNTOUCHED)
 }
 
 pub fn four(a: i64, b: i64, c: i64, d: i64) -> Values {
@@ -96,7 +91,7 @@ pub fn result(v: Vector, input: &[u8], k: usize) -> i64 {
     if k >= v.result_count {
         return UNTOUCHED;
     }
-    decode::long(input, decode::plus(v.results, decode::longs(k)))
+    decode::long(input, decode::place(v.results, k))
 }
 
 pub fn refused(e: Error) -> Values {

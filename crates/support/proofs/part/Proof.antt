@@ -1,11 +1,11 @@
 -- Both numbers are cut to what is there.
-use mathlib.Core.Path.{_≡_, sym, ap, _∙_}
+use mathlib.Core.Path.{sym, ap, _∙_}
 use Prim.Native.Nat.{ℕ, _-_}
 use native.Mathlib.Omega.{arith}
 use borrow.Author.Needs.{needs}
 use lib.ListN.{length, take, drop}
 use lib.Seq.{length-take-le}
-use Rattle.support.proofs.Cuts.{take-cut, drop-cut, behind}
+use Rattle.support.proofs.Cuts.{take-cut, behind}
 use Rattle.support.proofs.part.Statement.{statement}
 use Rattle.support.proofs.part.Tie as tie
 
@@ -18,8 +18,7 @@ returns c =
     let l = s .args .bytes .now in
     let a = c .before .before .before .least in
     let rest = take (length l - a .result) (drop (a .result) l) in
-    let e : rest ≡ drop (s .args .at) l = behind (a .result) l ∙ ap (λ (k : ℕ). drop k l) (a .ensures) ∙ drop-cut (s .args .at) l in
-    ap (λ (k : ℕ). take k rest) (c .before .least2 .ensures) ∙ take-cut (s .args .n) rest ∙ ap (take (s .args .n)) e
+    ap (λ (k : ℕ). take k rest) (c .before .least2 .ensures) ∙ take-cut (s .args .n) rest ∙ ap (take (s .args .n)) (behind (s .args .at) l (a .result) (a .ensures))
 
 pub part-spec : {M : Type 1} → statement M
 part-spec =
