@@ -53,7 +53,7 @@ fn polled(reply: PollReply) -> Values {
 
 fn peeked(answer: Peeked) -> Values {
     match answer {
-        Peeked::Position(p, m) => values::four(0, p, values::count(m), values::UNTOUCHED),
+        Peeked::Position(p, m) => values::three(0, p, values::count(m)),
         Peeked::Refused(e) => values::refused(e),
     }
 }

@@ -63,12 +63,12 @@ fn message(
     n: usize,
 ) -> Values {
     let same = check::same(support::part(bytes, from, n), decode::payload(v, input));
-    values::more(
-        values::four(0, place, values::count(start), values::count(n)),
+    values::five(
+        0,
+        place,
+        values::count(start),
+        values::count(n),
         values::truth(same),
-        values::UNTOUCHED,
-        values::UNTOUCHED,
-        values::UNTOUCHED,
     )
 }
 
@@ -151,11 +151,10 @@ fn next(
 
 fn count(v: Vector, input: &[u8], rec: LogRecord, log: &[u8], buffer: &mut [u8]) -> Values {
     match replay::count(rec, log, buffer, decode::int(v, input, 0)) {
-        Counted::Counts(messages, bytes) => values::four(
+        Counted::Counts(messages, bytes) => values::three(
             0,
             values::count(messages),
             values::count(bytes),
-            values::UNTOUCHED,
         ),
         Counted::Refused(e) => values::refused(e),
     }

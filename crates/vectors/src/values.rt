@@ -38,7 +38,11 @@ pub fn one(a: i64) -> Values {
 }
 
 pub fn two(a: i64, b: i64) -> Values {
-    four(a, b, UNTOUCHED, UNTOUCHED)
+    three(a, b, UNTOUCHED)
+}
+
+pub fn three(a: i64, b: i64, c: i64) -> Values {
+    four(a, b, c, UNTOUCHED)
 }
 
 pub fn four(a: i64, b: i64, c: i64, d: i64) -> Values {
@@ -48,6 +52,10 @@ pub fn four(a: i64, b: i64, c: i64, d: i64) -> Values {
     row[2] = c;
     row[3] = d;
     Values { row: row }
+}
+
+pub fn five(a: i64, b: i64, c: i64, d: i64, e: i64) -> Values {
+    more(four(a, b, c, d), e, UNTOUCHED, UNTOUCHED, UNTOUCHED)
 }
 
 // `from` with four numbers more, from place 4 on.
