@@ -47,7 +47,7 @@ fn message(place: &[u8], bytes: &[u8], from: usize, n: usize, position: usize) {
     tell::put(b": ");
     tell::number(n);
     tell::put(place);
-    tell::quoted(tell::part(bytes, from, n));
+    tell::quoted(support::part(bytes, from, n));
     tell::put(b"\n");
 }
 

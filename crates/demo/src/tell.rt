@@ -36,22 +36,11 @@ pub fn signed(n: i32) {
     }
 }
 
-// The bytes from an index on; none where they are not all there.
-pub fn part(bytes: &[u8], at: usize, n: usize) -> &[u8] {
-    if at > bytes.len() {
-        return &bytes[0..0];
-    }
-    if n > bytes.len() - at {
-        return &bytes[0..0];
-    }
-    &bytes[at..at + n]
-}
-
 // The bytes as text, or the first of them.
 pub fn quoted(bytes: &[u8]) {
     if bytes.len() > 26 {
         put(b" beginning \"");
-        put(part(bytes, 0, 26));
+        put(support::part(bytes, 0, 26));
     } else {
         put(b" \"");
         put(bytes);

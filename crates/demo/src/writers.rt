@@ -1,5 +1,4 @@
 // The writers' calls, each printed with its answer: opening, limit, offers, claims, closing. main.rt has them in order.
-ghost use Prim.Native.Nat.{_≤_};
 use crate::back;
 use crate::tell;
 use logbuffer::buffer_claim;
@@ -73,33 +72,17 @@ pub fn offer(name: u8, rec: LogRecord, log: &mut [u8], message: &[u8]) -> LogRec
     next
 }
 
-fn least(a: usize, b: usize) -> usize
-    ensures { λ r. ⌜ (r ≤ a) × (r ≤ b) ⌝ }
-{
-    if a < b { a } else { b }
-}
-
-// As many bytes as both have.
-fn copy(to: &mut [u8], from: &[u8]) {
-    let n = least(to.len(), from.len());
-    let mut k = 0;
-    while k < n {
-        to[k] = from[k];
-        k += 1;
-    }
-}
-
 // A text, then dots.
 fn page(text: &[u8]) -> [u8; 8193] {
     let mut bytes = [b'.'; 8193];
-    copy(&mut bytes, text);
+    support::copy(&mut bytes, text);
     bytes
 }
 
 // A message of n bytes, at most 8193, that begins with a text.
 pub fn long_offer(name: u8, rec: LogRecord, log: &mut [u8], text: &[u8], n: usize) -> LogRecord {
     let message = page(text);
-    offer(name, rec, log, tell::part(&message, 0, n))
+    offer(name, rec, log, support::part(&message, 0, n))
 }
 
 pub fn claim(name: u8, rec: LogRecord, log: &mut [u8], n: i32) -> ClaimReply {
@@ -123,8 +106,8 @@ pub fn write(name: u8, rec: LogRecord, log: &mut [u8], claimed: Claimed, text: &
     tell::writer(name, b" writes");
     tell::quoted(text);
     let body = buffer_claim::body(rec, log, claim);
-    let n = least(body.len(), text.len());
-    copy(body, text);
+    let n = support::least(body.len(), text.len());
+    support::copy(body, text);
     tell::put(b" into the claim: ");
     tell::number(n);
     tell::line(b" bytes");

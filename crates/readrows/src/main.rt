@@ -4,7 +4,6 @@ use image::BlockReply;
 use image::Image;
 use image::ImageReply;
 use image::PollReply;
-use libc::STDOUT_FILENO;
 use logbuffer::cast;
 use logbuffer::errors;
 use model::BlockPolled;
@@ -15,13 +14,9 @@ use model::Outcome;
 use model::Peeked;
 use model::Polled;
 
-fn text(bytes: &[u8]) {
-    io::write_all(STDOUT_FILENO, bytes);
-}
-
 fn put(n: usize) {
-    text(b" ");
-    io::print_decimal(STDOUT_FILENO, n as u64);
+    io::write_all(1, b" ");
+    io::print_decimal(1, n as u64);
 }
 
 fn refused(e: Error) {
@@ -29,23 +24,23 @@ fn refused(e: Error) {
 }
 
 fn position(i: Image) {
-    text(b" | at");
+    io::write_all(1, b" | at");
     put(cast::long(i.position));
 }
 
 fn show_entries(entries: &[i32]) {
-    text(b" | entries");
+    io::write_all(1, b" | entries");
     if entries.len() >= 4 {
         put(cast::word(entries[0]));
         put(cast::word(entries[1]));
         put(cast::word(entries[2]));
         put(cast::word(entries[3]));
     }
-    text(b"\n");
+    io::write_all(1, b"\n");
 }
 
 fn show_poll(name: &[u8], r: PollReply, entries: &[i32]) {
-    text(name);
+    io::write_all(1, name);
     let answer = r.answer;
     match answer {
         Polled::Refused(e) => {
@@ -62,7 +57,7 @@ fn show_poll(name: &[u8], r: PollReply, entries: &[i32]) {
 }
 
 fn show_peek(name: &[u8], answer: Peeked, entries: &[i32]) {
-    text(name);
+    io::write_all(1, name);
     match answer {
         Peeked::Refused(e) => {
             refused(e);
@@ -77,7 +72,7 @@ fn show_peek(name: &[u8], answer: Peeked, entries: &[i32]) {
 }
 
 fn show_block(name: &[u8], r: BlockReply) {
-    text(name);
+    io::write_all(1, name);
     let answer = r.answer;
     match answer {
         BlockPolled::Refused(e) => {
@@ -92,11 +87,11 @@ fn show_block(name: &[u8], r: BlockReply) {
         }
     }
     position(r.next);
-    text(b"\n");
+    io::write_all(1, b"\n");
 }
 
 fn show_image(name: &[u8], r: ImageReply) {
-    text(name);
+    io::write_all(1, name);
     let answer = r.answer;
     match answer {
         Outcome::Refused(e) => {
@@ -107,11 +102,11 @@ fn show_image(name: &[u8], r: ImageReply) {
         }
     }
     position(r.next);
-    text(b"\n");
+    io::write_all(1, b"\n");
 }
 
 fn show_end(name: &[u8], answer: EndOfStream) {
-    text(name);
+    io::write_all(1, name);
     match answer {
         EndOfStream::Refused(e) => {
             refused(e);
@@ -125,21 +120,17 @@ fn show_end(name: &[u8], answer: EndOfStream) {
             }
         }
     }
-    text(b"\n");
+    io::write_all(1, b"\n");
 }
 
-// A frame of less than 256 bytes in term 7, its header written byte by byte.
+// The header of a frame of less than 256 bytes in term 7.
 fn frame(log: &mut [u8], at: usize, length: u8, flags: u8, kind: u8) {
-    if log.len() < 32 {
-        return;
-    }
-    if at > log.len() - 32 {
-        return;
-    }
-    log[at] = length;
-    log[at + 5] = flags;
-    log[at + 6] = kind;
-    log[at + 20] = 7;
+    let mut header = [0u8; 32];
+    header[0] = length;
+    header[5] = flags;
+    header[6] = kind;
+    header[20] = 7;
+    support::put(log, at, &header);
 }
 
 // Term 7 is the first; its tail is at 224, where the stream ends.

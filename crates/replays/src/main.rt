@@ -3,8 +3,10 @@
 // offered and committed, in order; refused offers and aborted claims leave none, and an open claim hides what lies behind it. Then the count,
 // and a replay whose lent buffer has parts of one byte: 18.
 use logbuffer::buffer_claim;
+use logbuffer::cast;
 use logbuffer::errors;
 use model::Claim;
+use model::ClaimReply;
 use model::Claimed;
 use model::Error;
 use model::LogRecord;
@@ -16,39 +18,25 @@ use publication::positions;
 use replay::Counted;
 use replay::Replay;
 
-fn plain(v: i64) -> u64 {
-    if v < 0 {
-        return 0;
-    }
-    v as u64
-}
-
-fn small(v: i32) -> u64 {
-    if v < 0 {
-        return 0;
-    }
-    v as u64
-}
-
 // A call's line: its refusal's number, 0 for none, and its position.
-fn line(name: &[u8], number: u64, value: u64) {
+fn line(name: &[u8], number: usize, value: usize) {
     io::write_all(1, name);
     io::write_all(1, b": number ");
-    io::print_decimal(1, number);
+    io::print_decimal(1, number as u64);
     io::write_all(1, b", position ");
-    io::print_decimal(1, value);
+    io::print_decimal(1, value as u64);
     io::write_all(1, b"\n");
 }
 
 fn refused(name: &[u8], e: Error) {
-    line(name, small(errors::number(e)), 0);
+    line(name, cast::word(errors::number(e)), 0);
 }
 
 fn offer(name: &[u8], rec: LogRecord, log: &mut [u8], message: &[u8]) -> LogRecord {
     let reply = publication::offer(rec, log, message, 0);
     let answer = reply.answer;
     match answer {
-        Offered::Position(p) => line(name, 0, plain(p)),
+        Offered::Position(p) => line(name, 0, cast::long(p)),
         Offered::Refused(e) => refused(name, e),
     }
     reply.next
@@ -69,48 +57,29 @@ fn fill(rec: LogRecord, log: &mut [u8], claim: Claim) {
     }
 }
 
-fn claim_and_commit(name: &[u8], rec: LogRecord, log: &mut [u8], n: i32) -> LogRecord {
-    let reply = publication::try_claim(rec, log, n);
-    let next = reply.next;
-    let answer = reply.answer;
-    if let Claimed::Position(p, claim) = answer {
-        line(name, 0, plain(p));
-        fill(next, log, claim);
-        done(b"commit", buffer_claim::commit(next, log, claim));
-    }
-    next
-}
-
-fn claim_and_abort(name: &[u8], rec: LogRecord, log: &mut [u8], n: i32) -> LogRecord {
-    let reply = publication::try_claim(rec, log, n);
-    let next = reply.next;
-    let answer = reply.answer;
-    if let Claimed::Position(p, claim) = answer {
-        line(name, 0, plain(p));
-        fill(next, log, claim);
-        done(b"abort", buffer_claim::abort(next, log, claim));
-    }
-    next
-}
-
-fn claim_left_open(name: &[u8], rec: LogRecord, log: &mut [u8], n: i32) -> LogRecord {
+fn claim(name: &[u8], rec: LogRecord, log: &mut [u8], n: i32) -> ClaimReply {
     let reply = publication::try_claim(rec, log, n);
     let answer = reply.answer;
     match answer {
-        Claimed::Position(p, _) => line(name, 0, plain(p)),
+        Claimed::Position(p, _) => line(name, 0, cast::long(p)),
         Claimed::Refused(e) => refused(name, e),
     }
-    reply.next
+    reply
 }
 
-fn with_limit(rec: LogRecord, limit: i64) -> LogRecord {
-    let reply = positions::set_publication_limit(rec, limit);
-    reply.next
-}
-
-fn closed(rec: LogRecord) -> LogRecord {
-    let reply = positions::close(rec);
-    reply.next
+// The claim filled, and committed or aborted.
+fn finish(reply: ClaimReply, log: &mut [u8], commit: bool) -> LogRecord {
+    let next = reply.next;
+    let answer = reply.answer;
+    if let Claimed::Position(_, claim) = answer {
+        fill(next, log, claim);
+        if commit {
+            done(b"commit", buffer_claim::commit(next, log, claim));
+        } else {
+            done(b"abort", buffer_claim::abort(next, log, claim));
+        }
+    }
+    next
 }
 
 // Small messages, claims, and offers that a limit refuses.
@@ -121,19 +90,24 @@ fn small_calls(rec: LogRecord, log: &mut [u8]) -> LogRecord {
 }
 
 fn claim_calls(rec: LogRecord, log: &mut [u8]) -> LogRecord {
-    let a = claim_and_commit(b"claim 20", rec, log, 20);
-    claim_and_abort(b"claim 30", a, log, 30)
+    let a = finish(claim(b"claim 20", rec, log, 20), log, true);
+    finish(claim(b"claim 30", a, log, 30), log, false)
 }
 
 fn refused_calls(rec: LogRecord, log: &mut [u8]) -> LogRecord {
     let message = [2u8; 8193];
     let a = offer(
         b"offer 64, limit 0",
-        with_limit(rec, 0),
+        positions::set_publication_limit(rec, 0).next,
         log,
         &message[..64],
     );
-    let b = offer(b"offer 0", with_limit(a, 1099511627776), log, &message[..0]);
+    let b = offer(
+        b"offer 0",
+        positions::set_publication_limit(a, 1099511627776).next,
+        log,
+        &message[..0],
+    );
     offer(b"offer 8193", b, log, &message)
 }
 
@@ -149,33 +123,21 @@ fn long_calls(rec: LogRecord, log: &mut [u8], value: u8) -> LogRecord {
 // Nothing from an open claim on comes back.
 fn open_calls(rec: LogRecord, log: &mut [u8]) -> LogRecord {
     let message = [8u8; 10];
-    let a = claim_left_open(b"claim 10, left open", rec, log, 10);
-    offer(b"offer 10", a, log, &message)
-}
-
-// The byte i behind an index; 0 past the end.
-fn byte_at(bytes: &[u8], from: usize, i: usize) -> u64 {
-    let n = bytes.len();
-    if from >= n {
-        return 0;
-    }
-    if i >= n - from {
-        return 0;
-    }
-    let b = bytes[from + i] as usize;
-    b as u64
+    let open = claim(b"claim 10, left open", rec, log, 10);
+    offer(b"offer 10", open.next, log, &message)
 }
 
 fn message(place: u64, bytes: &[u8], from: usize, n: usize) {
+    let body = support::part(bytes, from, n);
     io::write_all(1, b"message: in ");
     io::print_decimal(1, place);
     io::write_all(1, b", length ");
     io::print_decimal(1, n as u64);
     if n > 0 {
         io::write_all(1, b", from ");
-        io::print_decimal(1, byte_at(bytes, from, 0));
+        io::print_decimal(1, support::byte(body, 0) as u64);
         io::write_all(1, b" to ");
-        io::print_decimal(1, byte_at(bytes, from, n - 1));
+        io::print_decimal(1, support::byte(body, n - 1) as u64);
     }
     io::write_all(1, b"\n");
 }
@@ -232,13 +194,18 @@ fn count_all(rec: LogRecord, log: &[u8]) {
 fn main() {
     let mut log = [0u8; 196608];
     let opened = opening::open_log(&mut log, 65536, 96, 7, 11, 12);
-    let a = with_limit(opened.next, 1099511627776);
+    let a = positions::set_publication_limit(opened.next, 1099511627776).next;
     let b = small_calls(a, &mut log);
     let c = refused_calls(claim_calls(b, &mut log), &mut log);
     let d = long_calls(long_calls(c, &mut log, 4), &mut log, 5);
     let e = long_calls(long_calls(d, &mut log, 6), &mut log, 7);
     let f = open_calls(e, &mut log);
-    let g = offer(b"offer 10, closed", closed(f), &mut log, &[8u8; 10]);
+    let g = offer(
+        b"offer 10, closed",
+        positions::close(f).next,
+        &mut log,
+        &[8u8; 10],
+    );
     replay_all(g, &log);
     count_all(g, &log);
     short_buffer(g, &log);

@@ -16,9 +16,7 @@ use publication::positions;
 // An empty log of 65,536 bytes a term, mtu 96, initial id 7, with a large limit.
 fn fresh(log: &mut [u8]) -> LogRecord {
     let opened = opening::open_log(log, 65536, 96, 7, 11, 12);
-    let rec = opened.next;
-    let limited = positions::set_publication_limit(rec, 1099511627776);
-    limited.next
+    positions::set_publication_limit(opened.next, 1099511627776).next
 }
 
 // The raw tail of partition 0 set.
@@ -26,16 +24,6 @@ fn with_tail(rec: LogRecord, raw: i64) -> LogRecord {
     let mut next = rec;
     next.tails[0] = raw;
     next
-}
-
-fn with_limit(rec: LogRecord, limit: i64) -> LogRecord {
-    let limited = positions::set_publication_limit(rec, limit);
-    limited.next
-}
-
-fn closed(rec: LogRecord) -> LogRecord {
-    let reply = positions::close(rec);
-    reply.next
 }
 
 // The marked positions: messages of 8,192 and 8,193 bytes, and a full term.
@@ -67,7 +55,7 @@ fn claims() {
     print::claimed(b"claim 65", publication::try_claim(rec, &mut log, 65));
     print::claimed(
         b"claim 65, closed",
-        publication::try_claim(closed(rec), &mut log, 65),
+        publication::try_claim(positions::close(rec).next, &mut log, 65),
     );
     let reply = publication::try_claim(rec, &mut log, 10);
     print::claimed(b"claim 10", reply);
@@ -98,14 +86,14 @@ fn offers() {
     let rec = fresh(&mut log);
     print::offered(
         b"offer after close",
-        publication::offer(closed(rec), &mut log, &message, 0),
+        publication::offer(positions::close(rec).next, &mut log, &message, 0),
     );
     let near = with_tail(rec, 30064836544);
     print::offered(
         b"offer 64 at 65472",
         publication::offer(near, &mut log, &message, 0),
     );
-    let none = with_limit(fresh(&mut log), 0);
+    let none = positions::set_publication_limit(fresh(&mut log), 0).next;
     print::offered(
         b"offer, limit 0",
         publication::offer(none, &mut log, &message, 0),

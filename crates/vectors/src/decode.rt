@@ -1,5 +1,5 @@
 // A vector's parts, out of the bytes of the file; main.rt says how they lie. Nothing here asks anything of the bytes: what lies past
-// their end reads as 0, and what is too long is empty.
+// their end reads as 0 or is cut off.
 ghost use Prim.Native.Nat.{_<_};
 use crate::values;
 use logbuffer::cast;
@@ -19,6 +19,7 @@ pub struct Vector {
     pub range_count: usize,
 }
 
+// A sum; 0 where a part of it is too large.
 pub fn plus(a: usize, b: usize) -> usize {
     if a >= 4294967296 {
         return 0;
@@ -29,41 +30,19 @@ pub fn plus(a: usize, b: usize) -> usize {
     a + b
 }
 
-// The bytes of n numbers, and of n fields.
-pub fn longs(n: usize) -> usize {
-    if n >= 65536 {
+// Where the k-th of the numbers of eight bytes that begin at `start` lies.
+pub fn place(start: usize, k: usize) -> usize {
+    if k >= 65536 {
         return 0;
     }
-    8 * n
+    plus(start, 8 * k)
 }
 
-pub fn nines(n: usize) -> usize {
-    if n >= 65536 {
-        return 0;
-    }
-    9 * n
-}
-
-fn wide(b: u8) -> usize
-    ensures { λ r. ⌜ r < 256 ⌝ }
-{
-    b as usize
-}
-
-// The byte at an index, and the little-endian numbers of two, four and eight bytes.
-pub fn byte(input: &[u8], at: usize) -> usize
-    ensures { λ r. ⌜ r < 256 ⌝ }
-{
-    if at >= input.len() {
-        return 0;
-    }
-    wide(input[at])
-}
-
+// The little-endian numbers of two, four and eight bytes.
 pub fn half(input: &[u8], at: usize) -> usize
     ensures { λ r. ⌜ r < 65536 ⌝ }
 {
-    byte(input, at) + 256 * byte(input, plus(at, 1))
+    support::byte(input, at) + 256 * support::byte(input, plus(at, 1))
 }
 
 pub fn word(input: &[u8], at: usize) -> usize
@@ -76,28 +55,17 @@ pub fn long(input: &[u8], at: usize) -> i64 {
     cast::to_i64(word(input, at) + 4294967296 * word(input, plus(at, 4)))
 }
 
-// The bytes from an index on; none where they are not all there.
-pub fn part(bytes: &[u8], at: usize, n: usize) -> &[u8] {
-    if at > bytes.len() {
-        return &bytes[0..0];
-    }
-    if n > bytes.len() - at {
-        return &bytes[0..0];
-    }
-    &bytes[at..at + n]
-}
-
 pub fn vector_at(input: &[u8], at: usize) -> Vector {
     let arguments = plus(at, 10);
-    let results = plus(arguments, longs(byte(input, plus(at, 1))));
-    let result_count = byte(input, plus(at, 2));
-    let fields = plus(results, longs(result_count));
-    let field_count = byte(input, plus(at, 3));
-    let payload = plus(fields, nines(field_count));
+    let results = plus(arguments, 8 * support::byte(input, plus(at, 1)));
+    let result_count = support::byte(input, plus(at, 2));
+    let fields = plus(results, 8 * result_count);
+    let field_count = support::byte(input, plus(at, 3));
+    let payload = plus(fields, 9 * field_count);
     let payload_length = half(input, plus(at, 4));
     Vector {
-        kind: byte(input, at),
-        source: byte(input, plus(at, 8)),
+        kind: support::byte(input, at),
+        source: support::byte(input, plus(at, 8)),
         arguments: arguments,
         results: results,
         result_count: result_count,
@@ -112,7 +80,7 @@ pub fn vector_at(input: &[u8], at: usize) -> Vector {
 
 // The k-th argument; its low 32 bits as a signed number; as a number that is not below 0.
 pub fn argument(v: Vector, input: &[u8], k: usize) -> i64 {
-    long(input, plus(v.arguments, longs(k)))
+    long(input, place(v.arguments, k))
 }
 
 pub fn int(v: Vector, input: &[u8], k: usize) -> i32 {
@@ -128,5 +96,5 @@ pub fn flag(v: Vector, input: &[u8], k: usize) -> bool {
 }
 
 pub fn payload(v: Vector, input: &[u8]) -> &[u8] {
-    part(input, v.payload, v.payload_length)
+    support::part(input, v.payload, v.payload_length)
 }

@@ -51,66 +51,11 @@ fn polled(reply: PollReply) -> Values {
     }
 }
 
-fn poll(v: Vector, input: &[u8], rec: LogRecord, log: &[u8], entries: &mut [i32]) -> Values {
-    let n = reading::slots(v, input, 4, entries.len());
-    let limit = decode::int(v, input, 5);
-    let image = image_of(v, input);
-    let reply = image.poll(rec, log, &mut entries[0..n], limit);
-    polled(reply)
-}
-
-fn bounded_poll(
-    v: Vector,
-    input: &[u8],
-    rec: LogRecord,
-    log: &[u8],
-    entries: &mut [i32],
-) -> Values {
-    let n = reading::slots(v, input, 4, entries.len());
-    let limit = decode::int(v, input, 5);
-    let bound = decode::argument(v, input, 6);
-    let image = image_of(v, input);
-    let reply = image.bounded_poll(rec, log, &mut entries[0..n], bound, limit);
-    polled(reply)
-}
-
-// The actions are the payload.
-fn controlled_poll(
-    v: Vector,
-    input: &[u8],
-    rec: LogRecord,
-    log: &[u8],
-    entries: &mut [i32],
-) -> Values {
-    let n = reading::slots(v, input, 4, entries.len());
-    let limit = decode::int(v, input, 5);
-    let actions = decode::payload(v, input);
-    let image = image_of(v, input);
-    let reply = image.controlled_poll(rec, log, &mut entries[0..n], actions, limit);
-    polled(reply)
-}
-
 fn peeked(answer: Peeked) -> Values {
     match answer {
-        Peeked::Position(p, m) => values::four(0, p, values::count(m), values::UNTOUCHED),
+        Peeked::Position(p, m) => values::three(0, p, values::count(m)),
         Peeked::Refused(e) => values::refused(e),
     }
-}
-
-fn controlled_peek(
-    v: Vector,
-    input: &[u8],
-    rec: LogRecord,
-    log: &[u8],
-    entries: &mut [i32],
-) -> Values {
-    let n = reading::slots(v, input, 4, entries.len());
-    let start = decode::argument(v, input, 5);
-    let bound = decode::argument(v, input, 6);
-    let actions = decode::payload(v, input);
-    let image = image_of(v, input);
-    let answer = image.controlled_peek(rec, log, &mut entries[0..n], actions, start, bound);
-    peeked(answer)
 }
 
 // The block's four numbers stand in the places of entries.
@@ -158,13 +103,21 @@ fn run_short(v: Vector, input: &[u8], rec: LogRecord, log: &[u8]) -> Values {
     }
 }
 
+// Argument 4 says how many entries are lent, 5 is the limit or a peek's start, 6 the bound. The actions are the payload.
 fn run_entries(v: Vector, input: &[u8], rec: LogRecord, log: &[u8], entries: &mut [i32]) -> Values {
+    let image = image_of(v, input);
+    let n = reading::slots(v, input, 4, entries.len());
+    let lent = &mut entries[0..n];
+    let limit = decode::int(v, input, 5);
+    let start = decode::argument(v, input, 5);
+    let bound = decode::argument(v, input, 6);
+    let actions = decode::payload(v, input);
     let kind = v.kind;
     match kind {
-        kinds::POLL => poll(v, input, rec, log, entries),
-        kinds::BOUNDED_POLL => bounded_poll(v, input, rec, log, entries),
-        kinds::CONTROLLED_POLL => controlled_poll(v, input, rec, log, entries),
-        _ => controlled_peek(v, input, rec, log, entries),
+        kinds::POLL => polled(image.poll(rec, log, lent, limit)),
+        kinds::BOUNDED_POLL => polled(image.bounded_poll(rec, log, lent, bound, limit)),
+        kinds::CONTROLLED_POLL => polled(image.controlled_poll(rec, log, lent, actions, limit)),
+        _ => peeked(image.controlled_peek(rec, log, lent, actions, start, bound)),
     }
 }
 

@@ -26,6 +26,24 @@ pub struct Stepped {
     pub values: Values,
 }
 
+impl Joined {
+    fn new(next: FragmentAssembler, got: Values) -> Joined {
+        Joined {
+            assembler: next,
+            values: got,
+        }
+    }
+}
+
+impl Stepped {
+    fn new(next: Replay, got: Values) -> Stepped {
+        Stepped {
+            replay: next,
+            values: got,
+        }
+    }
+}
+
 // The first index of a partition, in terms of 65,536 bytes.
 fn base(partition: usize) -> usize {
     if partition > 2 {
@@ -34,13 +52,23 @@ fn base(partition: usize) -> usize {
     partition * 65536
 }
 
-fn message(place: i64, start: usize, n: usize, same: bool) -> Values {
-    values::more(
-        values::four(0, place, values::count(start), values::count(n)),
+// A message: n bytes of the log (place 1) or of the buffer (place 2), from an index on.
+fn message(
+    v: Vector,
+    input: &[u8],
+    place: i64,
+    start: usize,
+    bytes: &[u8],
+    from: usize,
+    n: usize,
+) -> Values {
+    let same = check::same(support::part(bytes, from, n), decode::payload(v, input));
+    values::five(
+        0,
+        place,
+        values::count(start),
+        values::count(n),
         values::truth(same),
-        values::UNTOUCHED,
-        values::UNTOUCHED,
-        values::UNTOUCHED,
     )
 }
 
@@ -49,16 +77,13 @@ fn none() -> Values {
 }
 
 fn assembled(v: Vector, input: &[u8], log: &[u8], buffer: &[u8], answer: Assembled) -> Values {
-    let payload = decode::payload(v, input);
     match answer {
         Assembled::Nothing => none(),
         Assembled::Fragment(at, n) => {
             let from = decode::plus(base(decode::size(v, input, 0)), at);
-            message(1, at, n, check::same(decode::part(log, from, n), payload))
+            message(v, input, 1, at, log, from, n)
         }
-        Assembled::Message(at, n) => {
-            message(2, 0, n, check::same(decode::part(buffer, at, n), payload))
-        }
+        Assembled::Message(at, n) => message(v, input, 2, 0, buffer, at, n),
         Assembled::Refused(e) => values::refused(e),
     }
 }
@@ -75,19 +100,12 @@ fn on_fragment(
     let partition = decode::int(v, input, 0);
     let offset = decode::int(v, input, 1);
     let reply = assembler.on_fragment(rec, log, buffer, partition, offset);
-    let next = reply.next;
     let answer = reply.answer;
-    Joined {
-        assembler: next,
-        values: assembled(v, input, log, buffer, answer),
-    }
+    Joined::new(reply.next, assembled(v, input, log, buffer, answer))
 }
 
 fn fresh(number: i64) -> Joined {
-    Joined {
-        assembler: FragmentAssembler::new(),
-        values: values::one(number),
-    }
+    Joined::new(FragmentAssembler::new(), values::one(number))
 }
 
 pub fn assemble(
@@ -110,15 +128,10 @@ pub fn assemble(
 }
 
 fn replayed(v: Vector, input: &[u8], log: &[u8], buffer: &[u8], answer: Replayed) -> Values {
-    let payload = decode::payload(v, input);
     match answer {
         Replayed::End => none(),
-        Replayed::InLog(from, n) => {
-            message(1, from, n, check::same(decode::part(log, from, n), payload))
-        }
-        Replayed::InBuffer(from, n) => {
-            message(2, 0, n, check::same(decode::part(buffer, from, n), payload))
-        }
+        Replayed::InLog(from, n) => message(v, input, 1, from, log, from, n),
+        Replayed::InBuffer(from, n) => message(v, input, 2, 0, buffer, from, n),
         Replayed::Refused(e) => values::refused(e),
     }
 }
@@ -132,21 +145,16 @@ fn next(
     buffer: &mut [u8],
 ) -> Stepped {
     let reply = replay.next(rec, log, buffer);
-    let after = reply.next;
     let answer = reply.answer;
-    Stepped {
-        replay: after,
-        values: replayed(v, input, log, buffer, answer),
-    }
+    Stepped::new(reply.next, replayed(v, input, log, buffer, answer))
 }
 
 fn count(v: Vector, input: &[u8], rec: LogRecord, log: &[u8], buffer: &mut [u8]) -> Values {
     match replay::count(rec, log, buffer, decode::int(v, input, 0)) {
-        Counted::Counts(messages, bytes) => values::four(
+        Counted::Counts(messages, bytes) => values::three(
             0,
             values::count(messages),
             values::count(bytes),
-            values::UNTOUCHED,
         ),
         Counted::Refused(e) => values::refused(e),
     }
@@ -164,17 +172,11 @@ fn advance(
     if kind == kinds::REPLAY_NEXT {
         return next(v, input, replay, rec, log, buffer);
     }
-    Stepped {
-        replay: replay,
-        values: count(v, input, rec, log, buffer),
-    }
+    Stepped::new(replay, count(v, input, rec, log, buffer))
 }
 
 fn started(number: i64, session: i32) -> Stepped {
-    Stepped {
-        replay: Replay::new(session),
-        values: values::one(number),
-    }
+    Stepped::new(Replay::new(session), values::one(number))
 }
 
 pub fn step(

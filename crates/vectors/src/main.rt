@@ -67,7 +67,7 @@ fn expect_opening(v: Vector, input: &[u8], rest: &mut [u8]) {
     let kind = v.kind;
     if kind == kinds::OPEN_LOG {
         if values::result(v, input, 0) == 0 {
-            patch::zero(rest, 196608);
+            support::copy(rest, &[0u8; 196608]);
         }
     }
 }
@@ -104,7 +104,7 @@ fn judge_log(v: Vector, wrong: usize, log: &[u8], rest: &[u8]) -> usize {
     if !run::writes(v) {
         return 0;
     }
-    if check::same(log, decode::part(rest, 0, 196608)) {
+    if check::same(log, support::part(rest, 0, 196608)) {
         0
     } else {
         3
@@ -161,10 +161,11 @@ fn replay_list(input: &[u8], log: &mut [u8], rest: &mut [u8]) -> Course {
 
 fn tell(input: &[u8], end: Course) {
     report::lines(input, end.tally);
+    report::totals(end.tally);
     if end.wrong == 0 {
         report::none_differ();
     } else {
-        report::differs(input, report::count(end.tally), end.kind, end.wrong);
+        report::differs(input, end.tally.agreed, end.kind, end.wrong);
     }
 }
 

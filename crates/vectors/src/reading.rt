@@ -52,14 +52,7 @@ fn header_fields(v: Vector, input: &[u8], rec: LogRecord, log: &[u8]) -> Values 
 
 fn term_read(answer: TermRead) -> Values {
     match answer {
-        TermRead::Outcome(offset, n) => {
-            values::four(
-                0,
-                values::count(offset),
-                values::count(n),
-                values::UNTOUCHED,
-            )
-        }
+        TermRead::Outcome(offset, n) => values::three(0, values::count(offset), values::count(n)),
         TermRead::Refused(e) => values::refused(e),
     }
 }
@@ -68,8 +61,7 @@ fn term_read(answer: TermRead) -> Values {
 pub fn slots(v: Vector, input: &[u8], k: usize, most: usize) -> usize
     ensures { λ r. ⌜ r ≤ most ⌝ }
 {
-    let n = decode::size(v, input, k);
-    if n > most { most } else { n }
+    support::least(decode::size(v, input, k), most)
 }
 
 fn read_into(v: Vector, input: &[u8], rec: LogRecord, log: &[u8], entries: &mut [i32]) -> Values {
@@ -109,14 +101,14 @@ fn scan(v: Vector, input: &[u8], rec: LogRecord, log: &[u8]) -> Values {
 // A gap is told with its term id, offset and length; where there is none, the offset alone.
 fn gap(answer: GapScanned) -> Values {
     match answer {
-        GapScanned::Gap(id, at, n) => values::more(
-            values::four(0, 1, values::count(at), values::count(n)),
+        GapScanned::Gap(id, at, n) => values::five(
+            0,
+            1,
+            values::count(at),
+            values::count(n),
             values::wide(id),
-            values::UNTOUCHED,
-            values::UNTOUCHED,
-            values::UNTOUCHED,
         ),
-        GapScanned::NoGap(at) => values::four(0, 0, values::count(at), values::UNTOUCHED),
+        GapScanned::NoGap(at) => values::three(0, 0, values::count(at)),
         GapScanned::Refused(e) => values::refused(e),
     }
 }

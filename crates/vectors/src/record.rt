@@ -47,13 +47,14 @@ pub fn record_of(f: Fields) -> LogRecord {
 pub fn changed(v: Vector, input: &[u8], from: Fields) -> Fields {
     let mut at = from.at;
     let n = v.field_count;
+    let mut place = v.fields;
     let mut k = 0;
     while k < n {
-        let place = decode::plus(v.fields, decode::nines(k));
-        let field = decode::byte(input, place);
+        let field = support::byte(input, place);
         if field < 13 {
             at[field] = decode::long(input, decode::plus(place, 1));
         }
+        place = decode::plus(place, 9);
         k += 1;
     }
     Fields { at: at }

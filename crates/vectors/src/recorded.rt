@@ -11,25 +11,21 @@ use model::LogRecord;
 use model::RecordReply;
 use publication::positions;
 
-fn ran(reply: RecordReply) -> Ran {
-    let next = reply.next;
+fn changed(reply: RecordReply) -> Ran {
     let answer = reply.answer;
-    Ran {
-        next: next,
-        values: values::done(answer),
-    }
+    Ran::new(reply.next, values::done(answer))
 }
 
 // Limit change, close and rotation, which hand out the next record.
 pub fn change(v: Vector, input: &[u8], rec: LogRecord) -> Ran {
     let kind = v.kind;
     match kind {
-        kinds::SET_PUBLICATION_LIMIT => ran(positions::set_publication_limit(
+        kinds::SET_PUBLICATION_LIMIT => changed(positions::set_publication_limit(
             rec,
             decode::argument(v, input, 0),
         )),
-        kinds::CLOSE => ran(positions::close(rec)),
-        _ => ran(log_buffer_descriptor::rotate_log(
+        kinds::CLOSE => changed(positions::close(rec)),
+        _ => changed(log_buffer_descriptor::rotate_log(
             rec,
             decode::int(v, input, 0),
             decode::int(v, input, 1),
@@ -48,7 +44,7 @@ pub fn ask(v: Vector, rec: LogRecord) -> Values {
 
 // The low 32 bits of an argument.
 fn low(v: Vector, input: &[u8], k: usize) -> u32 {
-    decode::word(input, decode::plus(v.arguments, decode::longs(k))) as u32
+    decode::word(input, decode::place(v.arguments, k)) as u32
 }
 
 fn position(v: Vector, input: &[u8]) -> Values {

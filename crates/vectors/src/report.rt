@@ -1,18 +1,12 @@
 // The lines that the program writes: for each kind how many vectors agreed, or which was the first that did not.
 use crate::decode;
 
-// How many vectors of each kind agreed, and how many of them are document 01's.
+// How many vectors of each kind agreed, and how many of them are document 01's; and so of all.
 pub struct Tally {
     pub all: [usize; 48],
     pub given: [usize; 48],
-}
-
-fn text(bytes: &[u8]) {
-    io::write_all(1, bytes);
-}
-
-fn put(n: usize) {
-    io::print_decimal(1, n as u64);
+    pub agreed: usize,
+    pub documents: usize,
 }
 
 // The file's head has a name of up to 23 bytes for each kind, its length before it.
@@ -21,8 +15,8 @@ fn name(input: &[u8], kind: usize) {
         return;
     }
     let at = decode::plus(8, 24 * kind);
-    let n = decode::byte(input, at);
-    text(decode::part(input, decode::plus(at, 1), n));
+    let n = support::byte(input, at);
+    io::write_all(1, support::part(input, decode::plus(at, 1), n));
 }
 
 fn add(counts: [usize; 48], kind: usize, n: usize) -> [usize; 48] {
@@ -37,6 +31,8 @@ pub fn empty() -> Tally {
     Tally {
         all: [0; 48],
         given: [0; 48],
+        agreed: 0,
+        documents: 0,
     }
 }
 
@@ -46,6 +42,8 @@ pub fn agreed(tally: Tally, kind: usize, source: usize) -> Tally {
     Tally {
         all: add(all, kind, 1),
         given: add(given, kind, source),
+        agreed: decode::plus(tally.agreed, 1),
+        documents: decode::plus(tally.documents, source),
     }
 }
 
@@ -54,31 +52,15 @@ fn line(input: &[u8], kind: usize, all: usize, given: usize) {
         return;
     }
     name(input, kind);
-    text(b": ");
-    put(all);
-    text(b" agree");
+    io::write_all(1, b": ");
+    io::print_decimal(1, all as u64);
+    io::write_all(1, b" agree");
     if given > 0 {
-        text(b", ");
-        put(given);
-        text(b" of them document 01's");
+        io::write_all(1, b", ");
+        io::print_decimal(1, given as u64);
+        io::write_all(1, b" of them document 01's");
     }
-    text(b"\n");
-}
-
-fn total(counts: [usize; 48]) -> usize {
-    let mut sum = 0;
-    let mut k = 0;
-    while k < 48 {
-        sum = decode::plus(sum, counts[k]);
-        k += 1;
-    }
-    sum
-}
-
-// How many agreed in all.
-pub fn count(tally: Tally) -> usize {
-    let all = tally.all;
-    total(all)
+    io::write_all(1, b"\n");
 }
 
 pub fn lines(input: &[u8], tally: Tally) {
@@ -89,25 +71,34 @@ pub fn lines(input: &[u8], tally: Tally) {
         line(input, k, all[k], given[k]);
         k += 1;
     }
-    put(total(all));
-    text(b" agree, ");
-    put(total(given));
-    text(b" of them document 01's\n");
+}
+
+pub fn totals(tally: Tally) {
+    io::print_decimal(1, tally.agreed as u64);
+    io::write_all(1, b" agree, ");
+    io::print_decimal(1, tally.documents as u64);
+    io::write_all(1, b" of them document 01's\n");
 }
 
 // What differs: 1 the answer, 2 the record, 3 the log.
 pub fn differs(input: &[u8], index: usize, kind: usize, what: usize) {
-    text(b"vector ");
-    put(index);
-    text(b", ");
+    io::write_all(1, b"vector ");
+    io::print_decimal(1, index as u64);
+    io::write_all(1, b", ");
     name(input, kind);
     match what {
-        1 => text(b": the answer differs\n"),
-        2 => text(b": the record differs\n"),
-        _ => text(b": the log differs\n"),
+        1 => {
+            io::write_all(1, b": the answer differs\n");
+        }
+        2 => {
+            io::write_all(1, b": the record differs\n");
+        }
+        _ => {
+            io::write_all(1, b": the log differs\n");
+        }
     }
 }
 
 pub fn none_differ() {
-    text(b"0 differ\n");
+    io::write_all(1, b"0 differ\n");
 }

@@ -29,57 +29,43 @@ pub struct Answered {
     pub values: Values,
 }
 
-fn same_port(port: Port, got: Values) -> Answered {
-    Answered {
-        port: port,
-        values: got,
+impl Answered {
+    fn new(port: Port, got: Values) -> Answered {
+        Answered {
+            port: port,
+            values: got,
+        }
     }
 }
 
 fn with_record(port: Port, ran: Ran) -> Answered {
     let mut next = port;
     let rec = ran.next;
-    let got = ran.values;
     next.rec = rec;
-    Answered {
-        port: next,
-        values: got,
-    }
+    Answered::new(next, ran.values)
 }
 
 fn with_assembler(port: Port, joined: Joined) -> Answered {
     let mut next = port;
     let assembler = joined.assembler;
-    let got = joined.values;
     next.assembler = assembler;
-    Answered {
-        port: next,
-        values: got,
-    }
+    Answered::new(next, joined.values)
 }
 
 fn with_replay(port: Port, stepped: Stepped) -> Answered {
     let mut next = port;
     let replay = stepped.replay;
-    let got = stepped.values;
     next.replay = replay;
-    Answered {
-        port: next,
-        values: got,
-    }
+    Answered::new(next, stepped.values)
 }
 
 // The fields written by hand are those that the vector gives.
 fn by_hand(v: Vector, port: Port, want: Fields) -> Answered {
     let kind = v.kind;
     if kind != kinds::SET_FIELDS {
-        return same_port(port, values::one(0));
+        return Answered::new(port, values::one(0));
     }
-    let ran = Ran {
-        next: record::record_of(want),
-        values: values::one(0),
-    };
-    with_record(port, ran)
+    with_record(port, Ran::new(record::record_of(want), values::one(0)))
 }
 
 fn of_record(v: Vector, input: &[u8], port: Port) -> Answered {
@@ -88,7 +74,7 @@ fn of_record(v: Vector, input: &[u8], port: Port) -> Answered {
     if kind <= kinds::ROTATE_LOG {
         return with_record(port, recorded::change(v, input, rec));
     }
-    same_port(port, recorded::ask(v, rec))
+    Answered::new(port, recorded::ask(v, rec))
 }
 
 fn of_messages(v: Vector, input: &[u8], port: Port, log: &[u8], rest: &mut [u8]) -> Answered {
@@ -111,13 +97,13 @@ fn of_log(v: Vector, input: &[u8], port: Port, want: Fields, log: &[u8]) -> Answ
         return of_record(v, input, port);
     }
     if kind <= kinds::SCAN_FOR_AVAILABILITY {
-        return same_port(port, reading::run(v, input, rec, log));
+        return Answered::new(port, reading::run(v, input, rec, log));
     }
     if kind <= kinds::CLOSE_IMAGE {
-        return same_port(port, images::run(v, input, rec, log));
+        return Answered::new(port, images::run(v, input, rec, log));
     }
     if kind <= kinds::COMPUTE_POSITION {
-        return same_port(port, recorded::number(v, input));
+        return Answered::new(port, recorded::number(v, input));
     }
     by_hand(v, port, want)
 }

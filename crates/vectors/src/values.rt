@@ -34,16 +34,15 @@ pub fn truth(b: bool) -> i64 {
 }
 
 pub fn one(a: i64) -> Values {
-    let mut row = [UNTOUCHED; 72];
-    row[0] = a;
-    Values { row: row }
+    two(a, UNTOUCHED)
 }
 
 pub fn two(a: i64, b: i64) -> Values {
-    let mut row = [UNTOUCHED; 72];
-    row[0] = a;
-    row[1] = b;
-    Values { row: row }
+    three(a, b, UNTOUCHED)
+}
+
+pub fn three(a: i64, b: i64, c: i64) -> Values {
+    four(a, b, c, UNTOUCHED)
 }
 
 pub fn four(a: i64, b: i64, c: i64, d: i64) -> Values {
@@ -53,6 +52,10 @@ pub fn four(a: i64, b: i64, c: i64, d: i64) -> Values {
     row[2] = c;
     row[3] = d;
     Values { row: row }
+}
+
+pub fn five(a: i64, b: i64, c: i64, d: i64, e: i64) -> Values {
+    more(four(a, b, c, d), e, UNTOUCHED, UNTOUCHED, UNTOUCHED)
 }
 
 // `from` with four numbers more, from place 4 on.
@@ -96,7 +99,7 @@ pub fn result(v: Vector, input: &[u8], k: usize) -> i64 {
     if k >= v.result_count {
         return UNTOUCHED;
     }
-    decode::long(input, decode::plus(v.results, decode::longs(k)))
+    decode::long(input, decode::place(v.results, k))
 }
 
 pub fn refused(e: Error) -> Values {

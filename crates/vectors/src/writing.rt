@@ -2,7 +2,6 @@
 use crate::decode;
 use crate::decode::Vector;
 use crate::kinds;
-use crate::patch;
 use crate::values;
 use crate::values::Values;
 use logbuffer::buffer_claim;
@@ -21,6 +20,15 @@ pub struct Ran {
     pub values: Values,
 }
 
+impl Ran {
+    pub fn new(next: LogRecord, got: Values) -> Ran {
+        Ran {
+            next: next,
+            values: got,
+        }
+    }
+}
+
 fn open_log(v: Vector, input: &[u8], log: &mut [u8]) -> Ran {
     let reply = opening::open_log(
         log,
@@ -30,12 +38,8 @@ fn open_log(v: Vector, input: &[u8], log: &mut [u8]) -> Ran {
         decode::int(v, input, 3),
         decode::int(v, input, 4),
     );
-    let next = reply.next;
     let answer = reply.answer;
-    Ran {
-        next: next,
-        values: values::done(answer),
-    }
+    Ran::new(reply.next, values::done(answer))
 }
 
 fn offered(answer: Offered) -> Values {
@@ -48,12 +52,8 @@ fn offered(answer: Offered) -> Values {
 fn offer(v: Vector, input: &[u8], rec: LogRecord, log: &mut [u8]) -> Ran {
     let message = decode::payload(v, input);
     let reply = publication::offer(rec, log, message, decode::argument(v, input, 0));
-    let next = reply.next;
     let answer = reply.answer;
-    Ran {
-        next: next,
-        values: offered(answer),
-    }
+    Ran::new(reply.next, offered(answer))
 }
 
 // The number or tripping, a position or an offset, and the claim's record.
@@ -82,12 +82,8 @@ fn claimed(answer: Claimed) -> Values {
 
 fn try_claim(v: Vector, input: &[u8], rec: LogRecord, log: &mut [u8]) -> Ran {
     let reply = publication::try_claim(rec, log, decode::int(v, input, 0));
-    let next = reply.next;
     let answer = reply.answer;
-    Ran {
-        next: next,
-        values: claimed(answer),
-    }
+    Ran::new(reply.next, claimed(answer))
 }
 
 // A claim's record is a vector's first four arguments.
@@ -102,33 +98,24 @@ fn claim_of(v: Vector, input: &[u8]) -> Claim {
 
 fn fill(v: Vector, input: &[u8], rec: LogRecord, log: &mut [u8]) {
     let body = buffer_claim::body(rec, log, claim_of(v, input));
-    patch::copy(body, decode::payload(v, input));
+    support::copy(body, decode::payload(v, input));
 }
 
 // The payload goes into the lent body.
 fn write_body(v: Vector, input: &[u8], rec: LogRecord, log: &mut [u8]) -> Ran {
     let number = buffer_claim::body_number(rec, log, claim_of(v, input));
     fill(v, input, rec, log);
-    Ran {
-        next: rec,
-        values: values::one(values::wide(number)),
-    }
+    Ran::new(rec, values::one(values::wide(number)))
 }
 
 fn commit(v: Vector, input: &[u8], rec: LogRecord, log: &mut [u8]) -> Ran {
     let answer = buffer_claim::commit(rec, log, claim_of(v, input));
-    Ran {
-        next: rec,
-        values: values::done(answer),
-    }
+    Ran::new(rec, values::done(answer))
 }
 
 fn abort(v: Vector, input: &[u8], rec: LogRecord, log: &mut [u8]) -> Ran {
     let answer = buffer_claim::abort(rec, log, claim_of(v, input));
-    Ran {
-        next: rec,
-        values: values::done(answer),
-    }
+    Ran::new(rec, values::done(answer))
 }
 
 // An append that tripped answers -2, as in the Rust.
@@ -141,47 +128,30 @@ fn appended(answer: Appended) -> Values {
 }
 
 fn append_unfragmented(v: Vector, input: &[u8], rec: LogRecord, log: &mut [u8]) -> Ran {
-    let message = decode::payload(v, input);
-    let partition = decode::int(v, input, 0);
-    let reserved = decode::argument(v, input, 1);
-    let id = decode::int(v, input, 2);
     let reply = term_appender::append_unfragmented_message(
         rec,
         log,
-        partition,
-        message,
-        reserved,
-        id,
+        decode::int(v, input, 0),
+        decode::payload(v, input),
+        decode::argument(v, input, 1),
+        decode::int(v, input, 2),
     );
-    let next = reply.next;
     let answer = reply.answer;
-    Ran {
-        next: next,
-        values: appended(answer),
-    }
+    Ran::new(reply.next, appended(answer))
 }
 
 fn append_fragmented(v: Vector, input: &[u8], rec: LogRecord, log: &mut [u8]) -> Ran {
-    let message = decode::payload(v, input);
-    let partition = decode::int(v, input, 0);
-    let reserved = decode::argument(v, input, 1);
-    let id = decode::int(v, input, 2);
-    let limit = decode::int(v, input, 3);
     let reply = term_appender::append_fragmented_message(
         rec,
         log,
-        partition,
-        message,
-        reserved,
-        limit,
-        id,
+        decode::int(v, input, 0),
+        decode::payload(v, input),
+        decode::argument(v, input, 1),
+        decode::int(v, input, 3),
+        decode::int(v, input, 2),
     );
-    let next = reply.next;
     let answer = reply.answer;
-    Ran {
-        next: next,
-        values: appended(answer),
-    }
+    Ran::new(reply.next, appended(answer))
 }
 
 fn appended_claim(answer: AppendedClaim) -> Values {
@@ -197,12 +167,8 @@ fn append_claim(v: Vector, input: &[u8], rec: LogRecord, log: &mut [u8]) -> Ran 
     let length = decode::int(v, input, 1);
     let id = decode::int(v, input, 2);
     let reply = term_appender::claim(rec, log, partition, length, id);
-    let next = reply.next;
     let answer = reply.answer;
-    Ran {
-        next: next,
-        values: appended_claim(answer),
-    }
+    Ran::new(reply.next, appended_claim(answer))
 }
 
 pub fn run(v: Vector, input: &[u8], rec: LogRecord, log: &mut [u8]) -> Ran {

@@ -5,10 +5,10 @@ use Rattle.vectors.proofs.record.changed.Statement.{statement}
 use Rattle.vectors.proofs.record.changed.Tie as tie
 
 abbrev Inv-loop : tie.InvT-loop
-Inv-loop v input at₀ n k₀ at k = k ≤ n
+Inv-loop input at₀ n place₀ k₀ at place k = k ≤ n
 
 abbrev μ-loop : tie.MeasureT-loop
-μ-loop v input at₀ n k₀ at k = n - k
+μ-loop input at₀ n place₀ k₀ at place k = n - k
 
 pub changed-spec : {M : Type 1} → statement M
 changed-spec =
@@ -16,7 +16,6 @@ changed-spec =
     (tie.spec
     Inv-loop
     μ-loop
-    (search needs)
     (search needs)
     (search needs)
     (search needs)

@@ -5,10 +5,10 @@ use Rattle.vectors.proofs.report.lines.Statement.{statement}
 use Rattle.vectors.proofs.report.lines.Tie as tie
 
 abbrev Inv-loop : tie.InvT-loop
-Inv-loop input all given k₀ t6 t7 k = k ≤ 48
+Inv-loop input all given k₀ k = k ≤ 48
 
 abbrev μ-loop : tie.MeasureT-loop
-μ-loop input all given k₀ t6 t7 k = 48 - k
+μ-loop input all given k₀ k = 48 - k
 
 pub lines-spec : {M : Type 1} → statement M
 lines-spec =
@@ -16,14 +16,6 @@ lines-spec =
     (tie.spec
     Inv-loop
     μ-loop
-    (search needs)
-    (search needs)
-    (search needs)
-    (search needs)
-    (search needs)
-    (search needs)
-    (search needs)
-    (search needs)
     (search needs)
     (search needs)
     (search needs)
