@@ -208,10 +208,19 @@ pub fn read(
     let term = p.read.term;
     let at = p.offset;
     let base = p.partition * term;
-    match read_frames(log, base, term, term, at, most, &log[0..0], entries) {
-        FramesRead::Refused(e) => TermRead::Refused(e),
-        FramesRead::Walked(walked) => TermRead::Outcome(at + walked.moved, walked.fragments),
-    }
+    let FramesRead::Walked(walked) = read_frames(
+        log,
+        base,
+        term,
+        term,
+        at,
+        most,
+        &log[0..0],
+        entries,
+    ) else {
+        return TermRead::Refused(Error::UnsoundFrame);
+    };
+    TermRead::Outcome(at + walked.moved, walked.fragments)
 }
 
 // ---- views

@@ -1,17 +1,18 @@
 -- Rows 1 and 2 are judged at the place that is read; then `read_frames` walks, and its answer is opened.
 use mathlib.Core.Path.{_≡_, sym, ap, _∙_}
-use mathlib.Core.Bool.{Bool}
-use Prim.Native.Nat.{ℕ}
+use mathlib.Core.Bool.{Bool, true}
+use Prim.Native.Nat.{ℕ, _*_}
 use native.Mathlib.Omega.{arith}
 use borrow.Author.Needs.{needs}
 use lib.ListN.{length}
 use Rattle.model.specs.declared.Place.{Place}
+use Rattle.model.specs.declared.TermRead.the-variants.{Refused}
 use Rattle.model.specs.declared.Verdict.the-variants.{Pass}
 use Rattle.model.specs.LogBufferDescriptor.{sound, placeOf, firstRows}
-use Rattle.model.specs.TermReader.{natural, readOf, readEntries}
+use Rattle.model.specs.TermReader.{natural, goodWalk, readOf, readEntries}
 use Rattle.model.proofs.Rows.{rows-pass}
 use Rattle.model.proofs.PlaceLaws.{Placed, rows-placed}
-use Rattle.model.proofs.ReadLaws.{goodRead, readFrom, read-refused, read-goes, read-walk, frames-moved}
+use Rattle.model.proofs.ReadLaws.{goodRead, readFrom, read-refused, read-goes, read-walk, frames-refuse, frames-moved}
 use Rattle.logbuffer.proofs.term_reader.read.Statement.{statement}
 use Rattle.logbuffer.proofs.term_reader.read.Tie as tie
 
@@ -62,18 +63,25 @@ mul-base : tie.Need-mul-base
 mul-base c =
     let q = c .before .before .before in record { fits = omega (arith, place q (c .before .enum-told .given .1) .inside, st q .good) }
 
-add-t25 : tie.Need-add-t25
-add-t25 c =
-    let f = c .before .before .before .before .before in
-    let q = num f in
-    let g = rows-pass (goodRead (p q) (most q) (length (st q .args .entries .now))) (sound (p q .read) (length (st q .args .log .now))) (rows q ∙ passed f) in
-    let m = frames-moved _ _ _ _ _ _ _ _ (read-walk (p q) (length (st q .args .log .now)) (most q) (length (st q .args .entries .now)) (g .0) (g .1)) _ (sym (f .read-frames .ensures .0) ∙ c .before .before .walked .given .1) in
-    omega (arith, m, place q (passed f))
+walks : (c : tie.After-read-frames) → let q = num c in
+    goodWalk (length (st q .args .log .now)) (p q .partition * p q .read .term) (p q .read .term) (p q .read .term) (p q .offset) (most q) (length (st q .args .entries .now)) ≡ true
+walks c =
+    let q = num c in
+    let g = rows-pass (goodRead (p q) (most q) (length (st q .args .entries .now))) (sound (p q .read) (length (st q .args .log .now))) (rows q ∙ passed c) in
+    read-walk (p q) (length (st q .args .log .now)) (most q) (length (st q .args .entries .now)) (g .0) (g .1)
 
 returns-2 : tie.Need-returns-2
 returns-2 c =
-    let f = c .before .before .before .before in
-    (ap (readFrom (p (num f) .offset)) (sym (c .before .e2 .given .1)) ∙ goes f .0, goes f .1)
+    let f = c .before .before .before in
+    let told = c .enum-told2 .given .1 in
+    let u = frames-refuse _ _ _ _ _ _ _ _ (walks f) _ (sym (f .read-frames .ensures .0) ∙ told) in
+    (ap Refused (sym u) ∙ ap (readFrom (p (num f) .offset)) (sym told) ∙ goes f .0, goes f .1)
+
+add-t15 : tie.Need-add-t15
+add-t15 c =
+    let f = c .before .before .before .before .before in
+    let m = frames-moved _ _ _ _ _ _ _ _ (walks f) _ (sym (f .read-frames .ensures .0) ∙ c .before .before .walked .given .1) in
+    omega (arith, m, place (num f) (passed f))
 
 returns-3 : tie.Need-returns-3
 returns-3 c =
@@ -98,8 +106,8 @@ read-spec =
     (search needs)
     (search needs)
     (search needs)
-    add-t25
     (search needs)
     returns-2
+    add-t15
     (search needs)
     returns-3)
