@@ -26,7 +26,7 @@ use Rattle.model.specs.declared.AppendedClaim.the-variants.{Claimed}
 use Rattle.model.specs.declared.AppendClaimReply.{AppendClaimReply}
 use Rattle.model.specs.FrameDescriptor.{space}
 use Rattle.model.specs.LogBufferDescriptor.{readingOf, rawOf, withTail, changed}
-use Rattle.model.specs.TermAppender.{fragment, cut, need, written, claimed, course, bytesBy, replyBy, goodMessage, unfragmentedCourse, claimRecord, claimAppendedBy}
+use Rattle.model.specs.TermAppender.{fragment, cut, need, written, claimed, course, bytesBy, replyBy, goodMessage, goodFragments, unfragmentedCourse, fragmentedCourse, claimRecord, claimAppendedBy}
 use Rattle.model.proofs.Both.{and-true, test}
 use Rattle.model.proofs.Choice.{cond-true, cond-false, cond-case}
 use Rattle.model.proofs.Course.{the-type}
@@ -34,7 +34,7 @@ use Rattle.model.proofs.Cut.{need-one, cut-one}
 use Rattle.model.proofs.Sound.{id-small}
 use Rattle.model.proofs.Append.{Room, course-room, message-true, appendReply, appendBytes}
 use Rattle.logbuffer.specs.declared.way.Way.{Way}
-use Rattle.logbuffer.specs.Ways.{wayBy, goodAppend, courseOf, goodClaiming, claimCourse, tailAt, movedWith, replyWith, claimReplyWith, messageReply, messageBytes, claimBits}
+use Rattle.logbuffer.specs.Ways.{wayBy, goodAppend, courseOf, goodClaiming, claimCourse, tailAt, movedWith, replyWith, claimReplyWith, messageReply, messageBytes, fragmentLimit, claimBits}
 
 -- ---- what a caller makes of a way
 
@@ -245,3 +245,55 @@ module _ (r : LogRecord) (log m : List ℕ) (k z g : ℕ) where
         ap (replyBy r read k (need whole (length m))) e ∙ sym (ap (replyBy r read k (space (length m))) f),
         ap (bytesBy read k log new) e ∙ sym (ap (bytesBy read k log one) f),
       ))
+
+-- a limit that is none is refused, as all else that `goodFragments` asks is by the append
+and-one : (b : Bool) → (b && true) ≡ b
+and-one true = refl
+and-one false = refl
+
+and-none : (b : Bool) → (b && false) ≡ false
+and-none true = refl
+and-none false = refl
+
+one-fails : (a b c d e : Bool) → (b && d) ≡ false → (a && (b && (c && (d && e)))) ≡ false
+one-fails false b c d e h = refl
+one-fails true false c d e h = refl
+one-fails true true false d e h = refl
+one-fails true true true d e h = ap (λ (t : Bool). t && e) h
+
+module _ (r : LogRecord) (log m : List ℕ) (k p z g : ℕ) where
+  abbrev read· : Reading
+  read· = readingOf r k
+
+  abbrev limit : ℕ
+  limit = fragmentLimit (length m) p
+
+  -- the course is all that the two could differ in
+  by-course : (q : ℕ) → limit ≡ q → courseOf read· (length log) k q (length m) g ≡ fragmentedCourse r (length log) k (length m) p g
+      → (replyBy r read· k (need q (length m)) (fragmentedCourse r (length log) k (length m) p g) ≡ replyBy r read· k (need p (length m)) (fragmentedCourse r (length log) k (length m) p g))
+      × (bytesBy read· k log (written read· log (k * read· .term) (read· .offset) (cut q z m)) (fragmentedCourse r (length log) k (length m) p g)
+      ≡ bytesBy read· k log (written read· log (k * read· .term) (read· .offset) (cut p z m)) (fragmentedCourse r (length log) k (length m) p g))
+      → (messageReply r log k limit m g ≡ replyBy r read· k (need p (length m)) (fragmentedCourse r (length log) k (length m) p g))
+      × (messageBytes r log k limit m z g ≡ bytesBy read· k log (written read· log (k * read· .term) (read· .offset) (cut p z m)) (fragmentedCourse r (length log) k (length m) p g))
+  by-course q eq ec same = (
+    ap (λ (y : ℕ). messageReply r log k y m g) eq ∙ ap (replyBy r read· k (need q (length m))) ec ∙ same .0,
+    ap (λ (y : ℕ). messageBytes r log k y m z g) eq ∙ ap (bytesBy read· k log (written read· log (k * read· .term) (read· .offset) (cut q z m))) ec ∙ same .1,
+  )
+
+  pub fragmented-is : (messageReply r log k limit m g ≡ replyBy r read· k (need p (length m)) (fragmentedCourse r (length log) k (length m) p g))
+      × (messageBytes r log k limit m z g ≡ bytesBy read· k log (written read· log (k * read· .term) (read· .offset) (cut p z m)) (fragmentedCourse r (length log) k (length m) p g))
+  unfolding courseOf fragmentedCourse
+  fragmented-is =
+      test (leb 1 (length m) && leb p 2147483647)
+      (λ h.
+      let q = and-true (leb 1 (length m)) _ h in
+      let l : p ≤ 2147483648 = omega (arith, leb-true p 2147483647 (q .1)) in
+      let e : goodAppend read· k p (length m) ≡ goodFragments k (length m) p = simp (q .0, q .1, le-leb _ _ l, lt-ltb _ _ (id-small r k), and-one) in
+      by-course p (cond-true _ _ _ h) (ap (λ (t : Bool). cond t (course read· (length log) (need p (length m)) g) (Refuse IllegalArgument)) e) (refl, refl))
+      (λ h.
+      let e : goodAppend read· k 0 (length m) ≡ false = and-none (goodMessage k (length m)) in
+      let f : goodFragments k (length m) p ≡ false = one-fails (goodMessage k (length m)) (leb 1 (length m)) (leb 32 p) (leb p 2147483647) _ h in
+      let no : fragmentedCourse r (length log) k (length m) p g ≡ Refuse IllegalArgument = cond-false _ _ _ f in
+      let new : ℕ → List ℕ = λ (y : ℕ). written read· log (k * read· .term) (read· .offset) (cut y z m) in
+      by-course 0 (cond-false _ _ _ h) (cond-false _ _ _ e ∙ sym no)
+      (ap (replyBy r read· k (need 0 (length m))) no ∙ sym (ap (replyBy r read· k (need p (length m))) no), ap (bytesBy read· k log (new 0)) no ∙ sym (ap (bytesBy read· k log (new p)) no)))

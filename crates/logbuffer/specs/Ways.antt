@@ -89,6 +89,10 @@ messageBytes r log k p m z g =
     bytesBy (readingOf r k) k log (written (readingOf r k) log (k * readingOf r k .term) (readingOf r k .offset) (cut p z m))
     (courseOf (readingOf r k) (length log) k p (length m) g)
 
+-- the payload limit of a message of m bytes in fragments; 0, which is refused, where there is none
+abbrev pub fragmentLimit : ℕ → ℕ → ℕ
+fragmentLimit m p = cond (leb 1 m && leb p 2147483647) p 0
+
 -- the record of a claim of n bytes by its bits
 abbrev pub claimBits : Reading → ℕ → ℕ → Claim
 claimBits v k n =

@@ -5,8 +5,8 @@ ghost use lib.ListN.{length};
 ghost use Rattle.model.specs.Bytes.{word, long};
 ghost use Rattle.model.specs.FrameDescriptor.{space};
 ghost use Rattle.model.specs.LogBufferDescriptor.{biased};
-ghost use Rattle.model.specs.TermAppender.{cut, need, written, claimed, course, bytesBy, goodMessage, goodFragments, unfragmentedReply, unfragmentedBytes, fragmentedReply, fragmentedBytes, claimAppendReply, claimAppendBytes};
-ghost use Rattle.logbuffer.specs.Ways.{wayBy, goodAppend, courseOf, goodClaiming, claimCourse, messageReply, messageBytes, claimBits};
+ghost use Rattle.model.specs.TermAppender.{cut, need, written, claimed, course, bytesBy, goodMessage, unfragmentedReply, unfragmentedBytes, fragmentedReply, fragmentedBytes, claimAppendReply, claimAppendBytes};
+ghost use Rattle.logbuffer.specs.Ways.{wayBy, goodAppend, courseOf, goodClaiming, claimCourse, messageReply, messageBytes, fragmentLimit, claimBits};
 use crate::cast;
 use crate::header;
 use crate::log_buffer_descriptor;
@@ -14,7 +14,6 @@ use crate::way;
 use crate::way::Way;
 use model::AppendClaimReply;
 use model::AppendReply;
-use model::Appended;
 use model::Claim;
 use model::Course;
 use model::Error;
@@ -32,22 +31,17 @@ fn good_message(k: usize, m: usize) -> bool
     m <= 2147483647
 }
 
-fn good_fragments(k: usize, m: usize, payload: usize) -> bool
-    ensures { λ r. ⌜ r ≡ goodFragments k m payload ⌝ }
+// The payload limit of a message in fragments; 0, which no appender takes, for a message of no bytes or a limit below 0.
+fn fragment_limit(m: usize, payload: usize) -> usize
+    ensures { λ r. ⌜ r ≡ fragmentLimit m payload ⌝ }
 {
-    if !good_message(k, m) {
-        return false;
-    }
     if m < 1 {
-        return false;
-    }
-    if payload < 32 {
-        return false;
+        return 0;
     }
     if payload > 2147483647 {
-        return false;
+        return 0;
     }
-    payload % 32 == 0
+    payload
 }
 
 // The bits of a term id with 2^31 added, as the record's reading has it.
@@ -249,13 +243,7 @@ pub fn append_fragmented_message(
     ensures { λ _. ⌜ now (log .exit) ≡ fragmentedBytes rec (now (log .entry)) partition (now (message .entry)) reserved payload «term_id» ⌝ }
 {
     let k = cast::word(partition);
-    let limit = cast::word(payload);
-    if !good_fragments(k, message.len(), limit) {
-        return AppendReply {
-            next: rec,
-            answer: Appended::Refused(Error::IllegalArgument),
-        };
-    }
+    let limit = fragment_limit(message.len(), cast::word(payload));
     append_message(rec, log, k, limit, message, reserved, term_id)
 }
 

@@ -1,26 +1,23 @@
 -- The ways of an append: where each is taken and what it says; and the appenders' entry points by the numbers that a caller has.
-use mathlib.Core.Path.{_≡_, refl, sym, ap, subst}
+use mathlib.Core.Path.{_≡_, refl, subst}
 use mathlib.Core.Bool.{Bool, true, false, cond}
-use Prim.Native.Nat.{ℕ, _+_, _*_, _%_, _≤_, _<_}
+use Prim.Native.Nat.{ℕ, _+_, _*_, _≤_, _<_}
 use native.Mathlib.Omega.{arith}
 use native.Mathlib.Nat.{mul-le-mul-right}
-use borrow.Author.Tests.{le-leb, lt-leb, leb-true, leb-false, eqb-true, eq-eqb, ne-eqb}
+use borrow.Author.Tests.{le-leb, lt-leb, leb-true, leb-false, eq-eqb, ne-eqb}
 use mathlib.Core.List.{List}
 use lib.Dec.{eqb, leb}
 use lib.ListN.{length}
-use lib.IntN.{ℤ}
 use Rattle.model.specs.declared.LogRecord.{LogRecord}
 use Rattle.model.specs.declared.Reading.{Reading}
-use Rattle.model.specs.declared.Error.the-variants.{IllegalArgument, IllegalRecord, TailOverflow}
+use Rattle.model.specs.declared.Error.the-variants.{IllegalRecord, TailOverflow}
 use Rattle.model.specs.declared.Course.{Course}
 use Rattle.model.specs.declared.Course.the-variants.{Refuse, Stray, Trip, Fit}
-use Rattle.model.specs.declared.Appended.the-variants.{Refused}
 use Rattle.model.specs.declared.AppendReply.{AppendReply}
 use Rattle.model.specs.declared.AppendClaimReply.{AppendClaimReply}
-use Rattle.model.specs.Bytes.{word, long}
 use Rattle.model.specs.FrameDescriptor.{space}
-use Rattle.model.specs.LogBufferDescriptor.{biased, readingOf, sound, Sound}
-use Rattle.model.specs.TermAppender.{written, cut, need, claimed, course, bytesBy, replyBy, goodMessage, goodFragments, unfragmentedCourse, fragmentedCourse, fragmentedReply, fragmentedBytes, claimAppendedBy}
+use Rattle.model.specs.LogBufferDescriptor.{readingOf, sound, Sound}
+use Rattle.model.specs.TermAppender.{written, cut, need, claimed, course, bytesBy, replyBy, goodMessage, unfragmentedCourse, claimAppendedBy}
 use Rattle.model.proofs.Sound.{sound-true}
 use Rattle.model.proofs.Both.{and-true}
 
@@ -97,34 +94,10 @@ base-in k t h = let l : k * t ≤ 2 * t = mul-le-mul-right t h in omega arith
 pub message-true : (k m : ℕ) → goodMessage k m ≡ true → (k ≤ 2) × (m ≤ 2147483647)
 message-true k m h = let b = and-true (leb k 2) _ h in (leb-true _ _ (b .0), leb-true _ _ (b .1))
 
-pub record Fragments (k m p : ℕ) : Type 0 where
-  pub part : k ≤ 2
-  pub whole : m ≤ 2147483647
-  pub some : 1 ≤ m
-  pub low : 32 ≤ p
-  pub high : p ≤ 2147483647
-  pub multiple : p % 32 ≡ 0
-
-pub fragments-true : (k m p : ℕ) → goodFragments k m p ≡ true → Fragments k m p
-fragments-true k m p h =
-    let a = and-true (goodMessage k m) _ h in
-    let b = message-true k m (a .0) in
-    let d = and-true (leb 1 m) _ (a .1) in
-    let e = and-true (leb 32 p) _ (d .1) in
-    let f = and-true (leb p 2147483647) _ (e .1) in
-    record { part = b .0; whole = b .1; some = leb-true _ _ (d .0); low = leb-true _ _ (e .0); high = leb-true _ _ (f .0); multiple = eqb-true _ _ (f .1) }
-
-fragments-good : (k m p : ℕ) → k ≤ 2 → m ≤ 2147483647 → 1 ≤ m → 32 ≤ p → p ≤ 2147483647 → p % 32 ≡ 0 → goodFragments k m p ≡ true
-fragments-good k m p h1 h2 h3 h4 h5 h6 = simp (le-leb _ _ h1, le-leb _ _ h2, le-leb _ _ h3, le-leb _ _ h4, le-leb _ _ h5, eq-eqb _ _ h6)
-
 module _ (r : LogRecord) (n k m g : ℕ) where
   pub unfragmented-good : k ≤ 2 → m ≤ 2147483647 → unfragmentedCourse r n k m g ≡ course (readingOf r k) n (space m) g
   unfolding unfragmentedCourse
   unfragmented-good hk hm = simp (le-leb _ _ hk, le-leb _ _ hm)
-
-  fragmented-by : (p : ℕ) (b : Bool) → goodFragments k m p ≡ b → fragmentedCourse r n k m p g ≡ cond b (course (readingOf r k) n (need p m) g) (Refuse IllegalArgument)
-  unfolding fragmentedCourse
-  fragmented-by p b h = ap (λ (t : Bool). cond t (course (readingOf r k) n (need p m) g) (Refuse IllegalArgument)) h
 
 -- ---- both appenders of messages: the message cut by a payload limit p into partition k, its reserved value z, for term id g
 
@@ -135,21 +108,6 @@ abbrev pub appendBytes : LogRecord → List ℕ → ℕ → ℕ → List ℕ →
 appendBytes r log k p m z g =
     bytesBy (readingOf r k) k log (written (readingOf r k) log (k * readingOf r k .term) (readingOf r k .offset) (cut p z m))
     (course (readingOf r k) (length log) (need p (length m)) g)
-
-pub fragmented-does : (r : LogRecord) (log m : List ℕ) (partition reserved payload given : ℤ) (k p z g : ℕ) → word partition ≡ k → long reserved ≡ z → word payload ≡ p → biased (word given) ≡ g
-    → k ≤ 2 → length m ≤ 2147483647 → 1 ≤ length m → 32 ≤ p → p ≤ 2147483647 → p % 32 ≡ 0
-    → (fragmentedReply r log partition m payload given ≡ appendReply r log k p m g) × (fragmentedBytes r log partition m reserved payload given ≡ appendBytes r log k p m z g)
-fragmented-does r log m partition reserved payload given k p z g ek ez ep eg h1 h2 h3 h4 h5 h6 =
-    let u = fragmented-by r (length log) k (length m) g p true (fragments-good k (length m) p h1 h2 h3 h4 h5 h6) in
-    (cc u, cc u)
-
--- refused for its arguments
-pub fragmented-no : (r : LogRecord) (log m : List ℕ) (partition reserved payload given : ℤ) → goodFragments (word partition) (length m) (word payload) ≡ false
-    → (record { next = r; answer = Refused IllegalArgument } ≡ fragmentedReply r log partition m payload given) × (log ≡ fragmentedBytes r log partition m reserved payload given)
-fragmented-no r log m partition reserved payload given h =
-    let v = readingOf r (word partition) in
-    let e = fragmented-by r (length log) (word partition) (length m) (biased (word given)) (word payload) false h in
-    (sym (ap (replyBy r v (word partition) (need (word payload) (length m))) e), sym (ap (bytesBy v (word partition) log (written v log (word partition * v .term) (v .offset) (cut (word payload) (long reserved) m))) e))
 
 -- ---- claims: n bytes into partition k, for term id g
 
