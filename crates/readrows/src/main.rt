@@ -220,6 +220,12 @@ fn reads(log: &[u8]) {
         image.controlled_peek(rec, log, &mut entries, b"\x04\x04\x04", 0, 224),
         &entries,
     );
+}
+
+// Blocks, a position that is set, the end of the stream.
+fn moves(log: &[u8]) {
+    let rec = record(65536);
+    let image = Image::new(0, 11);
     show_block(b"block of 100:", image.block_poll(rec, log, 100));
     show_block(
         b"block of padding:",
@@ -260,5 +266,6 @@ fn main() {
     frame(&mut log, 224, 5, 192, 1);
     rows(&log);
     reads(&log);
+    moves(&log);
     closed(&log);
 }
