@@ -1,6 +1,6 @@
 -- The rows of the assembler's entry point, and what a frame that passes them is.
 use mathlib.Core.Path.{_≡_, sym, ap, ap₂, _∙_}
-use mathlib.Core.Bool.{Bool, true, false, cond, _&&_, _||_}
+use mathlib.Core.Bool.{Bool, true, false, _&&_, _||_}
 use mathlib.Core.List.{List}
 use Prim.Native.Nat.{ℕ, _+_, _-_, _*_, _/_, _%_, _≤_, _<_}
 use native.Mathlib.Nat.{mul-le-mul-right}
@@ -14,14 +14,13 @@ use Rattle.model.specs.declared.LogRecord.{LogRecord}
 use Rattle.model.specs.declared.Reading.{Reading}
 use Rattle.model.specs.declared.Place.{Place}
 use Rattle.model.specs.declared.Error.{Error}
-use Rattle.model.specs.declared.Error.the-variants.{UnsoundFrame}
 use Rattle.model.specs.declared.Verdict.{Verdict}
 use Rattle.model.specs.declared.Verdict.the-variants.{Pass, Refuse}
 use Rattle.model.specs.declared.Joining.{Joining}
 use Rattle.model.specs.declared.Joining.the-variants.{Through, Ignore, Full, TooLong, Join, Complete}
 use Rattle.model.specs.Bytes.{u32, i32}
 use Rattle.model.specs.FrameDescriptor.{align, unsoundLength, flagsAt, begins, ends}
-use Rattle.model.specs.LogBufferDescriptor.{sound, goodPartition, goodOffset, placeOf as placeRead, firstRows}
+use Rattle.model.specs.LogBufferDescriptor.{sound, goodPartition, goodOffset, placeOf as placeRead, firstRows, row17}
 use Rattle.model.specs.FragmentAssembler.{Sessions, Assembly, entered, placeOf, joining, sessionsBy, bufferBy, assembledBy, joinedAt, goodFrame, goodAssembly, assembleVerdict, assembleBy, assembleOf}
 use Rattle.model.proofs.Choice.{cond-true, cond-case}
 use Rattle.model.proofs.ReaderLaws.{and-not, and-then}
@@ -75,16 +74,16 @@ module _ (v : Reading) (log : List ℕ) (lent k at : ℕ) where
   abbrev rows : Verdict
   rows = firstRows (goodAssembly v log lent k at) (sound v (length log)) Pass
 
-  abbrev row17 : Verdict
-  row17 = cond (unsoundLength (u32 (drop (k * v .term + at) log)) (v .term - at)) (Refuse UnsoundFrame) Pass
+  abbrev frame-row : Verdict
+  frame-row = row17 (unsoundLength (u32 (drop (k * v .term + at) log)) (v .term - at))
 
   pub verdict-refused : {e : Error} → rows ≡ Refuse e → Refuse e ≡ assembleVerdict v log lent k at
   unfolding assembleVerdict
-  verdict-refused h = rows-refuse (goodAssembly v log lent k at) (sound v (length log)) row17 h
+  verdict-refused h = rows-refuse (goodAssembly v log lent k at) (sound v (length log)) frame-row h
 
-  pub verdict-goes : rows ≡ Pass → row17 ≡ assembleVerdict v log lent k at
+  pub verdict-goes : rows ≡ Pass → frame-row ≡ assembleVerdict v log lent k at
   unfolding assembleVerdict
-  verdict-goes h = rows-then (goodAssembly v log lent k at) (sound v (length log)) row17 h
+  verdict-goes h = rows-then (goodAssembly v log lent k at) (sound v (length log)) frame-row h
 
   -- a frame that passes them lies in its term, and its length word is that of a whole frame
   pub passed-frame : goodAssembly v log lent k at ≡ true → sound v (length log) ≡ true → unsoundLength (u32 (drop (k * v .term + at) log)) (v .term - at) ≡ false
@@ -100,7 +99,7 @@ module _ (v : Reading) (log : List ℕ) (lent k at : ℕ) where
   pub verdict-passed : assembleVerdict v log lent k at ≡ Pass → Framed log (k * v .term + at)
   unfolding assembleVerdict
   verdict-passed e =
-      let q = rows-passed (goodAssembly v log lent k at) (sound v (length log)) row17 e in
+      let q = rows-passed (goodAssembly v log lent k at) (sound v (length log)) frame-row e in
       let g = rows-pass (goodAssembly v log lent k at) (sound v (length log)) (q .0) in
       test (unsoundLength (u32 (drop (k * v .term + at) log)) (v .term - at))
       (λ u. absurd (no-pass (sym (q .1) ∙ cond-true _ _ _ u)))

@@ -25,16 +25,16 @@ use Rattle.model.specs.declared.AppendReply.{AppendReply}
 use Rattle.model.specs.declared.AppendedClaim.the-variants.{Claimed}
 use Rattle.model.specs.declared.AppendClaimReply.{AppendClaimReply}
 use Rattle.model.specs.FrameDescriptor.{space}
-use Rattle.model.specs.LogBufferDescriptor.{readingOf, rawOf, withTail, changed}
+use Rattle.model.specs.LogBufferDescriptor.{readingOf, withTail, changed}
 use Rattle.model.specs.TermAppender.{fragment, cut, need, written, claimed, course, bytesBy, replyBy, goodMessage, goodFragments, unfragmentedCourse, fragmentedCourse, claimRecord, claimAppendedBy}
-use Rattle.model.proofs.Both.{and-true, test}
+use Rattle.model.proofs.Both.{and-true, and-yes, and-false, test}
 use Rattle.model.proofs.Choice.{cond-true, cond-false, cond-case}
 use Rattle.model.proofs.Course.{the-type}
 use Rattle.model.proofs.Cut.{need-one, cut-one}
 use Rattle.model.proofs.Sound.{id-small}
 use Rattle.model.proofs.Append.{Room, course-room, message-true, appendReply, appendBytes}
 use Rattle.logbuffer.specs.declared.way.Way.{Way}
-use Rattle.logbuffer.specs.Ways.{wayBy, goodAppend, courseOf, goodClaiming, claimCourse, tailAt, movedWith, replyWith, claimReplyWith, messageReply, messageBytes, fragmentLimit, claimBits}
+use Rattle.logbuffer.specs.Ways.{noWay, wayTo, wayBy, goodAppend, courseOf, goodClaiming, claimCourse, tailAt, movedWith, replyWith, claimReplyWith, messageReply, messageBytes, fragmentLimit, claimBits}
 
 -- ---- what a caller makes of a way
 
@@ -77,7 +77,7 @@ none-moves r k w Fit h = same r k w h
 
 -- of the four ways, all but a refusal have an end and a tail
 pub way-moves : (v : Reading) (m : ℕ) (x : Course) → OneOf (1 ∷ 2 ∷ 3 ∷ []) (tagOf the-type x) → Room v m x
-    → (record { course = x; end = v .offset + m; tail = rawOf (v .id) (v .offset + m) } ≡ wayBy v m x) × (v .offset + m ≤ 2147483647)
+    → (wayTo v m x ≡ wayBy v m x) × (v .offset + m ≤ 2147483647)
 way-moves v m (Refuse e) h w = absurd (⊎-elim (λ e. omega arith) (⊎-elim (λ e. omega arith) (λ e. omega arith)) h)
 way-moves v m Stray h w = (refl, w)
 way-moves v m Trip h w = (refl, w)
@@ -120,7 +120,7 @@ module _ (v : Reading) (n k p m g : ℕ) where
   course-no h = ap (λ (t : Bool). cond t (course v n (need p m) g) (Refuse IllegalArgument)) h
 
   pub way-no : goodAppend v k p m ≡ false → (nd : ℕ) (log new : List ℕ)
-      → (record { course = Refuse IllegalArgument; end = 0; tail = pos 0 } ≡ wayBy v nd (courseOf v n k p m g)) × (log ≡ bytesBy v k log new (courseOf v n k p m g))
+      → (noWay IllegalArgument ≡ wayBy v nd (courseOf v n k p m g)) × (log ≡ bytesBy v k log new (courseOf v n k p m g))
   way-no h nd log new = (sym (ap (wayBy v nd) (course-no h)), sym (ap (bytesBy v k log new) (course-no h)))
 
 module _ (v : Reading) (n k m g : ℕ) where
@@ -129,7 +129,7 @@ module _ (v : Reading) (n k m g : ℕ) where
   claim-good h = ap (λ (t : Bool). cond t (course v n (space m) g) (Refuse IllegalArgument)) h
 
   pub claim-no : goodClaiming v k m ≡ false → (log new : List ℕ)
-      → (record { course = Refuse IllegalArgument; end = 0; tail = pos 0 } ≡ wayBy v (space m) (claimCourse v n k m g)) × (log ≡ bytesBy v k log new (claimCourse v n k m g))
+      → (noWay IllegalArgument ≡ wayBy v (space m) (claimCourse v n k m g)) × (log ≡ bytesBy v k log new (claimCourse v n k m g))
   unfolding claimCourse
   claim-no h log new =
       let e = ap (λ (t : Bool). cond t (course v n (space m) g) (Refuse IllegalArgument)) h in
@@ -204,13 +204,9 @@ claim-bits v k n hk h =
 
 -- ---- the entry points' courses, whose ids are always of 32 bits
 
-always : {A : Type 0} (b c : Bool) (x y : A) → c ≡ true → cond (b && c) x y ≡ cond b x y
-always true c x y h = ap (λ (t : Bool). cond t x y) h
-always false c x y h = refl
-
 pub claim-course : (r : LogRecord) (n k m g : ℕ) → claimCourse (readingOf r k) n k m g ≡ unfragmentedCourse r n k m g
 unfolding claimCourse unfragmentedCourse
-claim-course r n k m g = always (goodMessage k m) _ _ _ (lt-ltb _ _ (id-small r k))
+claim-course r n k m g = simp (lt-ltb _ _ (id-small r k), and-yes)
 
 module _ (r : LogRecord) (log m : List ℕ) (k z g : ℕ) where
   abbrev read : Reading
@@ -221,7 +217,7 @@ module _ (r : LogRecord) (log m : List ℕ) (k z g : ℕ) where
 
   as-message : courseOf read (length log) k whole (length m) g ≡ cond (goodMessage k (length m)) (course read (length log) (need whole (length m)) g) (Refuse IllegalArgument)
   unfolding courseOf
-  as-message = always (goodMessage k (length m)) _ _ _ (lt-ltb _ _ (id-small r k))
+  as-message = simp (lt-ltb _ _ (id-small r k), and-yes)
 
   -- a payload limit above every message cuts none
   pub unfragmented-is : (messageReply r log k whole m g ≡ replyBy r read k (space (length m)) (unfragmentedCourse r (length log) k (length m) g))
@@ -247,14 +243,6 @@ module _ (r : LogRecord) (log m : List ℕ) (k z g : ℕ) where
       ))
 
 -- a limit that is none is refused, as all else that `goodFragments` asks is by the append
-and-one : (b : Bool) → (b && true) ≡ b
-and-one true = refl
-and-one false = refl
-
-and-none : (b : Bool) → (b && false) ≡ false
-and-none true = refl
-and-none false = refl
-
 one-fails : (a b c d e : Bool) → (b && d) ≡ false → (a && (b && (c && (d && e)))) ≡ false
 one-fails false b c d e h = refl
 one-fails true false c d e h = refl
@@ -288,10 +276,10 @@ module _ (r : LogRecord) (log m : List ℕ) (k p z g : ℕ) where
       (λ h.
       let q = and-true (leb 1 (length m)) _ h in
       let l : p ≤ 2147483648 = omega (arith, leb-true p 2147483647 (q .1)) in
-      let e : goodAppend read· k p (length m) ≡ goodFragments k (length m) p = simp (q .0, q .1, le-leb _ _ l, lt-ltb _ _ (id-small r k), and-one) in
+      let e : goodAppend read· k p (length m) ≡ goodFragments k (length m) p = simp (q .0, q .1, le-leb _ _ l, lt-ltb _ _ (id-small r k), and-yes) in
       by-course p (cond-true _ _ _ h) (ap (λ (t : Bool). cond t (course read· (length log) (need p (length m)) g) (Refuse IllegalArgument)) e) (refl, refl))
       (λ h.
-      let e : goodAppend read· k 0 (length m) ≡ false = and-none (goodMessage k (length m)) in
+      let e : goodAppend read· k 0 (length m) ≡ false = and-false (goodMessage k (length m)) in
       let f : goodFragments k (length m) p ≡ false = one-fails (goodMessage k (length m)) (leb 1 (length m)) (leb 32 p) (leb p 2147483647) _ h in
       let no : fragmentedCourse r (length log) k (length m) p g ≡ Refuse IllegalArgument = cond-false _ _ _ f in
       let new : ℕ → List ℕ = λ (y : ℕ). written read· log (k * read· .term) (read· .offset) (cut y z m) in

@@ -11,6 +11,7 @@ use mir.Syntax.{w32}
 use mir.Val.{toZ}
 use Rattle.model.specs.declared.LogRecord.{LogRecord}
 use Rattle.model.specs.declared.Reading.{Reading}
+use Rattle.model.specs.declared.Error.{Error}
 use Rattle.model.specs.declared.Error.the-variants.{IllegalArgument, ActionPossiblyDelayed}
 use Rattle.model.specs.declared.Course.{Course}
 use Rattle.model.specs.declared.Course.the-variants.{Refuse, Stray, Trip, Fit}
@@ -26,11 +27,18 @@ use Rattle.model.specs.LogBufferDescriptor.{biased, readingOf, rawOf, changed}
 use Rattle.model.specs.TermAppender.{cut, need, written, course, bytesBy, replyBy, goodMessage}
 use Rattle.logbuffer.specs.declared.way.Way.{Way}
 
+-- on every course but a refusal the tail moves
+abbrev pub wayTo : Reading → ℕ → Course → Way
+wayTo v needed x = record { course = x; end = v .offset + needed; tail = rawOf (v .id) (v .offset + needed) }
+
+abbrev pub noWay : Error → Way
+noWay e = record { course = Refuse e; end = 0; tail = pos 0 }
+
 abbrev pub wayBy : Reading → ℕ → Course → Way
-wayBy v needed (Refuse e) = record { course = Refuse e; end = 0; tail = pos 0 }
-wayBy v needed Stray = record { course = Stray; end = v .offset + needed; tail = rawOf (v .id) (v .offset + needed) }
-wayBy v needed Trip = record { course = Trip; end = v .offset + needed; tail = rawOf (v .id) (v .offset + needed) }
-wayBy v needed Fit = record { course = Fit; end = v .offset + needed; tail = rawOf (v .id) (v .offset + needed) }
+wayBy v needed (Refuse e) = noWay e
+wayBy v needed Stray = wayTo v needed Stray
+wayBy v needed Trip = wayTo v needed Trip
+wayBy v needed Fit = wayTo v needed Fit
 
 -- what both appenders of messages ask of their arguments, and a term id of 32 bits; else 1
 abbrev pub goodAppend : Reading → ℕ → ℕ → ℕ → Bool

@@ -2,11 +2,9 @@
 // the raw tail that the way carries. Read term_appender next.
 ghost use mathlib.Core.Path.{_≡_};
 ghost use Prim.Native.Nat.{_<_};
-ghost use lib.IntN.{pos};
-ghost use Rattle.model.specs.declared.Course.the-variants.{Refuse};
 ghost use Rattle.model.specs.LogBufferDescriptor.{changed};
 ghost use Rattle.model.proofs.Append.{Room};
-ghost use Rattle.logbuffer.specs.Ways.{wayBy, movedWith, appendedWith, claimedWith, replyWith, claimReplyWith};
+ghost use Rattle.logbuffer.specs.Ways.{noWay, wayBy, movedWith, appendedWith, claimedWith, replyWith, claimReplyWith};
 use crate::cast;
 use model::AppendClaimReply;
 use model::AppendReply;
@@ -26,7 +24,7 @@ pub struct Way {
 }
 
 pub(crate) fn refused(e: Error) -> Way
-    ensures { λ r. ⌜ r ≡ record { course = Refuse e; end = 0; tail = pos 0 } ⌝ }
+    ensures { λ r. ⌜ r ≡ noWay e ⌝ }
 {
     Way {
         course: Course::Refuse(e),

@@ -8,6 +8,14 @@ pub and-true : (a b : Bool) → (a && b) ≡ true → (a ≡ true) × (b ≡ tru
 and-true true b h = (refl, h)
 and-true false b h = absurd (let x : _≡_ {A = ℕ} 0 1 = cc in omega arith)
 
+pub and-yes : (b : Bool) → (b && true) ≡ b
+and-yes true = refl
+and-yes false = refl
+
+pub and-false : (b : Bool) → (b && false) ≡ false
+and-false true = refl
+and-false false = refl
+
 pub both-true : {a b : Bool} → a ≡ true → b ≡ true → (a && b) ≡ true
 both-true {a} {b} h k = ap (λ (t : Bool). t && b) h ∙ k
 

@@ -22,7 +22,7 @@ use Rattle.model.specs.declared.FramesRead.the-variants.{Walked as AllWa
 use Rattle.model.specs.declared.TermRead.{TermRead}
 use Rattle.model.specs.declared.TermRead.the-variants.{Outcome, Refused}
 use Rattle.model.specs.FrameDescriptor.{align, frameAt}
-use Rattle.model.specs.LogBufferDescriptor.{sound, goodPartition, goodOffset, placeOf, firstRows}
+use Rattle.model.specs.LogBufferDescriptor.{sound, goodPartition, goodOffset, placeOf, firstRows, row17}
 use Rattle.model.specs.TermReader.{Walked, still, over, handed, goodWalk, nextAction, restActions, walk, walkOf, firstUnsound, natural, goodEntries, framesBy, framesOf, framesEntries, readWalk, readVerdict, readBy, readOf, readEntries, entriesBy}
 use Rattle.model.proofs.FrameLaws.{Lies, lies}
 use Rattle.model.proofs.Rows.{rows-refuse, rows-pass, rows-then}
@@ -124,9 +124,6 @@ module _ (r : LogRecord) (log : List ℕ) (partition offset limit : ℤ) (slots 
 
   abbrev rows : Verdict
   rows = firstRows (goodRead p most (length slots)) (sound (p .read) (length log)) Pass
-
-  abbrev row17 : Bool → Verdict
-  row17 first = cond first (Refuse UnsoundFrame) Pass
 
   abbrev first : Bool
   first = firstUnsound log (p .partition * p .read .term) (p .read .term) (p .read .term) (p .offset) most

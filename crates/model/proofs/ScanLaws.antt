@@ -17,10 +17,7 @@ use Rattle.model.specs.declared.Scanned.the-variants.{Offset, Refused}
 use Rattle.model.specs.FrameDescriptor.{align, frameAt, isUnsound}
 use Rattle.model.specs.TermScan.{scanOver, scanFrom, scanBy}
 use Rattle.model.proofs.FrameLaws.{Lies, lies}
-
-and-false : (b : Bool) → (b && false) ≡ false
-and-false true = refl
-and-false false = refl
+use Rattle.model.proofs.Both.{and-false}
 
 module _ (log : List ℕ) (base term limit at : ℕ) where
   abbrev seen : ℕ → Frame

@@ -1,6 +1,6 @@
 -- The rows of the three scans at the place that their code reads: what rows 1 and 2 refuse, and that the scan follows where they pass.
 use mathlib.Core.Path.{_≡_, ap, ap₂, _∙_}
-use mathlib.Core.Bool.{Bool, true, cond, _&&_}
+use mathlib.Core.Bool.{Bool, true, _&&_}
 use mathlib.Core.List.{List}
 use Prim.Native.Nat.{ℕ, _+_, _-_, _*_, _%_, min}
 use lib.Dec.{eqb, ltb}
@@ -9,7 +9,6 @@ use lib.IntN.{ℤ}
 use Rattle.model.specs.declared.LogRecord.{LogRecord}
 use Rattle.model.specs.declared.Place.{Place}
 use Rattle.model.specs.declared.Error.{Error}
-use Rattle.model.specs.declared.Error.the-variants.{UnsoundFrame}
 use Rattle.model.specs.declared.Verdict.{Verdict}
 use Rattle.model.specs.declared.Verdict.the-variants.{Pass, Refuse}
 use Rattle.model.specs.declared.Scanned.{Scanned}
@@ -19,7 +18,7 @@ use Rattle.model.specs.declared.GapScanned.the-variants.{Refused as GapR
 use Rattle.model.specs.declared.AvailabilityScanned.{AvailabilityScanned}
 use Rattle.model.specs.declared.AvailabilityScanned.the-variants.{Refused as AvailabilityRefused}
 use Rattle.model.specs.FrameDescriptor.{frameAt, isUnsound}
-use Rattle.model.specs.LogBufferDescriptor.{sound, goodPartition, goodOffset, withinTerm, placeOf, firstRows}
+use Rattle.model.specs.LogBufferDescriptor.{sound, goodPartition, goodOffset, withinTerm, placeOf, firstRows, row17}
 use Rattle.model.specs.Bytes.{word}
 use Rattle.model.specs.TermReader.{natural}
 use Rattle.model.proofs.GapLaws.{gapFound}
@@ -30,12 +29,9 @@ use Rattle.model.specs.TermScan.{scanVerdict, scanFrom, scanJudge, scanB
 abbrev base : Place → ℕ
 base p = p .partition * p .read .term
 
--- row 17, at the first frame
+-- what row 17 looks at
 abbrev unsoundAt : List ℕ → Place → Bool
 unsoundAt log p = isUnsound (frameAt (drop (base p + p .offset) log) (p .read .term - p .offset))
-
-abbrev row17 : Bool → Verdict
-row17 first = cond first (Refuse UnsoundFrame) Pass
 
 -- rows 1 and 2, with what row 1 asks
 abbrev rows : List ℕ → Place → Bool → Verdict

@@ -8,6 +8,7 @@ use lib.Count.{ones}
 use Rattle.model.specs.declared.Reading.{Reading}
 use Rattle.model.specs.LogBufferDescriptor.{soundRecord, sound, Sound}
 use Rattle.model.proofs.Sound.{sound-true, not-sound}
+use Rattle.model.proofs.Both.{and-yes}
 
 -- for a record that is sound the length of the log decides
 pub sound-length : (v : Reading) (n : ℕ) → soundRecord v ≡ true → eqb n (3 * v .term) ≡ sound v n
@@ -17,10 +18,6 @@ sound-length v n h = simp h
 pub unsound-length : (v : Reading) (n : ℕ) → soundRecord v ≡ false → false ≡ sound v n
 unfolding sound
 unsound-length v n h = simp h
-
-and-yes : (b : Bool) → (b && true) ≡ b
-and-yes true = refl
-and-yes false = refl
 
 pub sound-whole : (v : Reading) → sound v (3 * v .term) ≡ soundRecord v
 unfolding sound

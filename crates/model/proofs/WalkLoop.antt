@@ -3,7 +3,7 @@
 use mathlib.Core.Path.{_≡_, refl, sym, ap, ap₂, _∙_, subst}
 use mathlib.Core.Logic.{_⊎_, inl, inr, ⊎-elim}
 use Prim.Native.Nat.{ℕ, zero, suc, _+_, _-_, _*_, _≤_, _<_}
-use mathlib.Core.Bool.{Bool, true, false, cond, _&&_}
+use mathlib.Core.Bool.{Bool, true, false, cond}
 use mathlib.Core.List.{List, [], _∷_, _++_, append-nil}
 use native.Mathlib.Omega.{arith}
 use native.Mathlib.Numerals.{add-one}
@@ -18,6 +18,7 @@ use Rattle.model.specs.FrameDescriptor.{align, frameAt, isUnsound, flags
 use Rattle.model.specs.TermReader.{Walked, still, handed, handedBy, nextAction, restActions, over, walk, walkOf, firstUnsound, laid}
 use Rattle.model.proofs.FrameLaws.{Lies, lies}
 use Rattle.model.proofs.WalkLaws.{joined, joined-none, joined-passed, joined-handed, walk-full, walk-end, walk-stop, walk-turn, laid-none, laid-more}
+use Rattle.model.proofs.Both.{and-false}
 
 -- Where the loop stands: the lent slice holds the entries so far; what is done joined with the walk from here is the whole walk; and it
 -- is still at its first frame, or that one is not unsound.
@@ -37,10 +38,6 @@ pub record Came (log : List ℕ) (base term end at limit : ℕ) (acts : List ℕ
   pub numbers : w ≡ walkOf (walk term log base term end at limit acts)
   pub written : out ≡ laid slots (walk term log base term end at limit acts .entries)
   pub first : firstUnsound log base term end at limit ≡ false
-
-and-false : (b : Bool) → (b && false) ≡ false
-and-false true = refl
-and-false false = refl
 
 -- the four numbers
 abbrev pub walkBy : ℕ → ℕ → ℕ → ℕ → Walk

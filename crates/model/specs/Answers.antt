@@ -22,6 +22,8 @@ use Rattle.model.specs.declared.Located.{Located}
 use Rattle.model.specs.declared.Located.the-variants.{Span as LocatedSpan, Refused as LocatedRefused}
 use Rattle.model.specs.declared.HeaderRead.{HeaderRead}
 use Rattle.model.specs.declared.HeaderRead.the-variants.{Fields as HeaderReadFields, Refused as HeaderReadRefused}
+use Rattle.model.specs.declared.FramesRead.{FramesRead}
+use Rattle.model.specs.declared.FramesRead.the-variants.{Walked as FramesReadWalked, Refused as FramesReadRefused}
 use Rattle.model.specs.declared.TermRead.{TermRead}
 use Rattle.model.specs.declared.TermRead.the-variants.{Outcome as TermReadOutcome, Refused as TermReadRefused}
 use Rattle.model.specs.declared.Scanned.{Scanned}
@@ -105,6 +107,11 @@ locatedTold (LocatedRefused e) = refused e
 abbrev pub headerTold : HeaderRead → Told
 headerTold (HeaderReadFields f) = answered (fieldValues f)
 headerTold (HeaderReadRefused e) = refused e
+
+-- the walk that `read` and the polls go by: entries, fragments, bytes moved, bytes settled
+abbrev pub framesTold : FramesRead → Told
+framesTold (FramesReadWalked w) = answered (pos (w .entries) ∷ pos (w .fragments) ∷ pos (w .moved) ∷ pos (w .settled) ∷ [])
+framesTold (FramesReadRefused e) = refused e
 
 -- read
 abbrev pub readTold : TermRead → Told

@@ -7,7 +7,7 @@ use lib.ListN.{length, take, drop, getD, set, replicate}
 use lib.IntN.{ℤ, pos}
 use Rattle.model.specs.declared.LogRecord.{LogRecord}
 use Rattle.model.specs.declared.Reading.{Reading}
-use Rattle.model.specs.declared.Error.the-variants.{UnsoundFrame, AssemblyFull}
+use Rattle.model.specs.declared.Error.the-variants.{AssemblyFull}
 use Rattle.model.specs.declared.Verdict.{Verdict}
 use Rattle.model.specs.declared.Verdict.the-variants.{Pass, Refuse}
 use Rattle.model.specs.declared.Joining.{Joining}
@@ -16,7 +16,7 @@ use Rattle.model.specs.declared.Assembled.{Assembled}
 use Rattle.model.specs.declared.Assembled.the-variants.{Nothing, Fragment, Message, Refused}
 use Rattle.model.specs.Bytes.{word, u32, i32, splice}
 use Rattle.model.specs.FrameDescriptor.{unsoundLength, flagsAt, begins, ends}
-use Rattle.model.specs.LogBufferDescriptor.{reading, sound, goodPartition, goodOffset, firstRows}
+use Rattle.model.specs.LogBufferDescriptor.{reading, sound, goodPartition, goodOffset, firstRows, row17}
 
 -- The bookkeeping: how many sessions are entered, their ids, and how many bytes each holds. A count over 16 is taken as 16.
 pub record Sessions : Type 0 where
@@ -99,7 +99,7 @@ goodAssembly v log buffer k at = leb buffer 2147483647 && (goodPartition k && (g
 unfoldable pub assembleVerdict : Reading → List ℕ → ℕ → ℕ → ℕ → Verdict
 assembleVerdict v log buffer k at =
     firstRows (goodAssembly v log buffer k at) (sound v (length log))
-    (cond (unsoundLength (u32 (drop (k * v .term + at) log)) (v .term - at)) (Refuse UnsoundFrame) Pass)
+    (row17 (unsoundLength (u32 (drop (k * v .term + at) log)) (v .term - at)))
 
 pub record Assembly : Type 0 where
   pub answer : Assembled

@@ -10,7 +10,7 @@ use mir.Syntax.{w32, w64}
 use mir.Val.{toZ}
 use Rattle.model.specs.declared.LogRecord.{LogRecord}
 use Rattle.model.specs.declared.Reading.{Reading}
-use Rattle.model.specs.declared.Error.the-variants.{IllegalArgument, UnsoundFrame}
+use Rattle.model.specs.declared.Error.the-variants.{IllegalArgument}
 use Rattle.model.specs.declared.Verdict.{Verdict}
 use Rattle.model.specs.declared.Verdict.the-variants.{Pass, Refuse}
 use Rattle.model.specs.declared.Frame.{Frame}
@@ -28,7 +28,7 @@ use Rattle.model.specs.Bytes.{word}
 use Rattle.model.specs.Parts.{locatedBy}
 use Rattle.model.specs.FrameDescriptor.{align, frameAt, isUnsound, flagsAt, ends}
 use Rattle.model.specs.DataFrameHeader.{Header, headerAt}
-use Rattle.model.specs.LogBufferDescriptor.{biased, positionOf, reading, sound, withinTerm, goodPartition, goodOffset, firstRows}
+use Rattle.model.specs.LogBufferDescriptor.{biased, positionOf, reading, sound, withinTerm, goodPartition, goodOffset, firstRows, row17}
 
 -- ---- the walk
 
@@ -130,7 +130,7 @@ goodWalk n base term end at limit slots =
 unfoldable pub framesVerdict : List ℕ → ℕ → ℕ → ℕ → ℕ → ℕ → ℕ → Verdict
 framesVerdict log base term end at limit slots =
     cond (goodWalk (length log) base term end at limit slots)
-    (cond (firstUnsound log base term end at limit) (Refuse UnsoundFrame) Pass)
+    (row17 (firstUnsound log base term end at limit))
     (Refuse IllegalArgument)
 
 abbrev pub walkOf : Walked → Walk
@@ -154,7 +154,7 @@ framesEntries log base term end at limit acts slots =
 unfoldable pub readVerdict : Reading → List ℕ → ℕ → ℕ → ℕ → ℕ → Verdict
 readVerdict v log k at limit slots =
     firstRows (goodPartition k && (goodOffset at v && goodEntries slots limit)) (sound v (length log))
-    (cond (firstUnsound log (k * v .term) (v .term) (v .term) at limit) (Refuse UnsoundFrame) Pass)
+    (row17 (firstUnsound log (k * v .term) (v .term) (v .term) at limit))
 
 abbrev pub readWalk : Reading → List ℕ → ℕ → ℕ → ℕ → Walked
 readWalk v log k at limit = walk (v .term) log (k * v .term) (v .term) (v .term) at limit []

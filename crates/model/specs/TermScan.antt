@@ -7,7 +7,6 @@ use lib.Dec.{eqb, leb, ltb}
 use lib.ListN.{length, drop}
 use lib.IntN.{ℤ, pos}
 use Rattle.model.specs.declared.LogRecord.{LogRecord}
-use Rattle.model.specs.declared.Error.the-variants.{UnsoundFrame}
 use Rattle.model.specs.declared.Verdict.{Verdict}
 use Rattle.model.specs.declared.Verdict.the-variants.{Pass, Refuse}
 use Rattle.model.specs.declared.Frame.{Frame}
@@ -20,12 +19,12 @@ use Rattle.model.specs.declared.AvailabilityScanned.{AvailabilityScanned
 use Rattle.model.specs.declared.AvailabilityScanned.the-variants.{Outcome, Refused as AvailabilityRefused}
 use Rattle.model.specs.Bytes.{word, u32}
 use Rattle.model.specs.FrameDescriptor.{align, frameAt, isUnsound}
-use Rattle.model.specs.LogBufferDescriptor.{reading, sound, goodPartition, goodOffset, withinTerm, firstRows}
+use Rattle.model.specs.LogBufferDescriptor.{reading, sound, goodPartition, goodOffset, withinTerm, firstRows, row17}
 use Rattle.model.specs.TermReader.{natural}
 
 -- the ladder of the three, with what row 1 asks and what row 17 looks at
 unfoldable pub scanVerdict : Bool → Bool → Bool → Verdict
-scanVerdict good sound first = firstRows good sound (cond first (Refuse UnsoundFrame) Pass)
+scanVerdict good sound first = firstRows good sound (row17 first)
 
 -- ---- scan: whole data frames up to the limit; a padding frame only at the start, even one that ends past the limit
 

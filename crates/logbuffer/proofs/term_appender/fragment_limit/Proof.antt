@@ -1,6 +1,5 @@
 -- A test that fails settles the limit.
 use borrow.Author.Tests.{le-leb, lt-leb}
-use borrow.Author.Needs.{needs}
 use Rattle.logbuffer.proofs.term_appender.fragment_limit.Statement.{statement}
 use Rattle.logbuffer.proofs.term_appender.fragment_limit.Tie as tie
 
