@@ -12,7 +12,7 @@ use Rattle.model.specs.History.{Shape, State, Extent, message, claimed·
 use Rattle.model.proofs.Choice.{le-yes, le-no}
 use Rattle.model.proofs.Splice.{length-zeros}
 use Rattle.model.proofs.Cut.{need-is}
-use Rattle.model.proofs.Cut as Cut
+use Rattle.model.specs.TermAppender as TermAppender
 use Rattle.model.proofs.Cells.{Cell, flen, fsize, sizes, sizes-append}
 use Rattle.model.proofs.OneSession.{cells, frames, flat}
 
@@ -25,14 +25,14 @@ Pads (message re m ∷ h) = Pads h
 Pads (claimed· k b ∷ h) = Pads h
 Pads (padding n ∷ h) = (n % 32 ≡ 0) × (32 ≤ n) × Pads h
 
-pub sizes-cells : (fs : List Fragment) → sizes (cells fs) ≡ Cut.sizes fs
-unfolding sizes cells Cut.sizes fsize flen
+pub sizes-cells : (fs : List Fragment) → sizes (cells fs) ≡ TermAppender.sizes fs
+unfolding sizes cells TermAppender.sizes fsize flen
 sizes-cells [] = refl
 sizes-cells (fragment fl re b ∷ fs) = ap (λ (n : ℕ). space (length b) + n) (sizes-cells fs)
 
 module _ (c : Shape) (some : zero < c .payload) (even : c .payload % 32 ≡ 0) where
   pub message-size : (re m : _) → sizes (cells (cut (c .payload) re m)) ≡ need (c .payload) (length m)
-  message-size re m = sizes-cells (cut (c .payload) re m) ∙ need-is (c .payload) re m some even
+  message-size re m = sizes-cells (cut (c .payload) re m) ∙ need-is (c .payload) re m
 
   pub size-all : (h : List Extent) → Pads h → sizeAll c h ≡ sizes (flat c h)
   unfolding sizeAll sizeOf flat frames sizes Pads fsize flen

@@ -1,8 +1,9 @@
--- Two tests joined by `&&` or `||`: what the whole says of each, and a proof by cases on a test.
+-- Two tests joined by `&&` or `||`: what the whole says of each, and a proof by cases on a test. Anchors is named here as in Choice.
 use mathlib.Core.Path.{_≡_, refl, ap, _∙_}
 use mathlib.Core.Bool.{Bool, true, false, _&&_, _||_}
 use Prim.Native.Nat.{ℕ}
 use native.Mathlib.Omega.{arith}
+use Rattle.model.proofs.Anchors as Anchors
 
 pub and-true : (a b : Bool) → (a && b) ≡ true → (a ≡ true) × (b ≡ true)
 and-true true b h = (refl, h)

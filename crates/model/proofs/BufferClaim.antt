@@ -1,9 +1,9 @@
--- A claim located: where each refusal comes from, what a span says, and what commit and abort make of it.
+-- A claim located: where each refusal comes from, what a span says, and what commit, abort and a writing make of it.
 use mathlib.Core.Path.{_≡_, refl, sym, ap, ap₂, _∙_}
 use mathlib.Core.Bool.{Bool, true, false, cond}
-use Prim.Native.Nat.{ℕ, _+_, _-_, _%_, _≤_}
+use Prim.Native.Nat.{ℕ, _+_, _-_, _%_, _≤_, _<_}
 use native.Mathlib.Omega.{arith}
-use borrow.Author.Tests.{leb-true, eqb-true}
+use borrow.Author.Tests.{leb-true, le-leb, lt-leb, eqb-true}
 use mathlib.Core.List.{List}
 use lib.Dec.{eqb, leb}
 use lib.ListN.{length}
@@ -15,12 +15,13 @@ use Rattle.model.specs.declared.Error.the-variants.{IllegalArgument, Ill
 use Rattle.model.specs.declared.Verdict.{Verdict}
 use Rattle.model.specs.declared.Verdict.the-variants.{Pass, Refuse}
 use Rattle.model.specs.declared.Outcome.the-variants.{Done, Refused as OutcomeRefused}
+use Rattle.model.specs.declared.Located.{Located}
 use Rattle.model.specs.declared.Located.the-variants.{Span, Refused}
 use Rattle.model.specs.Bytes.{word, splice, le2, le4}
 use Rattle.model.specs.FrameDescriptor.{align}
 use Rattle.model.specs.LogBufferDescriptor.{reading, sound, Sound}
 use Rattle.model.specs.Parts.{locatedBy}
-use Rattle.model.specs.BufferClaim.{claimStart, goodClaim, matches, claimCheck, bodyStart, bodyEnd, locateOf, outcomeOf, commitOf, changedBy, commitBytes, abortBytes}
+use Rattle.model.specs.BufferClaim.{claimStart, goodClaim, matches, claimCheck, bodyStart, bodyEnd, locateOf, writeSpan, writeOutcome, writeOver, writeOf, writeBytes, outcomeOf, commitOf, changedBy, commitBytes, abortBytes}
 use Rattle.model.proofs.Sound.{sound-true}
 use Rattle.model.proofs.Append.{base-in}
 use Rattle.model.proofs.Both.{and-true}
@@ -150,3 +151,14 @@ module _ (r : LogRecord) (log : List ℕ) (c : Claim) where
       let type : from - 26 ≡ claimStart (reading r) c + 6 = omega (arith, l .starts) in
       ap₂ (λ (n m : ℕ). splice (splice log n (le2 0)) m (le4 (word (c .length)))) type at
       ∙ ap (changedBy log (splice (splice log (claimStart (reading r) c + 6) (le2 0)) (claimStart (reading r) c) (le4 (word (c .length))))) x
+
+-- ---- a writing
+
+-- the definition, by how many bytes there are
+pub write-long : (r : LogRecord) (log : List ℕ) (c : Claim) (n : ℕ) → 2147483647 < n → writeSpan r log c n ≡ Refused IllegalArgument
+unfolding writeSpan
+write-long r log c n h = simp (lt-leb n 2147483647 h)
+
+pub write-short : (r : LogRecord) (log : List ℕ) (c : Claim) (n : ℕ) → n ≤ 2147483647 → writeSpan r log c n ≡ locateOf r log c
+unfolding writeSpan
+write-short r log c n h = simp (le-leb n 2147483647 h)

@@ -221,7 +221,7 @@ module _ (r : LogRecord) (log : List ℕ) (h : List Extent) (ks : List Claim) (t
   need-most m e =
       split m (payloadLimit v)
       (λ l. omega (arith, need-one (payloadLimit v) m l, i .fixed .mtu-high, i .fixed .term-low))
-      (λ l. omega (arith, need-small (payloadLimit v) m pay-low, long-rows m l e, i .fixed .term-low))
+      (λ l. omega (arith, need-small (payloadLimit v) m pay-low (omega (arith, i .fixed .mtu-low, i .fixed .mtu-32)), long-rows m l e, i .fixed .term-low))
 
   need-32 : (re : ℕ) (m : List ℕ) → needOf v (length m) % 32 ≡ 0
   need-32 re m =

@@ -11,21 +11,22 @@ use lib.IntN.{ℤ, pos, negsuc}
 use lib.Count.{ones, onesIn}
 use Rattle.model.specs.declared.LogRecord.{LogRecord}
 use Rattle.model.specs.declared.Claim.{Claim}
-use Rattle.model.specs.Bytes.{le2, le4, le8, u16, u32, i32, splice}
+use Rattle.model.specs.Bytes.{le2, le4, le8, u16, u32, i32, splice, zeros}
 use Rattle.model.specs.Answers.{Told, outcomeTold, positionedTold, offeredTold, claimedTold, polledTold, gapTold, availabilityTold}
 use Rattle.model.specs.FrameDescriptor.{frameLength, frameAt}
-use Rattle.model.specs.DataFrameHeader.{header24}
-use Rattle.model.specs.LogBufferDescriptor.{readingOf, soundRecord, sound, changed, withTail, withCount, nextTail, rotated, rawOf, idOf, offsetOf, positionOf}
-use Rattle.model.specs.TermAppender.{header, fragmentBytes, written, cutFrom, cut, need, padded, claimed, claimRecord}
+use Rattle.model.specs.DataFrameHeader.{header24, headerBytes}
+use Rattle.model.specs.LogBufferDescriptor.{readingOf, soundRecord, sound, changed, withTail, withCount, nextTail, rotated, rawOf, termId, termOffset, positionOf}
+use Rattle.model.specs.TermAppender.{header, fragment, fragmentBytes, written, cutFrom, cut, sizes, need, padded, claimed, claimRecord}
 use Rattle.model.specs.BufferClaim.{goodClaim, matches, claimCheck, commitOf, commitBytes, abortBytes}
 use Rattle.model.specs.Publication.{openRecord, positionCall, pressed, afterClosed, beforeAppend, onTrip, appendNext, offerOf, offerBytes, claimVerdict, claimOf, claimBytes}
 use Rattle.model.specs.TermReader.{walk}
 use Rattle.model.specs.TermScan.{scanVerdict, rebuild, gapLength, gapJudge, gapOf, availableFrom, availabilityJudge, availabilityOf}
 use Rattle.model.specs.Image.{PollReply, newImage, readable, pollVerdict, pollOf}
-use Rattle.model.proofs.Splice.{drop-splice}
+use Rattle.model.proofs.Splice.{drop-splice, length-splice}
+use Rattle.model.proofs.Cut.{need-one}
 
 -- tails, initial id, mtu, count, limit, closed
-abbrev recordAt : List ℤ → ℤ → ℕ → ℕ → ℕ → Bool → LogRecord
+abbrev pub recordAt : List ℤ → ℤ → ℕ → ℕ → ℕ → Bool → LogRecord
 recordAt tails initial mtu count limit closed =
     record {
       tails = tails;
@@ -42,60 +43,71 @@ recordAt tails initial mtu count limit closed =
     }
 
 -- a log in its first term, the tail at an offset (term ids have 2^31 added)
-abbrev tailsAt : ℕ → List ℤ
+abbrev pub tailsAt : ℕ → List ℤ
 tailsAt offset = rawOf 2147483655 offset ∷ rawOf 2147483653 0 ∷ rawOf 2147483654 0 ∷ []
 
-abbrev tailAt : ℕ → LogRecord
+abbrev pub tailAt : ℕ → LogRecord
 tailAt offset = recordAt (tailsAt offset) (pos 7) 96 0 1000000 false
 
 -- a log in its last term, count and id 2147483647
-abbrev lastAt : ℕ → ℕ → LogRecord
+abbrev pub lastAt : ℕ → ℕ → LogRecord
 lastAt mtu offset = recordAt (replicate 3 (rawOf 4294967295 offset)) (pos 0) mtu 2147483647 4611686018427387904 false
 
 -- a message of n bytes
-abbrev bytes : ℕ → List ℕ
+abbrev pub bytes : ℕ → List ℕ
 bytes n = replicate n 1
 
 -- what is answered, in document 01's numbers
-abbrev is : ℤ → List ℤ → Told
+abbrev pub is : ℤ → List ℤ → Told
 is number values = record { number = number; values = values }
 
 module _ (log : List ℕ) (full : length log ≡ 196608) where
   -- ---- offers into an empty term
 
   offer-0 : offeredTold (offerOf (tailAt 0) log [] .answer) ≡ is (pos 0) (pos 32 ∷ [])
-  unfolding offerOf readingOf soundRecord sound rawOf pressed afterClosed beforeAppend need ones onesIn
+  unfolding offerOf readingOf soundRecord sound rawOf pressed afterClosed beforeAppend need sizes cut cutFrom zeros ones onesIn
   offer-0 = rw full
 
   offer-64 : offeredTold (offerOf (tailAt 0) log (bytes 64) .answer) ≡ is (pos 0) (pos 96 ∷ [])
-  unfolding offerOf readingOf soundRecord sound rawOf pressed afterClosed beforeAppend need ones onesIn
+  unfolding offerOf readingOf soundRecord sound rawOf pressed afterClosed beforeAppend need sizes cut cutFrom zeros ones onesIn
   offer-64 = rw full
 
   offer-65 : offeredTold (offerOf (tailAt 0) log (bytes 65) .answer) ≡ is (pos 0) (pos 160 ∷ [])
-  unfolding offerOf readingOf soundRecord sound rawOf pressed afterClosed beforeAppend need ones onesIn
+  unfolding offerOf readingOf soundRecord sound rawOf pressed afterClosed beforeAppend need sizes cut cutFrom zeros ones onesIn
   offer-65 = rw full
 
   -- its frames: length, version, flags
   offer-65-first : take 6 (offerBytes (tailAt 0) log (bytes 65) (pos 0)) ≡ 96 ∷ 0 ∷ 0 ∷ 0 ∷ 0 ∷ 128 ∷ []
-  unfolding offerBytes readingOf soundRecord sound rawOf pressed afterClosed beforeAppend need ones onesIn written cut cutFrom fragmentBytes header header24 splice le2 le4 le8
+  unfolding offerBytes readingOf soundRecord sound rawOf pressed afterClosed beforeAppend need sizes zeros ones onesIn written cut cutFrom fragmentBytes header header24 headerBytes splice le2 le4 le8
   offer-65-first = rw full
 
   offer-65-last : take 6 (drop 96 (offerBytes (tailAt 0) log (bytes 65) (pos 0))) ≡ 33 ∷ 0 ∷ 0 ∷ 0 ∷ 0 ∷ 64 ∷ []
-  unfolding offerBytes readingOf soundRecord sound rawOf pressed afterClosed beforeAppend need ones onesIn written cut cutFrom fragmentBytes header header24 splice le2 le4 le8
+  unfolding offerBytes readingOf soundRecord sound rawOf pressed afterClosed beforeAppend need sizes zeros ones onesIn written cut cutFrom fragmentBytes header header24 headerBytes splice le2 le4 le8
   offer-65-last = rw full
 
   -- the second frame's body holds the last byte of the message
   offer-65-body : getD (offerBytes (tailAt 0) log (bytes 65) (pos 0)) 128 0 ≡ 1
-  unfolding offerBytes readingOf soundRecord sound rawOf pressed afterClosed beforeAppend need ones onesIn written cut cutFrom fragmentBytes header header24 splice le2 le4 le8
+  unfolding offerBytes readingOf soundRecord sound rawOf pressed afterClosed beforeAppend need sizes zeros ones onesIn written cut cutFrom fragmentBytes header header24 headerBytes splice le2 le4 le8
   offer-65-body = rw full
 
-  -- a second offer goes behind the first
-  offer-again : offeredTold (offerOf (offerOf (tailAt 0) log [] .next) log [] .answer) ≡ is (pos 0) (pos 64 ∷ [])
-  unfolding offerOf readingOf soundRecord sound rawOf pressed afterClosed beforeAppend need ones onesIn appendNext changed withTail
-  offer-again = rw full
+  -- a second offer, on the record and the log that the first one left, goes behind it
+  offer-again-on : (more : List ℕ) → length more ≡ 196608 → offeredTold (offerOf (offerOf (tailAt 0) log [] .next) more [] .answer) ≡ is (pos 0) (pos 64 ∷ [])
+  unfolding offerOf readingOf soundRecord sound rawOf pressed afterClosed beforeAppend need sizes cut cutFrom zeros ones onesIn appendNext changed withTail
+  offer-again-on more long = rw (full, long)
+
+  offer-bytes : offerBytes (tailAt 0) log [] (pos 0) ≡ splice log 0 (fragmentBytes (readingOf (tailAt 0) 0) 0 (fragment 192 0 []))
+  unfolding offerBytes readingOf soundRecord sound rawOf pressed afterClosed beforeAppend need sizes cut cutFrom zeros ones onesIn written
+  offer-bytes = rw full
+
+  frame-long : length (fragmentBytes (readingOf (tailAt 0) 0) 0 (fragment 192 0 [])) ≡ 32
+  unfolding fragmentBytes headerBytes header24 le2 le4 le8
+  frame-long = refl
+
+  offer-again : offeredTold (offerOf (offerOf (tailAt 0) log [] .next) (offerBytes (tailAt 0) log [] (pos 0)) [] .answer) ≡ is (pos 0) (pos 64 ∷ [])
+  offer-again = offer-again-on (offerBytes (tailAt 0) log [] (pos 0)) (ap length offer-bytes ∙ length-splice log 0 _ (omega (arith, frame-long)) ∙ full)
 
   offer-160 : offeredTold (offerOf (tailAt 0) log (bytes 160) .answer) ≡ is (pos 0) (pos 256 ∷ [])
-  unfolding offerOf readingOf soundRecord sound rawOf pressed afterClosed beforeAppend need ones onesIn
+  unfolding offerOf readingOf soundRecord sound rawOf pressed afterClosed beforeAppend need sizes cut cutFrom zeros ones onesIn
   offer-160 = rw full
 
   -- the flags of its three frames
@@ -103,36 +115,43 @@ module _ (log : List ℕ) (full : length log ≡ 196608) where
       ∷ getD (offerBytes (tailAt 0) log (bytes 160) (pos 0)) 101 0
       ∷ getD (offerBytes (tailAt 0) log (bytes 160) (pos 0)) 197 0 ∷ []
       ≡ 128 ∷ 0 ∷ 64 ∷ []
-  unfolding offerBytes readingOf soundRecord sound rawOf pressed afterClosed beforeAppend need ones onesIn written cut cutFrom fragmentBytes header header24 splice le2 le4 le8
+  unfolding offerBytes readingOf soundRecord sound rawOf pressed afterClosed beforeAppend need sizes zeros ones onesIn written cut cutFrom fragmentBytes header header24 headerBytes splice le2 le4 le8
   offer-160-flags = rw full
 
   -- ---- at the term's end
 
   offer-exact : offeredTold (offerOf (tailAt 65440) log (bytes 64) .answer) ≡ is (pos 0) (pos 65536 ∷ [])
-  unfolding offerOf readingOf soundRecord sound rawOf pressed afterClosed beforeAppend need ones onesIn
+  unfolding offerOf readingOf soundRecord sound rawOf pressed afterClosed beforeAppend need sizes cut cutFrom zeros ones onesIn
   offer-exact = rw full
 
   trip : offeredTold (offerOf (tailAt 65472) log (bytes 64) .answer) ≡ is (pos 6) []
-  unfolding offerOf readingOf soundRecord sound rawOf pressed afterClosed beforeAppend need ones onesIn onTrip
+  unfolding offerOf readingOf soundRecord sound rawOf pressed afterClosed beforeAppend need sizes cut cutFrom zeros ones onesIn onTrip
   trip = rw full
 
   trip-count : offerOf (tailAt 65472) log (bytes 64) .next .«active_term_count» ≡ pos 1
-  unfolding offerOf readingOf soundRecord sound rawOf pressed afterClosed beforeAppend need ones onesIn onTrip appendNext changed withTail withCount nextTail rotated
+  unfolding offerOf readingOf soundRecord sound rawOf pressed afterClosed beforeAppend need sizes cut cutFrom zeros ones onesIn onTrip appendNext changed withTail withCount nextTail rotated
   trip-count = rw full
 
   -- a padding frame of 64, both flags, type 0
   trip-bytes : offerBytes (tailAt 65472) log (bytes 64) (pos 0) ≡ splice log 65472 (header (readingOf (tailAt 65472) 0) 65472 64 192 0)
-  unfolding offerBytes readingOf soundRecord sound rawOf pressed afterClosed beforeAppend need ones onesIn padded
+  unfolding offerBytes readingOf soundRecord sound rawOf pressed afterClosed beforeAppend need sizes cut cutFrom zeros ones onesIn padded
   trip-bytes = rw full
 
   trip-padding : take 8 (drop 65472 (offerBytes (tailAt 65472) log (bytes 64) (pos 0))) ≡ 64 ∷ 0 ∷ 0 ∷ 0 ∷ 0 ∷ 192 ∷ 0 ∷ 0 ∷ []
   unfolding header header24 le2 le4
   trip-padding = ap (λ (l : List ℕ). take 8 (drop 65472 l)) trip-bytes ∙ ap (take 8) (drop-splice log 65472 _ (omega arith))
 
-  -- then an offer of 0 bytes, whatever the log holds
-  trip-then : offeredTold (offerOf (offerOf (tailAt 65472) log (bytes 64) .next) log [] .answer) ≡ is (pos 0) (pos 65568 ∷ [])
-  unfolding offerOf readingOf soundRecord sound rawOf pressed afterClosed beforeAppend need ones onesIn onTrip appendNext changed withTail withCount nextTail rotated
-  trip-then = rw full
+  -- then an offer of 0 bytes, on the record and the log left
+  trip-then-on : (more : List ℕ) → length more ≡ 196608 → offeredTold (offerOf (offerOf (tailAt 65472) log (bytes 64) .next) more [] .answer) ≡ is (pos 0) (pos 65568 ∷ [])
+  unfolding offerOf readingOf soundRecord sound rawOf pressed afterClosed beforeAppend need sizes cut cutFrom zeros ones onesIn onTrip appendNext changed withTail withCount nextTail rotated
+  trip-then-on more long = rw (full, long)
+
+  padding-long : length (header (readingOf (tailAt 65472) 0) 65472 64 192 0) ≡ 24
+  unfolding header header24 le2 le4
+  padding-long = refl
+
+  trip-then : offeredTold (offerOf (offerOf (tailAt 65472) log (bytes 64) .next) (offerBytes (tailAt 65472) log (bytes 64) (pos 0)) [] .answer) ≡ is (pos 0) (pos 65568 ∷ [])
+  trip-then = trip-then-on (offerBytes (tailAt 65472) log (bytes 64) (pos 0)) (ap length trip-bytes ∙ length-splice log 65472 _ (omega (arith, padding-long)) ∙ full)
 
   -- ---- a claim
 
@@ -153,17 +172,17 @@ module _ (log : List ℕ) (full : length log ≡ 196608) where
 
   -- an offer on a closed publication that is not below its limit: 5 before 8
   offer-closed : offeredTold (offerOf (recordAt (tailsAt 0) (pos 7) 96 0 0 true) log (bytes 8193) .answer) ≡ is (pos 5) []
-  unfolding offerOf readingOf soundRecord sound rawOf pressed afterClosed beforeAppend need ones onesIn
+  unfolding offerOf readingOf soundRecord sound rawOf pressed afterClosed beforeAppend need sizes cut cutFrom zeros ones onesIn
   offer-closed = rw full
 
   -- in the last term a trip gives 7 where twice the offset is over the term length, else 12
   last-term-7 : offeredTold (offerOf (lastAt 96 65472) log (bytes 64) .answer) ≡ is (pos 7) []
-  unfolding offerOf readingOf soundRecord sound rawOf pressed afterClosed beforeAppend need ones onesIn onTrip
+  unfolding offerOf readingOf soundRecord sound rawOf pressed afterClosed beforeAppend need sizes cut cutFrom zeros ones onesIn onTrip
   last-term-7 = rw full
 
   last-term-12 : offeredTold (offerOf (lastAt 65504 32768) log (bytes 60000) .answer) ≡ is (pos 12) []
-  unfolding offerOf readingOf soundRecord sound rawOf pressed afterClosed beforeAppend need ones onesIn onTrip
-  last-term-12 = rw full
+  unfolding offerOf readingOf soundRecord sound rawOf pressed afterClosed beforeAppend ones onesIn onTrip
+  last-term-12 = rw (full, need-one 65472 60000 (omega arith))
 
 -- ---- numbers
 
@@ -175,11 +194,11 @@ position-call : positionedTold (positionCall (recordAt (replicate 3 (rawOf 21474
 unfolding openRecord readingOf soundRecord rawOf ones onesIn
 position-call = refl
 
--- raw tail -4294967296: id -1 (with 2^31 added), offset 0
-raw-id : idOf (negsuc 4294967295) ≡ 2147483647
+-- raw tail -4294967296: id -1, offset 0
+raw-id : termId (negsuc 4294967295) ≡ negsuc 0
 raw-id = refl
 
-raw-offset : offsetOf (negsuc 4294967295) ≡ 0
+raw-offset : termOffset (negsuc 4294967295) 65536 ≡ 0
 raw-offset = refl
 
 -- The log is empty, or as a case says, in its first bytes; the rest may hold anything.

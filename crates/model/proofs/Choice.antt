@@ -1,4 +1,4 @@
--- Tests in definitions: what `cond` gives where a test is known, and proofs by cases on it. Cases is named here so that the worked cases
+-- Tests in definitions: what `cond` gives where a test is known, and proofs by cases on it. Anchors is named here so that the worked cases
 -- are checked before the theorems that rest on this file: a wrong definition is then refused first by a case that shows it.
 use mathlib.Core.Path.{_≡_, refl, sym, ap, subst}
 use mathlib.Core.Bool.{Bool, true, false, cond}
@@ -7,6 +7,7 @@ use native.Mathlib.Decide.{decLe, ℕ-discrete}
 use native.Mathlib.Nat.{lt-of-not-le}
 use borrow.Author.Tests.{le-leb, lt-leb, eq-eqb, ne-eqb}
 use lib.Dec.{leb, eqb}
+use Rattle.model.proofs.Anchors as Anchors
 
 -- a known test
 pub cond-true {ℓ} : {X : Type ℓ} (b : Bool) (x y : X) → b ≡ true → cond b x y ≡ x

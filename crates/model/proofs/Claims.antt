@@ -1,12 +1,12 @@
 -- A claim lent and written, committed or aborted: its frame is changed in place, and the history with it.
 use mathlib.Core.Path.{_≡_, refl, sym, ap, ap₂, _∙_, subst}
-use mathlib.Core.Bool.{true, false}
+use mathlib.Core.Bool.{Bool, true, false, cond}
 use Prim.Native.Nat.{ℕ, _+_, _-_, _*_, _<_}
 use native.Mathlib.Nat.{zero-add}
 use mathlib.Core.List.{List, [], _∷_, _++_, append-assoc}
 use native.Mathlib.Omega.{arith}
 use borrow.Author.Tests.{eqb-true}
-use lib.Dec.{eqb}
+use lib.Dec.{eqb, leb}
 use lib.ListN.{length, take, drop}
 use lib.Seq.{drop-at}
 use Rattle.model.specs.declared.LogRecord.{LogRecord}
@@ -22,8 +22,10 @@ use Rattle.model.specs.Bytes.{word, u32, splice, zeros, le2, le4}
 use Rattle.model.specs.FrameDescriptor.{space, negated}
 use Rattle.model.specs.LogBufferDescriptor.{reading, sound}
 use Rattle.model.specs.Parts.{locatedBy}
-use Rattle.model.specs.BufferClaim.{claimStart, goodClaim, matches, claimCheck, bodyStart, bodyEnd, locateOf, outcomeOf, commitOf, changedBy, commitBytes, abortBytes}
-use Rattle.model.specs.History.{Call, fill, commit, abort, outcome, World, Step, filled, step, Shape, shapeOf, State, open·, committed, aborted, Extent, claimed·, startOf, edit, overlay, written·, turned, afterDone, tell}
+use Rattle.model.specs.declared.Located.{Located}
+use Rattle.model.specs.declared.Located.the-variants.{Refused as LocatedRefused}
+use Rattle.model.specs.BufferClaim.{claimStart, goodClaim, matches, claimCheck, bodyStart, bodyEnd, locateOf, writeSpan, writeOutcome, writeOver, outcomeOf, commitOf, changedBy, commitBytes, abortBytes}
+use Rattle.model.specs.History.{Call, fill, commit, abort, outcome, World, Step, step, Shape, shapeOf, State, open·, committed, aborted, Extent, claimed·, startOf, edit, overlay, written·, turned, afterDone, tell}
 use Rattle.model.specs.Corollaries.{rare, UsualOutcome, Usual}
 use Rattle.model.proofs.Choice.{cond-case}
 use Rattle.model.proofs.Both.{and-true}
@@ -228,16 +230,35 @@ module _ (r : LogRecord) (log : List ℕ) (h : List Extent) (ks : List Claim) (t
   span : (b : List ℕ) → take (bodyEnd r k - bodyStart r k) b ≡ take (length (a .body)) b
   span b = let n : bodyEnd r k - bodyStart r k ≡ length (a .body) = omega (arith, f-long) in ap (λ (m : ℕ). take m b) n
 
-  fill-steps : (b : List ℕ) (z : Verdict) → filled r log b (locatedBy (bodyStart r k) (bodyEnd r k) z) ≡ steps (splice log (bodyStart r k) (take (bodyEnd r k - bodyStart r k) b)) z
+  -- a writing is checked as a commit is, once its bytes are not too many
+  abbrev fill-check : ℕ → Verdict
+  fill-check n = cond (leb n 2147483647) (claimCheck r log k) (Refuse IllegalArgument)
+
+  fill-span : (n : ℕ) → writeSpan r log k n ≡ locatedBy (bodyStart r k) (bodyEnd r k) (fill-check n)
+  unfolding writeSpan locateOf
+  fill-span n = go (leb n 2147483647)
+    where
+      go : (t : Bool) → cond t (locatedBy (bodyStart r k) (bodyEnd r k) (claimCheck r log k)) (LocatedRefused IllegalArgument)
+          ≡ locatedBy (bodyStart r k) (bodyEnd r k) (cond t (claimCheck r log k) (Refuse IllegalArgument))
+      go true = refl
+      go false = refl
+
+  fill-says : (n : ℕ) → Says (fill-check n)
+  fill-says n = cond-case Says (leb n 2147483647) (claimCheck r log k) (Refuse IllegalArgument) (λ e. check-says) (λ e. says-no IllegalArgument refl)
+
+  abbrev writes : List ℕ → Located → Step
+  writes b x = record { answer = outcome (writeOutcome x); next = record { record· = r; log = writeOver log b x } }
+
+  fill-steps : (b : List ℕ) (z : Verdict) → writes b (locatedBy (bodyStart r k) (bodyEnd r k) z) ≡ steps (splice log (bodyStart r k) (take (bodyEnd r k - bodyStart r k) b)) z
   fill-steps b Pass = refl
   fill-steps b (Refuse e) = refl
 
   pub fill-keeps : (b : List ℕ) → Keeps c h ks (fill k b) (step w (fill k b))
-  unfolding step locateOf tell
+  unfolding step tell
   fill-keeps b =
-      subst (Keeps c h ks (fill k b)) (sym (fill-steps b (claimCheck r log k)))
+      subst (Keeps c h ks (fill k b)) (sym (ap (writes b) (fill-span (length b)) ∙ fill-steps b (fill-check (length b))))
       (matched (fill k b) (a .state) (overlay (a .body) b) (written· b) _ (sym (length-overlay (a .body) b)) (λ q. refl) (λ q u. u) (λ s. refl)
       (λ s. ap₂ (λ (t : List ℕ) (n : ℕ). splice t (n + 32) (take (bodyEnd r k - bodyStart r k) b)) log-is (o .place)
       ∙ ap (splice (x ++ (enc c p f ++ rest)) (p + 32)) (span b)
       ∙ refills c p 192 0 x (a .body) rest x-long (a .state) b)
-      (claimCheck r log k) check-says)
+      (fill-check (length b)) (fill-says (length b)))

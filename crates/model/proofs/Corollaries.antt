@@ -29,11 +29,11 @@ use Rattle.model.specs.declared.Polled.the-variants.{Fragments}
 use Rattle.model.specs.Bytes.{word, long}
 use Rattle.model.specs.FrameDescriptor.{align, space, frameAt, flagsAt, ends}
 use Rattle.model.specs.LogBufferDescriptor.{partitionOf, reading, greatest, lastTerm, soundRecord, withLimit, withClosed}
-use Rattle.model.specs.BufferClaim.{claimCheck, locateOf, outcomeOf, commitOf, changedBy, commitBytes, abortBytes}
+use Rattle.model.specs.BufferClaim.{claimCheck, writeSpan, writeOutcome, writeOver, outcomeOf, commitOf, changedBy, commitBytes, abortBytes}
 use Rattle.model.specs.Publication.{changeOf, place, fits, onTrip, tripError, offerVerdict, offeredBy, nextBy, logBy, offerOf, offerBytes, claimVerdict, claimedBy, claimOf, claimBytes}
 use Rattle.model.specs.TermReader.{Walked, still, over, walk, natural, goodEntries, numbers, laid}
 use Rattle.model.specs.Image.{Image, pollVerdict, pollReply, PollReply, pollOf}
-use Rattle.model.specs.History.{offer, claim, fill, commit, abort, setLimit, close, World, filled, step, isTrip}
+use Rattle.model.specs.History.{offer, claim, fill, commit, abort, setLimit, close, World, step, isTrip}
 use Rattle.model.specs.Corollaries.{NoTwoAlike, NothingRare, RefusedWith, RefusalsChangeNothing, LieTo, bodiesOf, PollPassed, PollsCountFrames}
 use Rattle.model.proofs.Choice.{le-case}
 use Rattle.model.proofs.Demand as Demand
@@ -90,7 +90,7 @@ module _ (w : World) where
   check-same new (Refuse q) e h = refl
   check-same new Pass e h = absurd (let z : _≡_ {A = ℕ} 0 1 = cc in omega arith)
 
-  fill-same : (b : List ℕ) (x : Located) (e : Error) → RefusedWith (filled r (w .log) b x .answer) e → filled r (w .log) b x .next ≡ w
+  fill-same : (b : List ℕ) (x : Located) (e : Error) → writeOutcome x ≡ Refused e → Same r (writeOver (w .log) b x)
   fill-same b (Span from to) e h = absurd (let z : _≡_ {A = ℕ} 0 1 = cc in omega arith)
   fill-same b (LocatedRefused q) e h = refl
 
@@ -103,7 +103,7 @@ pub refusals-change-nothing : RefusalsChangeNothing
 unfolding RefusalsChangeNothing step offerOf offerBytes claimOf claimBytes commitOf commitBytes abortBytes changeOf
 refusals-change-nothing w (offer m re) e h t = offer-same w _ _ (offerVerdict (reading (w .record·)) (length (w .log)) (length m)) e h t
 refusals-change-nothing w (claim n) e h t = claim-same w (word n) _ (claimVerdict (reading (w .record·)) (length (w .log)) (word n)) e h t
-refusals-change-nothing w (fill k b) e h t = fill-same w b (locateOf (w .record·) (w .log) k) e h
+refusals-change-nothing w (fill k b) e h t = fill-same w b (writeSpan (w .record·) (w .log) k (length b)) e h
 refusals-change-nothing w (commit k) e h t = check-same w _ (claimCheck (w .record·) (w .log) k) e h
 refusals-change-nothing w (abort k) e h t = check-same w _ (claimCheck (w .record·) (w .log) k) e h
 refusals-change-nothing w (setLimit n) e h t = change-same w (withLimit (w .record·) n) (soundRecord (reading (withLimit (w .record·) n))) e h

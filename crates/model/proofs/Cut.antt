@@ -11,14 +11,10 @@ use lib.Dec.{eqb}
 use lib.ListN.{length, take, drop, length-drop}
 use lib.Seq.{length-take-le}
 use Rattle.model.specs.declared.Reading.{Reading}
-use Rattle.model.specs.Bytes.{splice}
+use Rattle.model.specs.Bytes.{splice, zeros}
 use Rattle.model.specs.FrameDescriptor.{space}
-use Rattle.model.specs.TermAppender.{Fragment, fragment, bodyOf, fragmentBytes, written, cutFrom, cut, need}
-
--- what fragments take
-unfoldable pub sizes : List Fragment → ℕ
-sizes [] = 0
-sizes (f ∷ fs) = space (length (bodyOf f)) + sizes fs
+use Rattle.model.specs.TermAppender.{Fragment, fragment, fragmentBytes, written, cutFrom, cut, sizes, need}
+use Rattle.model.proofs.Splice.{length-zeros}
 
 split {ℓ} : {X : Type ℓ} (a b : ℕ) → (a ≤ b → X) → (b < a → X) → X
 split a b f g = elim (decLe a b) [ yes h ↦ f h | no h ↦ g (lt-of-not-le h) ]
@@ -121,30 +117,80 @@ sizes-cut (suc f) pay fl re b z m n h =
       ap (Sum pay) (length-drop pay b),
     ))
 
-pub need-is : (pay re : ℕ) (m : List ℕ) → zero < pay → pay % 32 ≡ 0 → sizes (cut pay re m) ≡ need pay (length m)
-unfolding cut need sizes Sum
-need-is pay re m z d =
-    split (length m) pay
-    (λ k. ap sizes (cut-last (length m) pay 128 re m k) ∙ simp (le-leb _ _ k) (omega arith))
-    (λ k. sizes-cut (suc (length m)) pay 128 re m z d (omega arith) (omega arith) ∙ sym (ap (λ (t : Bool). cond t (space (length m)) (Sum pay (length m))) (lt-leb _ _ k)))
+-- what frames take depends on the message's length alone
+sizes-alike : (f pay fl gl re se : ℕ) (a b : List ℕ) → length a ≡ length b → sizes (cutFrom f pay fl re a) ≡ sizes (cutFrom f pay gl se b)
+unfolding sizes cutFrom
+sizes-alike zero pay fl gl re se a b e = refl
+sizes-alike (suc f) pay fl gl re se a b e =
+    split (length a) pay
+    (λ k. ap sizes (cut-last f pay fl re a k) ∙ ap (λ (n : ℕ). space n + 0) e ∙ sym (ap sizes (cut-last f pay gl se b (omega arith))))
+    (λ k.
+    let l : length (take pay a) ≡ length (take pay b) = length-take-le pay a (omega arith) ∙ sym (length-take-le pay b (omega arith)) in
+    ap sizes (cut-more f pay fl re a k)
+    ∙ ap₂ (λ (x y : ℕ). space x + y) l (sizes-alike f pay 0 0 re se (drop pay a) (drop pay b) (length-drop pay a ∙ omega arith ∙ sym (length-drop pay b)))
+    ∙ sym (ap sizes (cut-more f pay gl se b (omega arith))))
+
+-- the frames of a message take what it needs
+pub need-is : (pay re : ℕ) (m : List ℕ) → sizes (cut pay re m) ≡ need pay (length m)
+unfolding cut need
+need-is pay re m =
+    ap (λ (f : ℕ). sizes (cutFrom (suc f) pay 128 re m)) (sym (length-zeros (length m)))
+    ∙ sizes-alike (suc (length (zeros (length m)))) pay 128 128 re 0 m (zeros (length m)) (sym (length-zeros (length m)))
+
+-- the Rust's formula, for a payload limit that row 1 lets through
+pub need-formula : (pay n : ℕ) → zero < pay → pay % 32 ≡ 0 → zero < n → need pay n ≡ n / pay * (pay + 32) + cond (eqb (n % pay) 0) 0 (space (n % pay))
+unfolding cut need Sum
+need-formula pay n z d h =
+    let l = length-zeros n in
+    sizes-cut (suc (length (zeros n))) pay 128 0 (zeros n) z d (omega arith) (omega arith) ∙ ap (Sum pay) l
 
 -- a message within the payload limit is one frame
 pub need-one : (pay n : ℕ) → n ≤ pay → need pay n ≡ space n
-unfolding need
-need-one pay n h = simp (le-leb _ _ h)
+unfolding cut need sizes
+need-one pay n h =
+    let l = length-zeros n in
+    ap sizes (cut-last (length (zeros n)) pay 128 0 (zeros n) (omega arith)) ∙ ap (λ (x : ℕ). space x + 0) l ∙ omega arith
 
 pub cut-one : (pay re : ℕ) (m : List ℕ) → length m ≤ pay → cut pay re m ≡ fragment 192 re m ∷ []
 unfolding cut
 cut-one pay re m h = cut-last (length m) pay 128 re m h
 
--- and one that is not
-pub need-whole : (pay n : ℕ) → pay < n → n % pay ≡ 0 → need pay n ≡ n / pay * (pay + 32)
-unfolding need
-need-whole pay n h z = simp (lt-leb _ _ h, eq-eqb _ _ z) (omega arith)
+-- it is a multiple of 32, and never 0
+sizes-32 : (fs : List Fragment) → sizes fs % 32 ≡ 0
+unfolding sizes
+sizes-32 [] = refl
+sizes-32 (f ∷ fs) = omega (arith, sizes-32 fs)
 
-pub need-rest : (pay n : ℕ) → pay < n → (n % pay ≡ 0 → ⊥) → need pay n ≡ n / pay * (pay + 32) + space (n % pay)
+pub need-32 : (pay n : ℕ) → need pay n % 32 ≡ 0
 unfolding need
-need-rest pay n h z = simp (lt-leb _ _ h, ne-eqb _ _ z)
+need-32 pay n = sizes-32 (cut pay 0 (zeros n))
+
+pub need-some : (pay n : ℕ) → 32 ≤ need pay n
+unfolding cut need sizes
+need-some pay n =
+    split (length (zeros n)) pay
+    (λ k. omega (arith, ap sizes (cut-last (length (zeros n)) pay 128 0 (zeros n) k)))
+    (λ k. omega (arith, ap sizes (cut-more (length (zeros n)) pay 128 0 (zeros n) k)))
+
+-- it covers the message's bytes and a header
+sizes-cover : (f pay fl re : ℕ) (b : List ℕ) → zero < pay → length b < f → length b + 32 ≤ sizes (cutFrom f pay fl re b)
+unfolding sizes
+sizes-cover zero pay fl re b z h = absurd (omega arith)
+sizes-cover (suc f) pay fl re b z h =
+    split (length b) pay
+    (λ k. omega (arith, ap sizes (cut-last f pay fl re b k)))
+    (λ k. omega (arith, ap sizes (cut-more f pay fl re b k), length-take-le pay b (le-of-lt k), length-drop pay b, sizes-cover f pay 0 re (drop pay b) z (omega (arith, length-drop pay b))))
+
+pub need-covers : (pay n : ℕ) → zero < pay → n + 32 ≤ need pay n
+unfolding need cut
+need-covers pay n z = omega (arith, sizes-cover (suc (length (zeros n))) pay 128 0 (zeros n) z (omega arith), length-zeros n)
+
+-- and one that is not within the payload limit
+pub need-whole : (pay n : ℕ) → 32 ≤ pay → pay % 32 ≡ 0 → pay < n → n % pay ≡ 0 → need pay n ≡ n / pay * (pay + 32)
+need-whole pay n l d h z = need-formula pay n (omega arith) d (omega arith) ∙ simp (eq-eqb _ _ z) (omega arith)
+
+pub need-rest : (pay n : ℕ) → 32 ≤ pay → pay % 32 ≡ 0 → pay < n → (n % pay ≡ 0 → ⊥) → need pay n ≡ n / pay * (pay + 32) + space (n % pay)
+need-rest pay n l d h z = need-formula pay n (omega arith) d (omega arith) ∙ simp (ne-eqb _ _ z)
 
 -- it stays far below what a machine number holds
 pub parts-small : (pay n : ℕ) → 32 ≤ pay → n / pay * (pay + 32) ≤ 2 * n
@@ -152,12 +198,12 @@ parts-small pay n h =
     let times : n / pay * 32 ≤ n / pay * pay = mul-le-mul-left (n / pay) h in
     omega (arith, div-add-mod' n pay)
 
-pub need-small : (pay n : ℕ) → 32 ≤ pay → need pay n ≤ 3 * n + 96
-need-small pay n h =
+pub need-small : (pay n : ℕ) → 32 ≤ pay → pay % 32 ≡ 0 → need pay n ≤ 3 * n + 96
+need-small pay n h d =
     split n pay
     (λ k. omega (arith, need-one pay n k))
     (λ k. by-rest k (n % pay) refl)
   where
     by-rest : pay < n → (r : ℕ) → n % pay ≡ r → need pay n ≤ 3 * n + 96
-    by-rest k zero e = omega (arith, need-whole pay n k e, parts-small pay n h)
-    by-rest k (suc r) e = omega (arith, need-rest pay n k (λ z. omega arith), parts-small pay n h, mod-le n pay)
+    by-rest k zero e = omega (arith, need-whole pay n h d k e, parts-small pay n h)
+    by-rest k (suc r) e = omega (arith, need-rest pay n h d k (λ z. omega arith), parts-small pay n h, mod-le n pay)

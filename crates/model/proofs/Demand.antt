@@ -20,10 +20,11 @@ use Rattle.model.specs.Bytes.{word, long, zeros}
 use Rattle.model.specs.LogBufferDescriptor.{biased, idOf, tailOf, readingOf, reading, publisherPosition, soundRecord, sound, Sound, withLimit, withClosed}
 use Rattle.model.specs.Publication.{openedRecord, openVerdict, openBy, openBytesBy, openOf, openBytes, changeOf}
 use Rattle.model.specs.FragmentAssembler.{partLength}
-use Rattle.model.specs.History.{Call, offer, claim, fill, commit, abort, setLimit, close, Answer, outcome, World, Step, step, answers, left, Shape, shapeOf, Extent, sizeAll, tell, told, messages, learn, Given, AllGiven}
+use Rattle.model.specs.History.{Call, offer, claim, fill, commit, abort, setLimit, close, Answer, outcome, World, Step, step, answers, left, Shape, shapeOf, open·, committed, aborted, Extent, message, claimed·, padding, sizeOf, sizeAll, tell, told, messages, total, learn, Given, AllGiven}
 use Rattle.model.specs.Demand as Demand
 use Rattle.model.specs.Demand.{Ends, Replayed, GivesAll, opened, shape, history, Demand3}
 use Rattle.model.specs.Corollaries.{Rising, AllUsual}
+use Rattle.model.proofs.Cut.{need-covers}
 use Rattle.model.proofs.Both.{both-true, and-true}
 use Rattle.model.proofs.RawTail.{raw-id, raw-offset}
 use Rattle.model.proofs.Sound.{sound-true}
@@ -323,7 +324,43 @@ sized c w h ks i =
     subst (λ (c : Shape). Inv c w h ks → sizeAll c h ≡ reached (reading (w .record·))) (i .holds .is)
     (λ i. history-size (reading (w .record·)) (w .log) h ks (i .holds)) i
 
+-- the messages of a history, and their bytes, take less than its extents
+messages-fit : (c : Shape) (h : List Extent) → 0 < c .payload → total (messages h) + length (messages h) ≤ sizeAll c h
+unfolding messages total sizeAll sizeOf
+messages-fit c [] z = omega arith
+messages-fit c (message re m ∷ h) z = omega (arith, messages-fit c h z, need-covers (c .payload) (length m) z)
+messages-fit c (claimed· open· b ∷ h) z = omega arith
+messages-fit c (claimed· committed b ∷ h) z = omega (arith, messages-fit c h z)
+messages-fit c (claimed· aborted b ∷ h) z = omega (arith, messages-fit c h z)
+messages-fit c (padding n ∷ h) z = omega (arith, messages-fit c h z)
+
+-- so they are few
+pub record Few (r : LogRecord) (ms : List (List ℕ)) : Type 0 where
+  pub messages : length ms ≤ 3 * reading r .term
+  pub bytes : total ms ≤ 3221225472
+
+few-own : (r : LogRecord) (log : List ℕ) (h : List Extent) (ks : List Claim) → Holds (shapeOf (reading r)) (reading r) log h ks → reached (reading r) < 3 * reading r .term
+    → Few r (messages h)
+few-own r log h ks i p =
+    let l = messages-fit (shapeOf (reading r)) h (omega (arith, i .fixed .mtu-low)) in
+    let s = history-size (reading r) log h ks i in
+    record { messages = omega arith; bytes = omega (arith, i .fixed .term-high) }
+
+few-each : (c : Shape) (w : World) (h : List Extent) (ks : List Claim) → Inv c w h ks → reached (reading (w .record·)) < 3 * c .term → Few (w .record·) (messages h)
+few-each c w h ks i =
+    subst (λ (c : Shape). Inv c w h ks → reached (reading (w .record·)) < 3 * c .term → Few (w .record·) (messages h))
+    (i .holds .is) (λ i p. few-own (w .record·) (w .log) h ks (i .holds) p) i
+
 -- ---- the demand
+
+pub few-messages : (log : List ℕ) (term mtu initial session stream : ℤ) → openOf log term mtu initial session stream .answer ≡ Done
+    → (calls : List Call) → AllGiven [] (opened log term mtu initial session stream) calls
+    → ltZ (publisherPosition (reading (left (opened log term mtu initial session stream) calls .record·))) (pos (3 * shape (opened log term mtu initial session stream) .term)) ≡ true
+    → Few (left (opened log term mtu initial session stream) calls .record·) (messages (history (opened log term mtu initial session stream) calls))
+few-messages log term mtu initial session stream fresh calls given short =
+    let w = opened log term mtu initial session stream in
+    few-each (shape w) (left w calls) (history w calls) (later [] (answers w calls)) (ran log term mtu initial session stream fresh calls given short .inv)
+    (below log term mtu initial session stream fresh calls given short)
 
 pub demand3 : Demand3
 unfolding Demand3

@@ -19,13 +19,14 @@ use Rattle.model.specs.declared.Assembled.the-variants.{Refused as Assem
 use Rattle.model.specs.declared.Verdict.the-variants.{Pass, Refuse}
 use Rattle.model.specs.declared.Error.the-variants.{IllegalArgument, IllegalRecord, UnsoundFrame}
 use Rattle.model.specs.Bytes.{zeros, le2, le4, le8, u32, i32}
-use Rattle.model.specs.FrameDescriptor.{align, flagsAt}
+use Rattle.model.specs.FrameDescriptor.{align, isFinished, flagsAt}
 use Rattle.model.specs.DataFrameHeader.{header24}
 use Rattle.model.specs.LogBufferDescriptor.{reading, sound, Sound}
 use Rattle.model.specs.TermReader.{numbers}
 use Rattle.model.specs.FragmentAssembler.{Sessions, partLength, joining, sessionsBy, bufferBy, assembledBy, goodFrame, assembleVerdict, Assembly, assembleBy, assembleOf}
 use Rattle.model.specs.Replay.{Replaying, handedOut, after, feed, feedAll}
 use Rattle.model.specs.History.{Shape, shapeOf, open·, committed, aborted}
+use Rattle.model.proofs.FrameLaws.{length-finished}
 use Rattle.model.proofs.Choice.{cond-true}
 use Rattle.model.proofs.Both.{both-true}
 use Rattle.model.proofs.Fields.{u32-low}
@@ -106,7 +107,7 @@ module _ (r : LogRecord) (log : List ℕ) (snd : Sound (reading r) (length log))
     framed : goodFrame log (k * T + at) ≡ true
     framed =
         both-true (le-leb (k * T + at + 4) (length log) reaches)
-        (both-true (lt-ltb 0 (u32 (drop (k * T + at) log)) (omega (arith, shows))) (lt-ltb (u32 (drop (k * T + at) log)) 2147483648 (omega (arith, shows, short))))
+        (sym (ap isFinished (length-finished (u32 (drop (k * T + at) log)) (λ z. omega (arith, shows)) (omega (arith, shows, short)))))
 
     passes : assembleVerdict (reading r) log (length buffer) k at ≡ Pass
     unfolding assembleVerdict

@@ -1,12 +1,14 @@
 -- Fields read back: the number that was written, and a header's fields (for any header whose fields have their widths).
 use mathlib.Core.Path.{_≡_, refl, _∙_}
 use Prim.Native.Nat.{ℕ, _+_, _*_, _/_, _%_, _<_}
-use mathlib.Core.List.{List, [], _++_}
+use mathlib.Core.List.{List, [], _++_, append-assoc}
 use native.Mathlib.Omega.{arith}
 use lib.ListN.{length}
 use lib.Pow.{shr-shr}
+use Rattle.model.specs.declared.Reading.{Reading}
 use Rattle.model.specs.Bytes.{le2, le4, le8, u16, u32, u64}
 use Rattle.model.specs.DataFrameHeader.{Header, header24, headerBytes, headerAt}
+use Rattle.model.specs.TermAppender.{header, fragment, fragmentBytes}
 
 -- ---- a field at the beginning of a list
 
@@ -54,7 +56,12 @@ by-fields h a t o i j k r e1 e2 e3 e4 e5 e6 e7 = cc
 
 -- what was written is read back, every field
 pub header-back : (h : Header) (s : List ℕ) → Wide h → headerAt (headerBytes h ++ s) ≡ h
-unfolding headerAt headerBytes header24 le2 le4 le8 u16 u32 u64
+unfolding headerBytes header24 le2 le4 le8 u16 u32 u64
 header-back h s w =
     by-fields h _ _ _ _ _ _ _ (u32-le4 (h .length) [] (w .length)) (u16-le2 (h .type) [] (w .type)) (u32-le4 (h .offset) [] (w .offset))
     (u32-le4 (h .session) [] (w .session)) (u32-le4 (h .stream) [] (w .stream)) (u32-le4 (h .id) [] (w .id)) (u64-le8 (h .reserved) [] (w .reserved))
+
+-- a data frame as it is written: the 24 bytes that writing a header sets, the reserved value, the body
+pub fragment-parts : (v : Reading) (o fl re : ℕ) (b : List ℕ) → fragmentBytes v o (fragment fl re b) ≡ header v o (length b + 32) fl 1 ++ (le8 re ++ b)
+unfolding fragmentBytes headerBytes header header24
+fragment-parts v o fl re b = append-assoc (header v o (length b + 32) fl 1) (le8 re) b

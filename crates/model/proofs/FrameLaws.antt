@@ -1,4 +1,4 @@
--- What a finished frame that the frame reader sees is: a header at least, and inside the term.
+-- What a sound finished frame is: a header at least, and inside the term.
 use mathlib.Core.Path.{_≡_, refl, sym, ap, _∙_}
 use Prim.Native.Nat.{ℕ, _≤_, _<_}
 use mathlib.Core.Bool.{Bool, true, false, cond, _||_}
@@ -12,7 +12,7 @@ use Rattle.model.specs.declared.FrameLength.the-variants.{Free, Writing,
 use Rattle.model.specs.declared.Frame.{Frame}
 use Rattle.model.specs.declared.Frame.the-variants.{Absent, Unsound, Padding, Data}
 use Rattle.model.specs.Bytes.{u16, u32}
-use Rattle.model.specs.FrameDescriptor.{align, frameLength, frameBy, frameAt}
+use Rattle.model.specs.FrameDescriptor.{align, frameLength, isFinished, frameBy, frameAt}
 
 pub record Lies (n room : ℕ) : Type 0 where
   pub header : 32 ≤ n
@@ -71,11 +71,6 @@ unfolding frameLength
 length-finished w n h = rw (ne-eqb w 0 n, lt-ltb w 2147483648 h)
 
 -- a finished length is the word, and is positive
-abbrev pub isFinished : FrameLength → Bool
-isFinished Free = false
-isFinished Writing = false
-isFinished (Finished n) = true
-
 abbrev finishedLength : FrameLength → ℕ
 finishedLength Free = 0
 finishedLength Writing = 0

@@ -1,5 +1,8 @@
--- Laws about the definitions, and proofs. Cases holds the marked positions of document 01; Demand proves demand 3.
+-- Laws about the definitions, and proofs. Cases holds the marked positions of document 01, Edges more worked cases; Demand proves demand 3.
+pub mod Anchors
 pub mod Cases
+pub mod Edges
+pub mod Told
 pub mod Both
 pub mod Splice
 pub mod Fields

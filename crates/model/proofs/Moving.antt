@@ -19,7 +19,6 @@ use Rattle.model.specs.LogBufferDescriptor.{biased, idOf, offsetOf, term
 use Rattle.model.specs.TermAppender.{need}
 use Rattle.model.proofs.RawTail.{raw-id, raw-offset, moved-tail}
 use Rattle.model.proofs.SoundRecord.{sound-record-by}
-use Rattle.model.proofs.Cut.{need-one, need-whole, need-rest}
 use Rattle.model.proofs.Rotate.{rotate-own}
 use native.Mathlib.Decide.{decLe}
 use native.Mathlib.Nat.{lt-of-not-le}
@@ -29,23 +28,6 @@ pub term-id-back : (raw : ℤ) → SFits w64 raw → biased (word (termId raw)) 
 term-id-back raw f =
     let small : long raw < 18446744073709551616 = fits-ofZ f .fits in
     ap biased (ofZ-toZ {w = w32} (record { fits = omega arith }))
-
--- ---- what an append needs is a multiple of 32
-
-times-32 : (a b : ℕ) → b % 32 ≡ 0 → a * b % 32 ≡ 0
-times-32 a b h =
-    let e : b ≡ b / 32 * 32 = omega arith in
-    let m : a * (b / 32 * 32) ≡ a * (b / 32) * 32 = sym (mul-assoc a (b / 32) 32) in
-    ap (λ (x : ℕ). a * x % 32) e ∙ ap (λ (x : ℕ). x % 32) m ∙ omega arith
-
-pub need-32 : (pay n : ℕ) → pay % 32 ≡ 0 → need pay n % 32 ≡ 0
-need-32 pay n h = elim (decLe n pay) [ yes k ↦ ap (λ (x : ℕ). x % 32) (need-one pay n k) ∙ omega arith | no k ↦ by-rest (lt-of-not-le k) (n % pay) refl ]
-  where
-    by-rest : pay < n → (r : ℕ) → n % pay ≡ r → need pay n % 32 ≡ 0
-    by-rest k zero e = ap (λ (x : ℕ). x % 32) (need-whole pay n k e) ∙ times-32 (n / pay) (pay + 32) (omega arith)
-    by-rest k (suc r) e =
-        let p : n / pay * (pay + 32) % 32 ≡ 0 = times-32 (n / pay) (pay + 32) (omega arith) in
-        ap (λ (x : ℕ). x % 32) (need-rest pay n k (λ z. omega arith)) ∙ omega arith
 
 -- ---- the active tail moved
 

@@ -9,6 +9,7 @@ use Rattle.model.specs.declared.Reading.{Reading}
 use Rattle.model.specs.declared.Place.{Place}
 use Rattle.model.specs.declared.Verdict.the-variants.{Pass}
 use Rattle.model.specs.LogBufferDescriptor.{firstRows, sound, Sound, goodPartition, goodOffset, withinTerm}
+use Rattle.model.specs.TermReader.{goodStart}
 use Rattle.model.proofs.Sound.{sound-true, term-32}
 use Rattle.model.proofs.Append.{base-in}
 use Rattle.model.proofs.Both.{and-true}
@@ -49,7 +50,28 @@ placed v n k at g h =
       term-32 = m;
     }
 
--- the same by the rows' verdict, and with what else row 1 asks
+-- where a read may start: the place of a frame, or the term's end
+pub record Started (v : Reading) (n k at : ℕ) : Type 0 where
+  pub inside : k * v .term + v .term ≤ n
+  pub at-32 : at % 32 ≡ 0
+  pub within : at ≤ v .term
+  pub term-high : v .term ≤ 1073741824
+  pub term-32 : v .term % 32 ≡ 0
+
+pub started : (v : Reading) (n k at : ℕ) → (goodPartition k && goodStart at v) ≡ true → sound v n ≡ true → Started v n k at
+started v n k at g h =
+    let s = sound-true v n h in
+    let p = and-true (leb k 2) _ g in
+    let q = and-true (eqb (at % 32) 0) _ (p .1) in
+    record {
+      inside = part-in v n k s (leb-true _ _ (p .0));
+      at-32 = eqb-true _ _ (q .0);
+      within = leb-true _ _ (and-true (leb at (v .term)) _ (q .1) .0);
+      term-high = s .term-high;
+      term-32 = term-32 v n s;
+    }
+
+-- the place of a frame by the rows' verdict, and with what else row 1 asks
 pub passed-place : (p : Place) (n : ℕ) → firstRows (goodPartition (p .partition) && goodOffset (p .offset) (p .read)) (sound (p .read) n) Pass ≡ Pass
     → Placed (p .read) n (p .partition) (p .offset)
 passed-place p n h =

@@ -22,11 +22,11 @@ use Rattle.model.specs.declared.FramesRead.the-variants.{Walked as AllWa
 use Rattle.model.specs.declared.TermRead.{TermRead}
 use Rattle.model.specs.declared.TermRead.the-variants.{Outcome, Refused}
 use Rattle.model.specs.FrameDescriptor.{align, frameAt}
-use Rattle.model.specs.LogBufferDescriptor.{sound, goodPartition, goodOffset, placeOf, firstRows, row17}
-use Rattle.model.specs.TermReader.{Walked, still, over, handed, goodWalk, nextAction, restActions, walk, walkOf, firstUnsound, natural, goodEntries, framesBy, framesOf, framesEntries, readWalk, readVerdict, readBy, readOf, readEntries, entriesBy}
+use Rattle.model.specs.LogBufferDescriptor.{sound, goodPartition, placeOf, firstRows, row17}
+use Rattle.model.specs.TermReader.{Walked, still, over, handed, goodWalk, goodHandler, goodStart, nextAction, restActions, walk, walkOf, firstUnsound, natural, goodEntries, framesBy, framesOf, framesEntries, readWalk, readVerdict, readBy, readOf, readEntries, entriesBy}
 use Rattle.model.proofs.FrameLaws.{Lies, lies}
 use Rattle.model.proofs.Rows.{rows-refuse, rows-pass, rows-then}
-use Rattle.model.proofs.PlaceLaws.{Placed, and-and, placed}
+use Rattle.model.proofs.PlaceLaws.{Started, and-and, started}
 use Rattle.model.proofs.ReaderLaws.{good-walk-by, frames-by}
 use Rattle.model.proofs.Both.{and-true}
 
@@ -87,22 +87,22 @@ walk-settled fuel log base term end at limit acts = walk-within fuel log base te
 
 -- row 1
 abbrev pub goodRead : Place → ℕ → ℕ → Bool
-goodRead p limit slots = goodPartition (p .partition) && (goodOffset (p .offset) (p .read) && goodEntries slots limit)
+goodRead p limit slots = goodPartition (p .partition) && (goodStart (p .offset) (p .read) && goodEntries slots limit)
 
 -- the walk's answer as `read` gives it
 abbrev pub readFrom : ℕ → FramesRead → TermRead
 readFrom at (AllWalked w) = Outcome (at + w .moved) (w .fragments)
 readFrom at (WalkRefused e) = Refused e
 
-pub read-placed : (p : Place) (n limit slots : ℕ) → goodRead p limit slots ≡ true → sound (p .read) n ≡ true → Placed (p .read) n (p .partition) (p .offset)
-read-placed p n limit slots g s = placed (p .read) n (p .partition) (p .offset) (and-and (leb (p .partition) 2) (goodOffset (p .offset) (p .read)) (goodEntries slots limit) g .0) s
+pub read-placed : (p : Place) (n limit slots : ℕ) → goodRead p limit slots ≡ true → sound (p .read) n ≡ true → Started (p .read) n (p .partition) (p .offset)
+read-placed p n limit slots g s = started (p .read) n (p .partition) (p .offset) (and-and (leb (p .partition) 2) (goodStart (p .offset) (p .read)) (goodEntries slots limit) g .0) s
 
 -- the walk's own row 1 is met
 pub read-walk : (p : Place) (n limit slots : ℕ) → goodRead p limit slots ≡ true → sound (p .read) n ≡ true
     → goodWalk n (p .partition * p .read .term) (p .read .term) (p .read .term) (p .offset) limit slots ≡ true
 read-walk p n limit slots g s =
     let q = read-placed p n limit slots g s in
-    let e = and-and (leb (p .partition) 2) (goodOffset (p .offset) (p .read)) (goodEntries slots limit) g .1 in
+    let e = and-and (leb (p .partition) 2) (goodStart (p .offset) (p .read)) (goodEntries slots limit) g .1 in
     let f = and-true (leb slots 2147483647) _ e in
     sym (good-walk-by n (p .partition * p .read .term) (p .read .term) (p .read .term) (p .offset) limit slots (q .inside) (q .term-high) (q .term-32) (omega arith) (q .at-32) (leb-true _ _ (f .0))) ∙ f .1
 
@@ -143,21 +143,21 @@ module _ (r : LogRecord) (log : List ℕ) (partition offset limit : ℤ) (slots 
   unfolding readVerdict
   read-goes h =
       let g = rows-pass (goodRead p most (length slots)) (sound (p .read) (length log)) h in
-      let f = frames-by log (p .partition * p .read .term) (p .read .term) (p .read .term) (p .offset) most [] slots (read-walk p (length log) most (length slots) (g .0) (g .1)) in
+      let f = frames-by log (p .partition * p .read .term) (p .read .term) (p .read .term) (p .offset) most [] slots (read-walk p (length log) most (length slots) (g .0) (g .1)) refl in
       let b = by-verdict (rows-then (goodRead p most (length slots)) (sound (p .read) (length log)) (row17 first) h) in
       (ap (readFrom (p .offset)) (sym (f .0)) ∙ by-first first (walkAt p most) ∙ b .0, sym (f .1) ∙ b .1)
 
 -- where the walk goes at all, it refuses only 17, and moves inside the term
-module _ (log : List ℕ) (base term end at limit : ℕ) (acts : List ℕ) (slots : List ℤ) (h : goodWalk (length log) base term end at limit (length slots) ≡ true) where
+module _ (log : List ℕ) (base term end at limit : ℕ) (acts : List ℕ) (slots : List ℤ) (h : goodWalk (length log) base term end at limit (length slots) ≡ true) (g : goodHandler acts limit ≡ true) where
   pub frames-refuse : (e : Error) → framesOf log base term end at limit acts slots ≡ WalkRefused e → e ≡ UnsoundFrame
-  frames-refuse e q = go (firstUnsound log base term end at limit) (frames-by log base term end at limit acts slots h .0 ∙ q)
+  frames-refuse e q = go (firstUnsound log base term end at limit) (frames-by log base term end at limit acts slots h g .0 ∙ q)
     where
       go : (b : Bool) → framesBy (walk term log base term end at limit acts) (cond b (Refuse UnsoundFrame) Pass) ≡ WalkRefused e → e ≡ UnsoundFrame
       go true t = cc
       go false t = absurd (let z : _≡_ {A = ℕ} 0 1 = cc in omega arith)
 
   pub frames-moved : (w : Walk) → framesOf log base term end at limit acts slots ≡ AllWalked w → w .moved ≤ term - at
-  frames-moved w q = go (firstUnsound log base term end at limit) (frames-by log base term end at limit acts slots h .0 ∙ q)
+  frames-moved w q = go (firstUnsound log base term end at limit) (frames-by log base term end at limit acts slots h g .0 ∙ q)
     where
       go : (b : Bool) → framesBy (walk term log base term end at limit acts) (cond b (Refuse UnsoundFrame) Pass) ≡ AllWalked w → w .moved ≤ term - at
       go true t = absurd (let z : _≡_ {A = ℕ} 0 1 = cc in omega arith)

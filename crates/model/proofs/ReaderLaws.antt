@@ -1,6 +1,6 @@
 -- Row 1 of a walk over frames, in words, and both ways; and the walk's own answer once row 1 is met.
 use mathlib.Core.Path.{_≡_, refl, sym, ap, _∙_}
-use mathlib.Core.Bool.{Bool, true, false, cond, _&&_}
+use mathlib.Core.Bool.{Bool, true, false, cond, _&&_, _||_}
 use mathlib.Core.List.{List}
 use Prim.Native.Nat.{ℕ, _+_, _/_, _%_, _≤_}
 use native.Mathlib.Omega.{arith}
@@ -12,7 +12,7 @@ use Rattle.model.specs.declared.FramesRead.the-variants.{Walked as AllWa
 use Rattle.model.specs.declared.Error.the-variants.{IllegalArgument, UnsoundFrame}
 use Rattle.model.specs.declared.Verdict.the-variants.{Pass, Refuse}
 use Rattle.model.proofs.WalkLoop.{Came, walkBy}
-use Rattle.model.specs.TermReader.{walk, firstUnsound, goodWalk, framesVerdict, framesBy, framesOf, framesEntries, entriesBy}
+use Rattle.model.specs.TermReader.{walk, firstUnsound, goodWalk, goodControl, goodHandler, framesVerdict, framesBy, framesOf, framesEntries, entriesBy}
 use Rattle.model.proofs.Both.{and-true}
 
 -- two tests and a third
@@ -67,19 +67,27 @@ module _ (n base term end at limit slots : ℕ) where
       → leb limit (slots / 2) ≡ goodWalk n base term end at limit slots
   good-walk-by h1 h2 h3 h4 h5 h6 = simp (le-leb _ _ h1, le-leb _ _ h2, eq-eqb _ _ h3, le-leb _ _ h4, eq-eqb _ _ h5, le-leb _ _ h6)
 
+-- good answers are a good handler's
+pub handled : (acts : List ℕ) (limit : ℕ) → goodControl acts limit ≡ true → goodHandler acts limit ≡ true
+handled acts limit h = go (eqb (length acts) 0)
+  where
+    go : (b : Bool) → (b || goodControl acts limit) ≡ true
+    go true = refl
+    go false = h
+
 -- ---- refused by row 1, or the walk after it
 
 module _ (log : List ℕ) (base term end at limit : ℕ) (acts : List ℕ) (slots : List ℤ) where
-  pub frames-refused : goodWalk (length log) base term end at limit (length slots) ≡ false
+  pub frames-refused : (goodWalk (length log) base term end at limit (length slots) && goodHandler acts limit) ≡ false
       → (WalkRefused IllegalArgument ≡ framesOf log base term end at limit acts slots) × (slots ≡ framesEntries log base term end at limit acts slots)
   unfolding framesOf framesEntries framesVerdict
   frames-refused h = (rw h, rw h)
 
-  pub frames-by : goodWalk (length log) base term end at limit (length slots) ≡ true
+  pub frames-by : goodWalk (length log) base term end at limit (length slots) ≡ true → goodHandler acts limit ≡ true
       → (framesBy (walk term log base term end at limit acts) (cond (firstUnsound log base term end at limit) (Refuse UnsoundFrame) Pass) ≡ framesOf log base term end at limit acts slots)
       × (entriesBy slots (walk term log base term end at limit acts) (cond (firstUnsound log base term end at limit) (Refuse UnsoundFrame) Pass) ≡ framesEntries log base term end at limit acts slots)
   unfolding framesOf framesEntries framesVerdict
-  frames-by h = (rw h, rw h)
+  frames-by h g = (rw (h, g), rw (h, g))
 
   -- what a loop came to is the answer, once row 17 is judged; `moved` is the loop's own number
   pub frames-came : (out : List ℤ) (e f m moved s : ℕ) → Came log base term end at limit acts slots out (walkBy e f m s) → moved ≡ m

@@ -28,7 +28,7 @@ use Rattle.model.specs.LogBufferDescriptor.{partitionOf, reading, greate
 use Rattle.model.specs.TermReader.{Walked, walk, natural, goodEntries, numbers, laid, firstUnsound}
 use Rattle.model.specs.Image.{Image, newImage, readable, pollVerdict, PollReply, pollReply, pollOf}
 use Rattle.model.specs.FragmentAssembler.{Assembly, assembleOf}
-use Rattle.model.specs.Replay.{Replaying, handedOut, after, feed, feedAll, entriesOf, withImage, round, start, Polls, rounds, Quiet, ReplayState, NextReply, giving, givenBy, assembledTo, pollOne, turnBy, nextFrom, nextOf, messageBy, replayed}
+use Rattle.model.specs.Replay.{Replaying, handedOut, after, feed, feedAll, entriesOf, withImage, round, start, Polls, rounds, Quiet, ReplayState, NextReply, giving, givenBy, assembledTo, pollOne, turnBy, nextFrom, nextOf, standing, messageBy, replayed}
 use Rattle.model.specs.History.{Shape, shapeOf, open·, committed, aborted}
 use Rattle.model.specs.Demand.{Allowed, Replayed, GivesAll}
 use Rattle.model.proofs.Sound.{term-32}
@@ -600,8 +600,31 @@ module _ (r : LogRecord) (log : List ℕ) (snd : Sound (reading r) (length log))
           ∙ all-given ms kept found most (x .at) (x .front′) (x .back′) (x .stands-on) (omega (arith, ap length (x .grown), length-append (p .out) (x .message ∷ []))))
           (next-says kept (suc (3 * T)) p front back s (enough front back (s .cut)))
 
+      -- after as many replies as there are messages comes the end
+      ended : (ms : List (List ℕ)) → takes-in part empty (fragsOf fs) .lost ≡ false → takes-in part empty (fragsOf fs) .out ≡ ms
+          → (n : ℕ) (p : Replaying) (front back : List Cell) → Stands p front back → length ms ≡ length (p .out) + n
+          → nextOf r log (standing n r log (state p)) .answer ≡ End
+      unfolding standing nextOf
+      ended ms kept found zero p front back s l =
+          ⊎-elim (λ x. x .0)
+          (λ x. absurd (omega (arith, least (x .at) (x .front′) (x .back′) (x .stands-on), ap length (x .grown), length-append (p .out) (x .message ∷ []), ap length found)))
+          (next-says kept (suc (3 * T)) p front back s (enough front back (s .cut)))
+      ended ms kept found (suc n) p front back s l =
+          ⊎-elim (λ x. absurd (omega (arith, ap length (x .1), ap length found)))
+          (λ x.
+          subst (λ (t : ReplayState). nextFrom (suc (3 * T)) r log (standing n r log t) .answer ≡ End) (sym (x .is))
+          (ended ms kept found n (x .at) (x .front′) (x .back′) (x .stands-on) (omega (arith, ap length (x .grown), length-append (p .out) (x .message ∷ [])))))
+          (next-says kept (suc (3 * T)) p front back s (enough front back (s .cut)))
+
+      begins : Stands (start session buffer) [] fs
+      unfolding Clear sizes fragsOf takes-in
+      begins = record { cut = refl; clear = tt; image = refl; like = record { same = fresh-same c· buffer; out = refl } }
+
       pub gives-all : (ms : List (List ℕ)) → takes-in part empty (fragsOf fs) ≡ record { held = []; out = ms; lost = false } → GivesAll (record { record· = r; log = log }) session buffer ms
-      unfolding GivesAll Clear sizes fragsOf takes-in
-      gives-all ms m most l =
-          all-given ms (ap (λ (a : Asm). a .lost) m) (ap (λ (a : Asm). a .out) m) most (start session buffer) [] fs
-          (record { cut = refl; clear = tt; image = refl; like = record { same = fresh-same c· buffer; out = refl } }) (omega arith)
+      gives-all ms m =
+          let kept = ap (λ (a : Asm). a .lost) m in
+          let found = ap (λ (a : Asm). a .out) m in
+          record {
+            each = λ most l. all-given ms kept found most (start session buffer) [] fs begins (omega arith);
+            ended = ended ms kept found (length ms) (start session buffer) [] fs begins (omega arith);
+          }

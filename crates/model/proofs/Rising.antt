@@ -22,19 +22,16 @@ use Rattle.model.specs.declared.Offered.{Offered}
 use Rattle.model.specs.declared.Offered.the-variants.{Position as OfferPosition, Refused as OfferRefused}
 use Rattle.model.specs.declared.Claimed.{Claimed}
 use Rattle.model.specs.declared.Claimed.the-variants.{Position as ClaimPosition, Refused as ClaimRefused}
-use Rattle.model.specs.declared.Located.{Located}
-use Rattle.model.specs.declared.Located.the-variants.{Span, Refused as LocatedRefused}
 use Rattle.model.specs.Bytes.{word}
 use Rattle.model.specs.FrameDescriptor.{space}
 use Rattle.model.specs.LogBufferDescriptor.{reading, active, payloadLimit, greatest, soundRecord, sound, Sound, lastTerm, withTail, withLimit, withClosed, rotated}
 use Rattle.model.specs.TermAppender.{need, claimRecord}
-use Rattle.model.specs.BufferClaim.{locateOf}
 use Rattle.model.specs.Publication.{changeOf, place, pressed, afterClosed, tailRoom, fits, onTrip, tripError, tripNext, appendNext, tooLong, needOf, beforeAppend, offerVerdict, offeredBy, nextBy, offerOf, claimVerdict, claimedBy, claimOf}
-use Rattle.model.specs.History.{Call, offer, claim, fill, commit, abort, setLimit, close, Answer, offered, claimed, outcome, World, filled, step, answers, left}
+use Rattle.model.specs.History.{Call, offer, claim, fill, commit, abort, setLimit, close, Answer, offered, claimed, outcome, World, step, answers, left}
 use Rattle.model.specs.Corollaries.{RisesBy, Rising}
 use Rattle.model.proofs.Choice.{cond-case, split}
 use Rattle.model.proofs.Sound.{sound-true, id-small}
-use Rattle.model.proofs.Cut.{need-one, need-whole, need-rest}
+use Rattle.model.proofs.Cut.{need-some}
 use Rattle.model.proofs.Tails.{with-tail, Tails, moved-reading, moved-tails, rotated-reading, rotated-tails, limit-reading, closed-reading, limit-tails, closed-tails, reached}
 
 -- ---- a ladder that passes
@@ -94,26 +91,6 @@ claim-lets v n m =
     (λ e. cond-case P (not (sound v n)) (Refuse IllegalRecord) _ (λ e. no IllegalRecord)
     (λ s. cond-case P (ltb (payloadLimit v) m) (Refuse ExceedsMaxPayloadLength) _ (λ e. no ExceedsMaxPayloadLength)
     (λ e. cond-case P (v .closed) (Refuse PublicationClosed) _ (λ e. no PublicationClosed) (λ e. after-lets v n m (space m) _ (room-lets v n (space m) (not-false (sound v n) s))))))
-
--- ---- what an append needs is at least 32
-
-parts-some : (pay n : ℕ) → 32 ≤ pay → pay < n → 32 ≤ n / pay * (pay + 32)
-parts-some pay n h k =
-    let q : 1 ≤ n / pay = one in
-    let l : 1 * (pay + 32) ≤ n / pay * (pay + 32) = mul-le-mul-right (pay + 32) q in
-    omega arith
-  where
-    one : 1 ≤ n / pay
-    one = le-div-iff-mul-le {k = pay} {x = 1} {y = n} (omega arith) .1 (omega arith)
-
-pub need-some : (pay n : ℕ) → 32 ≤ pay → 32 ≤ need pay n
-need-some pay n h =
-    split n pay (λ k. omega (arith, need-one pay n k))
-    (λ k. by-rest k (n % pay) refl)
-  where
-    by-rest : pay < n → (r : ℕ) → n % pay ≡ r → 32 ≤ need pay n
-    by-rest k zero e = omega (arith, need-whole pay n k e, parts-some pay n h k)
-    by-rest k (suc r) e = omega (arith, need-rest pay n k (λ (z : n % pay ≡ 0). omega arith), parts-some pay n h k)
 
 -- ---- the record goes up
 
@@ -226,7 +203,7 @@ module _ (r : LogRecord) (log : List ℕ) (h : Tails r) where
       → Up r (offered (cond b (OfferPosition (pos (place v· + needOf v· m))) (OfferRefused (tripError v·))))
       (cond b (withTail r (active r) (v· .id) (v· .offset + needOf v· m)) (tripNext (withTail r (active r) (v· .id) (v· .offset + needOf v· m)) v·))
   offer-fits m true f t =
-      let u = fits-up r (length log) (needOf v· m) h t (need-some (payloadLimit v·) m (pay-low (length log) (t .is-sound))) (leb-true _ _ f) in
+      let u = fits-up r (length log) (needOf v· m) h t (need-some (payloadLimit v·) m) (leb-true _ _ f) in
       moved-up r (length log) (needOf v· m) h t (offered (OfferPosition (pos (place v· + needOf v· m)))) (ap pos (sym (u .0)), u .1)
   offer-fits m false f t = trip-up r (length log) (needOf v· m) h t (offered (OfferRefused (tripError v·))) (λ n. tt)
 
@@ -257,15 +234,11 @@ module _ (r : LogRecord) (log : List ℕ) (h : Tails r) where
       go true = record { tails = t; above = l; reaches = tt }
       go false = stays r (outcome (Refused IllegalRecord)) h tt
 
-  fill-up : (b : List ℕ) (x : Located) → Up r (filled r log b x .answer) (filled r log b x .next .record·)
-  fill-up b (Span from to) = stays r (outcome Done) h tt
-  fill-up b (LocatedRefused e) = stays r (outcome (Refused e)) h tt
-
   pub step-up : (y : Call) → Up r (step (record { record· = r; log = log }) y .answer) (step (record { record· = r; log = log }) y .next .record·)
   unfolding step offerOf claimOf
   step-up (offer m re) = offer-by (length m) (offerVerdict v· (length log) (length m)) (offer-lets v· (length log) (length m))
   step-up (claim n) = claim-by (word n) (claimVerdict v· (length log) (word n)) (claim-lets v· (length log) (word n))
-  step-up (fill k b) = fill-up b (locateOf r log k)
+  step-up (fill k b) = stays r _ h tt
   step-up (commit k) = stays r _ h tt
   step-up (abort k) = stays r _ h tt
   step-up (setLimit n) = change-up (withLimit r n) (limit-tails r h n) (subst (λ (x : Reading). reached v· ≤ reached x) (sym (limit-reading r h n)) (le-refl _))

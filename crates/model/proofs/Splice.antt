@@ -41,6 +41,18 @@ splice-more l at a b n e h =
     ∙ append-assoc (take at l) a (b ++ drop (at + length (a ++ b)) l)
     ∙ ap (λ (x : List ℕ). take at l ++ x) (sym (append-assoc a b (drop (at + length (a ++ b)) l)))
 
+-- the beginning of a piece laid anew
+pub splice-over : (l : List ℕ) (at : ℕ) (a b new : List ℕ) → length a ≡ length new → at ≤ length l → splice (splice l at (a ++ b)) at new ≡ splice l at (new ++ b)
+unfolding splice
+splice-over l at a b new e h =
+    let p = take at l in
+    let q = drop (at + length (a ++ b)) l in
+    let sum : at + length (a ++ b) ≡ at + length (new ++ b) = omega (arith, length-append a b, length-append new b) in
+    ap (λ (x : List ℕ). splice (p ++ x) at new) (append-assoc a b q)
+    ∙ splice-mid p a (b ++ q) new at (length-take-le at l h) e
+    ∙ ap (λ (x : List ℕ). p ++ x) (sym (append-assoc new b q))
+    ∙ ap (λ (n : ℕ). p ++ ((new ++ b) ++ drop n l)) sum
+
 -- ---- zeros
 
 pub length-zeros : (n : ℕ) → length (zeros n) ≡ n

@@ -14,6 +14,7 @@ use Rattle.model.specs.DataFrameHeader.{header24}
 use Rattle.model.specs.LogBufferDescriptor.{biased}
 use Rattle.model.specs.TermAppender.{header, Fragment, fragment, bodyOf, fragmentBytes, written}
 use Rattle.model.specs.History.{Shape, shapeOf, State, open·, committed, aborted, overlay}
+use Rattle.model.proofs.Fields.{fragment-parts}
 use Rattle.model.proofs.Choice.{split}
 use Rattle.model.proofs.Splice.{length-zeros, zeros-add, splice-mid, splice-zeros}
 use Rattle.model.proofs.Cells.{Cell, cell, stored, typ, head, flen, fsize, solidAt, solid, enc, bytes, sizes, length-head, length-solid, length-enc, flen-ge, fsize-ge}
@@ -78,8 +79,8 @@ module _ (v : Reading) (k : ℕ) (own : v .id ≡ v .initial + k) where
   head-is o w fl ty = ap (λ (i : ℕ). header24 (record { length = w; version = 0; flags = fl; type = ty; offset = o; session = v .session; stream = v .stream; id = biased i; reserved = 0 })) own
 
   fragment-is : (o : ℕ) (f : Fragment) → fragmentBytes v o f ≡ solidAt c· o (c· .initial + k) (cellOf f)
-  unfolding fragmentBytes solidAt stored typ flen
-  fragment-is o (fragment fl re b) = ap (λ (l : List ℕ). l ++ (le8 re ++ b)) (head-is o (length b + 32) fl 1)
+  unfolding solidAt stored typ flen
+  fragment-is o (fragment fl re b) = fragment-parts v o fl re b ∙ ap (λ (l : List ℕ). l ++ (le8 re ++ b)) (head-is o (length b + 32) fl 1)
 
   space-is : (f : Fragment) → space (length (bodyOf f)) ≡ fsize (cellOf f)
   unfolding fsize flen

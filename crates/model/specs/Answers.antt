@@ -4,6 +4,7 @@ use mathlib.Core.Bool.{cond}
 use mathlib.Core.List.{List, [], _∷_}
 use lib.IntN.{ℤ, pos, negsuc}
 use Rattle.model.specs.declared.Error.{Error}
+use Rattle.model.specs.declared.Error.the-variants.{ActionPossiblyDelayed, UnsoundFrame}
 use Rattle.model.specs.declared.Claim.{Claim}
 use Rattle.model.specs.declared.HeaderFields.{HeaderFields}
 use Rattle.model.specs.declared.Outcome.{Outcome}
@@ -18,6 +19,12 @@ use Rattle.model.specs.declared.Offered.{Offered}
 use Rattle.model.specs.declared.Offered.the-variants.{Position as OfferedPosition, Refused as OfferedRefused}
 use Rattle.model.specs.declared.Claimed.{Claimed}
 use Rattle.model.specs.declared.Claimed.the-variants.{Position as ClaimedPosition, Refused as ClaimedRefused}
+use Rattle.model.specs.declared.Course.{Course}
+use Rattle.model.specs.declared.Course.the-variants.{Refuse as CourseRefuse, Stray as CourseStray, Trip as CourseTrip, Fit as CourseFit}
+use Rattle.model.specs.declared.FrameLength.{FrameLength}
+use Rattle.model.specs.declared.FrameLength.the-variants.{Free as LengthFree, Writing as LengthWriting, Finished as LengthFinished}
+use Rattle.model.specs.declared.Frame.{Frame}
+use Rattle.model.specs.declared.Frame.the-variants.{Absent as FrameAbsent, Unsound as FrameUnsound, Padding as FramePadding, Data as FrameData}
 use Rattle.model.specs.declared.Located.{Located}
 use Rattle.model.specs.declared.Located.the-variants.{Span as LocatedSpan, Refused as LocatedRefused}
 use Rattle.model.specs.declared.HeaderRead.{HeaderRead}
@@ -76,6 +83,13 @@ abbrev pub positionedTold : Positioned → Told
 positionedTold (PositionedPosition p) = answered (p ∷ [])
 positionedTold (PositionedRefused e) = refused e
 
+-- the course of an append: into the term it has no number yet, past its end it is -2 in the Rust
+abbrev pub courseTold : Course → Told
+courseTold (CourseRefuse e) = refused e
+courseTold CourseStray = refused ActionPossiblyDelayed
+courseTold CourseTrip = answered (negsuc 1 ∷ [])
+courseTold CourseFit = answered []
+
 -- the appenders of messages
 abbrev pub appendedTold : Appended → Told
 appendedTold (AppendedOffset n) = answered (pos n ∷ [])
@@ -102,6 +116,19 @@ claimedTold (ClaimedRefused e) = refused e
 abbrev pub locatedTold : Located → Told
 locatedTold (LocatedSpan from to) = answered (pos from ∷ pos to ∷ [])
 locatedTold (LocatedRefused e) = refused e
+
+-- a length word by its sign: 0, -1, or 1 and the length
+abbrev pub frameLengthTold : FrameLength → Told
+frameLengthTold LengthFree = answered (pos 0 ∷ [])
+frameLengthTold LengthWriting = answered (negsuc 0 ∷ [])
+frameLengthTold (LengthFinished n) = answered (pos 1 ∷ pos n ∷ [])
+
+-- what stands at a place: no finished frame; an unsound one; else 0 for padding or 1 for data, as the type field has it, and the length
+abbrev pub frameTold : Frame → Told
+frameTold FrameAbsent = answered []
+frameTold FrameUnsound = refused UnsoundFrame
+frameTold (FramePadding n) = answered (pos 0 ∷ pos n ∷ [])
+frameTold (FrameData n) = answered (pos 1 ∷ pos n ∷ [])
 
 -- header fields
 abbrev pub headerTold : HeaderRead → Told

@@ -6,7 +6,7 @@
 --    | length | V  | F  |type | term   |session | stream | term   | reserved value | body ..
 --    |  i32   | u8 | u8 | u16 | offset |  id    |  id    |  id    |      i64       |
 --    +--------+----+----+-----+--------+--------+--------+--------+----------------+
--- Read LogBufferDescriptor next.
+-- Every definition that reads or writes a header goes by this file. Read FrameDescriptor next.
 use Prim.Native.Nat.{ℕ}
 use mathlib.Core.List.{List, _∷_, _++_}
 use lib.ListN.{drop, getD}
@@ -32,14 +32,18 @@ header24 h = le4 (h .length) ++ (h .version ∷ h .flags ∷ (le2 (h .type) ++ (
 unfoldable pub headerBytes : Header → List ℕ
 headerBytes h = header24 h ++ le8 (h .reserved)
 
+-- where the type lies, which an abort stores by itself; the length, which it and a commit store, is the first field
+abbrev pub typeField : ℕ
+typeField = 6
+
 -- the header at the beginning of s, read field by field
-unfoldable pub headerAt : List ℕ → Header
+abbrev pub headerAt : List ℕ → Header
 headerAt s =
     record {
       length = u32 s;
       version = getD s 4 0;
       flags = getD s 5 0;
-      type = u16 (drop 6 s);
+      type = u16 (drop typeField s);
       offset = u32 (drop 8 s);
       session = u32 (drop 12 s);
       stream = u32 (drop 16 s);

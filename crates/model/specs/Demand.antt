@@ -27,14 +27,14 @@ use Rattle.model.specs.declared.Outcome.the-variants.{Done}
 use Rattle.model.specs.declared.Offered.{Offered}
 use Rattle.model.specs.declared.Offered.the-variants.{Position as OfferPosition, Refused as OfferRefused}
 use Rattle.model.specs.declared.Claimed.{Claimed}
+use Rattle.model.specs.declared.Replayed.the-variants.{End}
 use Rattle.model.specs.declared.Claimed.the-variants.{Position as ClaimPosition, Refused as ClaimRefused}
 use Rattle.model.specs.LogBufferDescriptor.{reading, publisherPosition}
 use Rattle.model.specs.Publication.{openOf, openBytes}
 use Rattle.model.specs.TermReader.{natural, goodEntries}
-use Rattle.model.specs.Image.{newImage}
-use Rattle.model.specs.FragmentAssembler.{partLength, fresh}
+use Rattle.model.specs.FragmentAssembler.{partLength}
 use Rattle.model.specs.History.{Call, Answer, offered, claimed, outcome, World, answers, left, Shape, shapeOf, Extent, message, claimed·, padding, sizeAll, tell, told, messages, AllGiven}
-use Rattle.model.specs.Replay.{Polls, start, rounds, Quiet, replayed}
+use Rattle.model.specs.Replay.{Polls, start, rounds, Quiet, nextOf, fromStart, standing, replayed}
 
 -- ---- the answered positions
 
@@ -77,11 +77,10 @@ pub record Replayed (w : World) (session : ℤ) (buffer : List ℕ) (ms : List (
   pub exact : (ps : Polls) → Allowed ps → (n : ℕ) → Quiet (w .record·) (w .log) ps (start session buffer) n
       → rounds (w .record·) (w .log) ps (start session buffer) n .out ≡ ms
 
--- The same message by message: what `nextOf` (Replay) gives, one call after another, is ms.
-unfoldable pub GivesAll : World → ℤ → List ℕ → List (List ℕ) → Type 0
-GivesAll w session buffer ms =
-    (most : ℕ) → length ms < most
-    → replayed most (w .record·) (w .log) (record { image = newImage (pos 0) session; sessions = fresh; buffer = buffer }) ≡ ms
+-- The same message by message: what `nextOf` (Replay) gives, one call after another, is ms; and the call after these answers the end.
+pub record GivesAll (w : World) (session : ℤ) (buffer : List ℕ) (ms : List (List ℕ)) : Type 0 where
+  pub each : (most : ℕ) → length ms < most → replayed most (w .record·) (w .log) (fromStart session buffer) ≡ ms
+  pub ended : nextOf (w .record·) (w .log) (standing (length ms) (w .record·) (w .log) (fromStart session buffer)) .answer ≡ End
 
 -- ---- the demand
 

@@ -5,6 +5,8 @@ use mathlib.Core.List.{List, [], _∷_}
 use lib.Dec.{eqb, leb, ltb}
 use lib.ListN.{length, take, drop, getD, set, replicate}
 use lib.IntN.{ℤ, pos}
+use mir.Syntax.{w32}
+use mir.Val.{toZ}
 use Rattle.model.specs.declared.LogRecord.{LogRecord}
 use Rattle.model.specs.declared.Reading.{Reading}
 use Rattle.model.specs.declared.Error.the-variants.{AssemblyFull}
@@ -14,8 +16,9 @@ use Rattle.model.specs.declared.Joining.{Joining}
 use Rattle.model.specs.declared.Joining.the-variants.{Through, Ignore, Full, TooLong, Join, Complete}
 use Rattle.model.specs.declared.Assembled.{Assembled}
 use Rattle.model.specs.declared.Assembled.the-variants.{Nothing, Fragment, Message, Refused}
-use Rattle.model.specs.Bytes.{word, u32, i32, splice}
-use Rattle.model.specs.FrameDescriptor.{unsoundLength, flagsAt, begins, ends}
+use Rattle.model.specs.Bytes.{word, splice}
+use Rattle.model.specs.DataFrameHeader.{headerAt}
+use Rattle.model.specs.FrameDescriptor.{frameLength, isFinished, unsoundLength, flagsAt, begins, ends}
 use Rattle.model.specs.LogBufferDescriptor.{reading, sound, goodPartition, goodOffset, firstRows, row17}
 
 -- The bookkeeping: how many sessions are entered, their ids, and how many bytes each holds. A count over 16 is taken as 16.
@@ -89,7 +92,7 @@ assembledBy at n part (Complete k from) = Message (k * part) (from + n)
 
 -- a frame of positive length at a place of the term, its length word present
 abbrev pub goodFrame : List ℕ → ℕ → Bool
-goodFrame log at = leb (at + 4) (length log) && (ltb 0 (u32 (drop at log)) && ltb (u32 (drop at log)) 2147483648)
+goodFrame log at = leb (at + 4) (length log) && isFinished (frameLength (headerAt (drop at log) .length))
 
 -- 1
 abbrev pub goodAssembly : Reading → List ℕ → ℕ → ℕ → ℕ → Bool
@@ -99,25 +102,31 @@ goodAssembly v log buffer k at = leb buffer 2147483647 && (goodPartition k && (g
 unfoldable pub assembleVerdict : Reading → List ℕ → ℕ → ℕ → ℕ → Verdict
 assembleVerdict v log buffer k at =
     firstRows (goodAssembly v log buffer k at) (sound v (length log))
-    (row17 (unsoundLength (u32 (drop (k * v .term + at) log)) (v .term - at)))
+    (row17 (unsoundLength (headerAt (drop (k * v .term + at) log) .length) (v .term - at)))
 
 pub record Assembly : Type 0 where
   pub answer : Assembled
   pub next : Sessions
   pub buffer : List ℕ
 
--- for the frame at the beginning of `frame`, a log from its place on
+-- the session and the length of the body of the frame at the beginning of `frame`, a log from its place on
+abbrev pub sessionAt : List ℕ → ℤ
+sessionAt frame = toZ w32 (headerAt frame .session)
+
+abbrev pub bodyLength : List ℕ → ℕ
+bodyLength frame = headerAt frame .length - 32
+
 abbrev pub joined : Sessions → List ℕ → List ℕ → ℕ → Joining → Assembly
 joined s buffer frame at x =
     record {
-      answer = assembledBy (at + 32) (u32 frame - 32) (partLength (length buffer)) x;
-      next = sessionsBy s (i32 (drop 12 frame)) (u32 frame - 32) x;
-      buffer = bufferBy buffer (take (u32 frame - 32) (drop 32 frame)) x;
+      answer = assembledBy (at + 32) (bodyLength frame) (partLength (length buffer)) x;
+      next = sessionsBy s (sessionAt frame) (bodyLength frame) x;
+      buffer = bufferBy buffer (take (bodyLength frame) (drop 32 frame)) x;
     }
 
 abbrev pub joinedAt : Sessions → List ℕ → List ℕ → ℕ → Assembly
 joinedAt s buffer frame at =
-    joined s buffer frame at (joining s (i32 (drop 12 frame)) (flagsAt frame) (u32 frame - 32) (partLength (length buffer)))
+    joined s buffer frame at (joining s (sessionAt frame) (flagsAt frame) (bodyLength frame) (partLength (length buffer)))
 
 abbrev pub assembleBy : Sessions → List ℕ → List ℕ → ℕ → Verdict → Assembly
 assembleBy s buffer frame at (Refuse e) = record { answer = Refused e; next = s; buffer = buffer }

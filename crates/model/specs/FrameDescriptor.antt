@@ -1,14 +1,13 @@
--- A frame's length, flags and soundness ("Frame" in document 01), and what the frame reader sees at a place. Read DataFrameHeader next.
+-- A frame's length, flags and soundness ("Frame" in document 01), and what stands at a place of a log. Read LogBufferDescriptor next.
 use Prim.Native.Nat.{ℕ, _+_, _-_, _*_, _/_, _%_}
 use mathlib.Core.Bool.{Bool, true, false, cond, _||_}
 use mathlib.Core.List.{List}
 use lib.Dec.{eqb, ltb}
-use lib.ListN.{drop, getD}
 use Rattle.model.specs.declared.FrameLength.{FrameLength}
 use Rattle.model.specs.declared.FrameLength.the-variants.{Free, Writing, Finished}
 use Rattle.model.specs.declared.Frame.{Frame}
 use Rattle.model.specs.declared.Frame.the-variants.{Absent, Unsound, Padding, Data}
-use Rattle.model.specs.Bytes.{u16, u32}
+use Rattle.model.specs.DataFrameHeader.{headerAt}
 
 -- the next multiple of 32: the "aligned length" of a frame
 abbrev pub align : ℕ → ℕ
@@ -26,6 +25,11 @@ negated n = 4294967296 - n
 unfoldable pub frameLength : ℕ → FrameLength
 frameLength w = cond (eqb w 0) Free (cond (ltb w 2147483648) (Finished w) Writing)
 
+abbrev pub isFinished : FrameLength → Bool
+isFinished Free = false
+isFinished Writing = false
+isFinished (Finished n) = true
+
 -- A frame is unsound if its length is 1 to 31, or its aligned length ends past the term, which is `room` bytes away.
 abbrev pub unsoundLength : ℕ → ℕ → Bool
 unsoundLength n room = ltb n 32 || ltb room (align n)
@@ -38,7 +42,7 @@ frameBy type room (Finished n) = cond (unsoundLength n room) Unsound (cond (eqb 
 
 -- what stands at the beginning of s, a log from a frame's place on
 unfoldable pub frameAt : List ℕ → ℕ → Frame
-frameAt s room = frameBy (u16 (drop 6 s)) room (frameLength (u32 s))
+frameAt s room = frameBy (headerAt s .type) room (frameLength (headerAt s .length))
 
 abbrev pub isUnsound : Frame → Bool
 isUnsound Absent = false
@@ -48,7 +52,7 @@ isUnsound (Data n) = false
 
 -- the flags byte: 0x80 begins a message, 0x40 ends it
 abbrev pub flagsAt : List ℕ → ℕ
-flagsAt s = getD s 5 0
+flagsAt s = headerAt s .flags
 
 abbrev pub begins : ℕ → Bool
 begins flags = eqb (flags / 128 % 2) 1

@@ -19,19 +19,17 @@ use Rattle.model.specs.declared.Offered.{Offered}
 use Rattle.model.specs.declared.Offered.the-variants.{Position as OfferPosition, Refused as OfferRefused}
 use Rattle.model.specs.declared.Claimed.{Claimed}
 use Rattle.model.specs.declared.Claimed.the-variants.{Position as ClaimPosition, Refused as ClaimRefused}
-use Rattle.model.specs.declared.Located.{Located}
-use Rattle.model.specs.declared.Located.the-variants.{Span, Refused as LocatedRefused}
-use Rattle.model.specs.Bytes.{word, splice, zeros}
+use Rattle.model.specs.Bytes.{word, zeros}
 use Rattle.model.specs.FrameDescriptor.{space}
 use Rattle.model.specs.LogBufferDescriptor.{biased, payloadLimit}
 use Rattle.model.specs.TermAppender.{need}
-use Rattle.model.specs.BufferClaim.{locateOf, commitOf, commitBytes, abortBytes}
+use Rattle.model.specs.BufferClaim.{writeOf, writeBytes, commitOf, commitBytes, abortBytes}
 use Rattle.model.specs.Publication.{limitOf, closeOf, offerOf, offerBytes, claimOf, claimBytes}
 
 -- ---- calls
 
--- `fill` is a lending of a claim's body and what is written into it: these bytes from its start on, as far as the body goes. All that
--- writers can do to a body is to leave it with other bytes, so one such call stands for any writings.
+-- `fill` is a lending of a claim's body and what is written into it (`writeOf`, `writeBytes`): these bytes from its start on, as far as the
+-- body goes. All that writers can do to a body is to leave it with other bytes, so one such call stands for any writings.
 pub data Call : Type 0 where
   offer : List ℕ → ℤ → Call
   claim : ℤ → Call
@@ -54,10 +52,6 @@ pub record Step : Type 0 where
   pub answer : Answer
   pub next : World
 
-abbrev pub filled : LogRecord → List ℕ → List ℕ → Located → Step
-filled r log b (Span from to) = record { answer = outcome Done; next = record { record· = r; log = splice log from (take (to - from) b) } }
-filled r log b (LocatedRefused e) = record { answer = outcome (Refused e); next = record { record· = r; log = log } }
-
 -- one call, by the definition of each
 unfoldable pub step : World → Call → Step
 step w (offer m reserved) =
@@ -70,7 +64,8 @@ step w (claim n) =
       answer = claimed (claimOf (w .record·) (w .log) n .answer);
       next = record { record· = claimOf (w .record·) (w .log) n .next; log = claimBytes (w .record·) (w .log) n };
     }
-step w (fill c b) = filled (w .record·) (w .log) b (locateOf (w .record·) (w .log) c)
+step w (fill c b) =
+    record { answer = outcome (writeOf (w .record·) (w .log) c b); next = record { record· = w .record·; log = writeBytes (w .record·) (w .log) c b } }
 step w (commit c) =
     record { answer = outcome (commitOf (w .record·) (w .log) c); next = record { record· = w .record·; log = commitBytes (w .record·) (w .log) c } }
 step w (abort c) =
@@ -217,6 +212,11 @@ messages (claimed· open· b ∷ h) = []
 messages (claimed· committed b ∷ h) = b ∷ messages h
 messages (claimed· aborted b ∷ h) = messages h
 messages (padding n ∷ h) = messages h
+
+-- the bytes of messages, added up
+unfoldable pub total : List (List ℕ) → ℕ
+total [] = 0
+total (m ∷ ms) = length m + total ms
 
 -- ---- what the calls are given
 

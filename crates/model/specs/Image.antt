@@ -7,6 +7,8 @@ use lib.Dec.{eqb, leb, ltb}
 use lib.ListN.{length, drop}
 use lib.IntN.{ℤ, pos}
 use lib.Signed.{leZ}
+use mir.Syntax.{w32}
+use mir.Val.{toZ}
 use Rattle.model.specs.declared.LogRecord.{LogRecord}
 use Rattle.model.specs.declared.Reading.{Reading}
 use Rattle.model.specs.declared.Error.{Error}
@@ -23,9 +25,10 @@ use Rattle.model.specs.declared.BlockPolled.{BlockPolled}
 use Rattle.model.specs.declared.BlockPolled.the-variants.{Block, Refused as BlockRefused}
 use Rattle.model.specs.declared.EndOfStream.{EndOfStream}
 use Rattle.model.specs.declared.EndOfStream.the-variants.{Is, Refused as EndRefused}
-use Rattle.model.specs.Bytes.{long, i32}
+use Rattle.model.specs.Bytes.{long}
+use Rattle.model.specs.DataFrameHeader.{headerAt}
 use Rattle.model.specs.LogBufferDescriptor.{partitionOf, reading, greatest, sound}
-use Rattle.model.specs.TermReader.{Walked, walk, firstUnsound, natural, goodEntries, laid}
+use Rattle.model.specs.TermReader.{Walked, walk, firstUnsound, natural, goodEntries, goodActions, goodControl, laid}
 use Rattle.model.specs.TermScan.{scanFrom}
 
 -- position, session, whether it is closed, and the end-of-stream flag kept at closing
@@ -68,7 +71,7 @@ reachable v current new rest =
 
 -- ---- reading from a position
 
--- the offset at which a read from p up to a limit position ends: the term's end, or before it
+-- A read from p up to a limit position takes the frames that begin before this offset: the term's end, or less.
 abbrev pub endOffset : Reading → ℕ → ℕ → ℕ
 endOffset v p limit = min (v .term) (p % v .term + (limit - p))
 
@@ -117,23 +120,18 @@ pollOf r log i slots limit =
     pollReply i slots (walkAt (reading r) log (long (i .position)) (reading r .term) (natural limit) [])
     (pollVerdict (reading r) log i (goodEntries (length slots) (natural limit)) (reading r .term) (natural limit))
 
--- also a limit position, below which nothing is read
+-- also a limit position: no frame is read that begins at or past it
 unfoldable pub boundedPollOf : LogRecord → List ℕ → Image → List ℤ → ℤ → ℤ → PollReply
 boundedPollOf r log i slots bound limit =
     pollReply i slots (walkAt (reading r) log (long (i .position)) (endOffset (reading r) (long (i .position)) (natural bound)) (natural limit) [])
     (pollVerdict (reading r) log i (goodEntries (length slots) (natural limit)) (endOffset (reading r) (long (i .position)) (natural bound)) (natural limit))
-
--- lent actions: each 1 to 4, in a slice of at most 2147483647
-unfoldable pub goodActions : List ℕ → Bool
-goodActions [] = true
-goodActions (a ∷ acts) = (leb 1 a && leb a 4) && goodActions acts
 
 -- also lent actions, not fewer than the fragment limit
 unfoldable pub controlledPollOf : LogRecord → List ℕ → Image → List ℤ → List ℕ → ℤ → PollReply
 controlledPollOf r log i slots acts limit =
     pollReply i slots (walkAt (reading r) log (long (i .position)) (reading r .term) (natural limit) acts)
     (pollVerdict (reading r) log i
-    (goodEntries (length slots) (natural limit) && (goodActions acts && (leb (length acts) 2147483647 && leb (natural limit) (length acts))))
+    (goodEntries (length slots) (natural limit) && goodControl acts (natural limit))
     (reading r .term) (natural limit))
 
 -- ---- controlled_peek: record, log, image, lent entries (not fewer than the actions), actions, start, limit position
@@ -180,7 +178,7 @@ abbrev pub blockBy : Reading → List ℕ → Image → ℕ → ReadVerdict → 
 blockBy v log i n Read =
     cond (eqb n 0) (Block 0 0 (pos 0) (pos 0))
     (Block (long (i .position) % v .term) n (i .session)
-    (i32 (drop (partitionOf (long (i .position)) (v .term) * v .term + long (i .position) % v .term + 20) log)))
+    (toZ w32 (headerAt (drop (partitionOf (long (i .position)) (v .term) * v .term + long (i .position) % v .term) log) .id)))
 blockBy v log i n Closed = Block 0 0 (pos 0) (pos 0)
 blockBy v log i n (Refuse e) = BlockRefused e
 

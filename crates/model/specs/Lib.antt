@@ -4,8 +4,8 @@ pub mod Bytes
 pub mod Errors
 pub mod Answers
 pub mod Parts
-pub mod FrameDescriptor
 pub mod DataFrameHeader
+pub mod FrameDescriptor
 pub mod LogBufferDescriptor
 pub mod TermAppender
 pub mod BufferClaim

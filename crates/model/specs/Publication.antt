@@ -50,7 +50,8 @@ openedRecord term mtu initial session stream =
       «is_closed» = false;
     }
 
--- what a refused opening answers: a record of zeros, which every call refuses with 2
+-- What a refused opening answers: a record of zeros. It breaks row 2 (`no-record`, proofs/Edges.antt), so every call refuses it, with 2, or with
+-- 1 where an argument's range comes first.
 unfoldable pub noRecord : LogRecord
 noRecord =
     record {

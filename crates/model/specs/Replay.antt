@@ -133,6 +133,15 @@ nextFrom (suc fuel) r log s = turnBy r log s (pollOne r log (s .image) .answer) 
 unfoldable pub nextOf : LogRecord → List ℕ → ReplayState → NextReply
 nextOf r log s = nextFrom (suc (3 * reading r .term)) r log s
 
+-- from position 0 by a fresh image into a fresh assembler over a lent buffer
+abbrev pub fromStart : ℤ → List ℕ → ReplayState
+fromStart session buffer = record { image = newImage (pos 0) session; sessions = fresh; buffer = buffer }
+
+-- where so many calls leave it
+unfoldable pub standing : ℕ → LogRecord → List ℕ → ReplayState → ReplayState
+standing zero r log s = s
+standing (suc n) r log s = standing n r log (nextOf r log s .next)
+
 -- the messages that it gives, at most so many
 abbrev pub messageBy : List ℕ → ReplayState → Replayed → List (List ℕ) → List (List ℕ)
 messageBy log s (InLog from n) rest = take n (drop from log) ∷ rest

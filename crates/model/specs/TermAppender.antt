@@ -1,6 +1,6 @@
 -- The appenders: a message cut into frames, what is written, which way an append goes and what it answers and leaves
 -- ("Writing" in document 01). Read BufferClaim or Publication next.
-use Prim.Native.Nat.{ℕ, zero, suc, _+_, _-_, _*_, _/_, _%_}
+use Prim.Native.Nat.{ℕ, zero, suc, _+_, _-_, _*_, _%_}
 use mathlib.Core.Bool.{Bool, cond, _&&_}
 use mathlib.Core.List.{List, [], _∷_, _++_}
 use lib.Dec.{eqb, leb, ltb}
@@ -19,20 +19,21 @@ use Rattle.model.specs.declared.Appended.the-variants.{Offset, Tripped, 
 use Rattle.model.specs.declared.AppendReply.{AppendReply}
 use Rattle.model.specs.declared.AppendedClaim.the-variants.{Claimed, Tripped as ClaimTripped, Refused as ClaimRefused}
 use Rattle.model.specs.declared.AppendClaimReply.{AppendClaimReply}
-use Rattle.model.specs.Bytes.{word, long, splice, le8}
+use Rattle.model.specs.Bytes.{word, long, splice, zeros}
 use Rattle.model.specs.FrameDescriptor.{space, negated}
-use Rattle.model.specs.DataFrameHeader.{Header, header24}
+use Rattle.model.specs.DataFrameHeader.{Header, header24, headerBytes}
 use Rattle.model.specs.LogBufferDescriptor.{biased, readingOf, sound, goodPartition, withTail}
 
 -- ---- frames
 
--- a header at an offset of the record's term: the 24 bytes that writing one sets, version 0
-abbrev pub headerOf : Reading → ℕ → ℕ → ℕ → ℕ → Header
-headerOf v offset len flags type =
-    record { length = len; version = 0; flags = flags; type = type; offset = offset; session = v .session; stream = v .stream; id = biased (v .id); reserved = 0 }
+-- a header at an offset of the record's term, version 0
+abbrev pub headerOf : Reading → ℕ → ℕ → ℕ → ℕ → ℕ → Header
+headerOf v offset len flags type reserved =
+    record { length = len; version = 0; flags = flags; type = type; offset = offset; session = v .session; stream = v .stream; id = biased (v .id); reserved = reserved }
 
+-- the 24 bytes of it that writing a header sets: claims and paddings leave the reserved value as it is
 unfoldable pub header : Reading → ℕ → ℕ → ℕ → ℕ → List ℕ
-header v offset len flags type = header24 (headerOf v offset len flags type)
+header v offset len flags type = header24 (headerOf v offset len flags type 0)
 
 -- a data frame to be written: its flags, its reserved value (the bits), its body
 pub data Fragment : Type 0 where
@@ -41,8 +42,9 @@ pub data Fragment : Type 0 where
 abbrev pub bodyOf : Fragment → List ℕ
 bodyOf (fragment flags reserved body) = body
 
+-- its bytes in a log: the 32 of its header, which counts them and the body, and the body
 unfoldable pub fragmentBytes : Reading → ℕ → Fragment → List ℕ
-fragmentBytes v offset (fragment flags reserved body) = header v offset (length body + 32) flags 1 ++ (le8 reserved ++ body)
+fragmentBytes v offset (fragment flags reserved body) = headerBytes (headerOf v offset (length body + 32) flags 1 reserved) ++ body
 
 -- fragments written one after another from an offset of the partition that starts at base
 unfoldable pub written : Reading → List ℕ → ℕ → ℕ → List Fragment → List ℕ
@@ -60,12 +62,15 @@ cutFrom (suc fuel) payload first reserved m =
 unfoldable pub cut : ℕ → ℕ → List ℕ → List Fragment
 cut payload reserved m = cutFrom (suc (length m)) payload 128 reserved m
 
--- What an append of n bytes needs: its aligned length, or for a fragmented message the sum over its frames. The sum is the Rust's
--- formula; `need-is` (proofs/Cut.antt) is the law that it is the sum.
+-- the aligned lengths of frames, added up
+unfoldable pub sizes : List Fragment → ℕ
+sizes [] = 0
+sizes (f ∷ fs) = space (length (bodyOf f)) + sizes fs
+
+-- What an append of n bytes needs: the sum over the frames of a message of n bytes, whatever they are (`need-is`, proofs/Cut.antt).
+-- `need-formula` there is the Rust's formula for it.
 unfoldable pub need : ℕ → ℕ → ℕ
-need payload n =
-    cond (leb n payload) (space n)
-    (n / payload * (payload + 32) + cond (eqb (n % payload) 0) 0 (space (n % payload)))
+need payload n = sizes (cut payload 0 (zeros n))
 
 -- one padding frame fills the rest of the term, both flags set, the reserved value untouched; none where nothing is left
 unfoldable pub padded : Reading → List ℕ → ℕ → List ℕ

@@ -1,7 +1,7 @@
 -- Reading a term: the walk over frames that every poll takes, entries, `read`, header fields, and views of bodies and blocks
 -- ("Reading" in document 01). Read TermScan or Image next.
 use Prim.Native.Nat.{ℕ, zero, suc, _+_, _-_, _*_, _/_, _%_}
-use mathlib.Core.Bool.{Bool, cond, _&&_, _||_}
+use mathlib.Core.Bool.{Bool, true, cond, _&&_, _||_}
 use mathlib.Core.List.{List, [], _∷_, _++_}
 use lib.Dec.{eqb, leb, ltb}
 use lib.ListN.{length, drop}
@@ -108,6 +108,15 @@ natural (negsuc n) = 0
 abbrev pub goodEntries : ℕ → ℕ → Bool
 goodEntries slots limit = leb slots 2147483647 && leb limit (slots / 2)
 
+-- lent actions: each 1 to 4
+unfoldable pub goodActions : List ℕ → Bool
+goodActions [] = true
+goodActions (a ∷ acts) = (leb 1 a && leb a 4) && goodActions acts
+
+-- and not fewer than the fragment limit, in a slice of at most 2147483647
+abbrev pub goodControl : List ℕ → ℕ → Bool
+goodControl acts limit = goodActions acts && (leb (length acts) 2147483647 && leb limit (length acts))
+
 -- the lent slice with the entries written from its start, the rest untouched
 unfoldable pub numbers : List (ℕ × ℕ) → List ℤ
 numbers [] = []
@@ -122,14 +131,19 @@ entriesBy slots w (Refuse e) = slots
 
 -- ---- the walk as the leaf library offers it: any numbers
 
--- a term that lies in the log, on boundaries of 32, an end inside it, an offset on a boundary, room for the entries
+-- A term that lies in the log, its length a multiple of 32; an end inside it; an offset that is a multiple of 32; room for the entries.
+-- Where the term starts is not judged beyond that.
 abbrev pub goodWalk : ℕ → ℕ → ℕ → ℕ → ℕ → ℕ → ℕ → Bool
 goodWalk n base term end at limit slots =
     leb (base + term) n && (leb term 1073741824 && (eqb (term % 32) 0 && (leb end term && (eqb (at % 32) 0 && goodEntries slots limit))))
 
-unfoldable pub framesVerdict : List ℕ → ℕ → ℕ → ℕ → ℕ → ℕ → ℕ → Verdict
-framesVerdict log base term end at limit slots =
-    cond (goodWalk (length log) base term end at limit slots)
+-- and the handler's answers: none, where nobody handles, or good ones
+abbrev pub goodHandler : List ℕ → ℕ → Bool
+goodHandler acts limit = eqb (length acts) 0 || goodControl acts limit
+
+unfoldable pub framesVerdict : List ℕ → ℕ → ℕ → ℕ → ℕ → ℕ → List ℕ → ℕ → Verdict
+framesVerdict log base term end at limit acts slots =
+    cond (goodWalk (length log) base term end at limit slots && goodHandler acts limit)
     (row17 (firstUnsound log base term end at limit))
     (Refuse IllegalArgument)
 
@@ -143,17 +157,21 @@ framesBy w (Refuse e) = WalkRefused e
 -- log, where the term starts, its length, the end, the offset, the fragment limit, the actions, the lent entries
 unfoldable pub framesOf : List ℕ → ℕ → ℕ → ℕ → ℕ → ℕ → List ℕ → List ℤ → FramesRead
 framesOf log base term end at limit acts slots =
-    framesBy (walk term log base term end at limit acts) (framesVerdict log base term end at limit (length slots))
+    framesBy (walk term log base term end at limit acts) (framesVerdict log base term end at limit acts (length slots))
 
 unfoldable pub framesEntries : List ℕ → ℕ → ℕ → ℕ → ℕ → ℕ → List ℕ → List ℤ → List ℤ
 framesEntries log base term end at limit acts slots =
-    entriesBy slots (walk term log base term end at limit acts) (framesVerdict log base term end at limit (length slots))
+    entriesBy slots (walk term log base term end at limit acts) (framesVerdict log base term end at limit acts (length slots))
 
 -- ---- `read`: record, log, partition, offset, fragment limit, lent entries. In order: 1, 2, 17.
 
+-- Where it may start: the place of a frame, or the term's end, where nothing is left to read.
+abbrev pub goodStart : ℕ → Reading → Bool
+goodStart at v = eqb (at % 32) 0 && withinTerm at v
+
 unfoldable pub readVerdict : Reading → List ℕ → ℕ → ℕ → ℕ → ℕ → Verdict
 readVerdict v log k at limit slots =
-    firstRows (goodPartition k && (goodOffset at v && goodEntries slots limit)) (sound v (length log))
+    firstRows (goodPartition k && (goodStart at v && goodEntries slots limit)) (sound v (length log))
     (row17 (firstUnsound log (k * v .term) (v .term) (v .term) at limit))
 
 abbrev pub readWalk : Reading → List ℕ → ℕ → ℕ → ℕ → Walked

@@ -167,7 +167,7 @@ pub enum FrameLength {
     Finished(usize),
 }
 
-// What the frame reader sees at a place: no finished frame, an unsound one, or the length of a padding or a data frame.
+// What stands at a place of a log: no finished frame, an unsound one, or the length of a padding or a data frame.
 pub enum Frame {
     Absent,
     Unsound,
@@ -203,6 +203,7 @@ pub struct Walk {
     pub settled: usize,
 }
 
+// What the frame reader (`read_frames`) answers.
 pub enum FramesRead {
     Walked(Walk),
     Refused(Error),

@@ -1,0 +1,290 @@
+-- Worked cases at the edges that document 01 names: each range of row 2 on both sides, the order and the numbers of 15 and 16, and answers
+-- whose numbers differ from each other. A definition that is changed together with its code is refused here. Names and records as in Cases.
+use Prim.Native.Nat.{ℕ, _+_}
+use mathlib.Core.Path.{_≡_, refl, _∙_}
+use mathlib.Core.Bool.{Bool, true, false}
+use mathlib.Core.List.{List, [], _∷_, _++_}
+use native.Mathlib.Omega.{arith}
+use lib.ListN.{length, replicate}
+use lib.IntN.{ℤ, pos, negsuc}
+use lib.Count.{ones, onesIn, ones-cat}
+use Rattle.model.specs.declared.LogRecord.{LogRecord}
+use Rattle.model.specs.Bytes.{le4, u16, u32}
+use Rattle.model.specs.Answers.{outcomeTold, positionedTold, appendedTold, readTold, polledTold, blockTold, endTold}
+use Rattle.model.specs.FrameDescriptor.{frameAt, frameLength}
+use Rattle.model.specs.LogBufferDescriptor.{reading, readingOf, soundRecord, sound, changed, withTail, rawOf, termOffset}
+use Rattle.model.specs.TermAppender.{course, unfragmentedCourse, unfragmentedReply}
+use Rattle.model.specs.Publication.{noRecord, openRecord, windowCall}
+use Rattle.model.specs.TermReader.{walk, goodActions, readVerdict, readOf}
+use Rattle.model.specs.TermScan.{scanFrom}
+use Rattle.model.specs.Image.{Image, newImage, readable, reachable, pollVerdict, controlledPollOf, blockPollOf, setPositionOf, endOfStreamOf, closeImageOf}
+use Rattle.model.specs.declared.Joining.the-variants.{Join, Complete}
+use Rattle.model.specs.FragmentAssembler.{Sessions, placeIn, joining}
+use Rattle.model.proofs.Cases.{recordAt, tailsAt, tailAt, is}
+
+-- ---- row 2, each range at its edge and past it
+
+-- tail offset, count, initial id, term length, mtu, limit
+abbrev ranged : ℕ → ℤ → ℤ → ℤ → ℤ → ℤ → LogRecord
+ranged offset count initial term mtu limit =
+    record {
+      tails = tailsAt offset;
+      «active_term_count» = count;
+      «initial_term_id» = initial;
+      «term_length» = term;
+      «mtu_length» = mtu;
+      «session_id» = pos 5;
+      «stream_id» = pos 6;
+      «is_connected» = pos 1;
+      «publication_limit» = limit;
+      «end_of_stream_position» = pos 9223372036854775807;
+      «is_closed» = false;
+    }
+
+abbrev sounds : LogRecord → Bool
+sounds r = soundRecord (reading r)
+
+-- 65,536 to 1,073,741,824, and a power of two
+term-lowest : sounds (ranged 0 (pos 0) (pos 7) (pos 65536) (pos 96) (pos 0)) ≡ true
+unfolding readingOf soundRecord rawOf ones onesIn
+term-lowest = refl
+
+term-below : sounds (ranged 0 (pos 0) (pos 7) (pos 32768) (pos 96) (pos 0)) ≡ false
+unfolding readingOf soundRecord rawOf ones onesIn
+term-below = refl
+
+small-bit : ones 65536 + ones 0 ≡ 1
+unfolding ones onesIn
+small-bit = refl
+
+large-bit : ones 1073741824 ≡ 1
+large-bit = ones-cat 14 65536 0 (omega arith) ∙ small-bit
+
+term-highest : sounds (ranged 0 (pos 0) (pos 7) (pos 1073741824) (pos 96) (pos 0)) ≡ true
+unfolding readingOf soundRecord rawOf
+term-highest = rw large-bit
+
+term-above : sounds (ranged 0 (pos 0) (pos 7) (negsuc 2147483647) (pos 96) (pos 0)) ≡ false
+unfolding readingOf soundRecord rawOf ones onesIn
+term-above = refl
+
+term-two-bits : sounds (ranged 0 (pos 0) (pos 7) (pos 65537) (pos 96) (pos 0)) ≡ false
+unfolding readingOf soundRecord rawOf ones onesIn
+term-two-bits = refl
+
+-- a multiple of 32 from 64 to 65,504
+mtu-lowest : sounds (ranged 0 (pos 0) (pos 7) (pos 65536) (pos 64) (pos 0)) ≡ true
+unfolding readingOf soundRecord rawOf ones onesIn
+mtu-lowest = refl
+
+mtu-below : sounds (ranged 0 (pos 0) (pos 7) (pos 65536) (pos 32) (pos 0)) ≡ false
+unfolding readingOf soundRecord rawOf ones onesIn
+mtu-below = refl
+
+mtu-highest : sounds (ranged 0 (pos 0) (pos 7) (pos 65536) (pos 65504) (pos 0)) ≡ true
+unfolding readingOf soundRecord rawOf ones onesIn
+mtu-highest = refl
+
+mtu-above : sounds (ranged 0 (pos 0) (pos 7) (pos 65536) (pos 65536) (pos 0)) ≡ false
+unfolding readingOf soundRecord rawOf ones onesIn
+mtu-above = refl
+
+mtu-between : sounds (ranged 0 (pos 0) (pos 7) (pos 65536) (pos 112) (pos 0)) ≡ false
+unfolding readingOf soundRecord rawOf ones onesIn
+mtu-between = refl
+
+-- from -2147483646 up
+initial-lowest : sounds (ranged 0 (pos 0) (negsuc 2147483645) (pos 65536) (pos 96) (pos 0)) ≡ true
+unfolding readingOf soundRecord rawOf ones onesIn
+initial-lowest = refl
+
+initial-below : sounds (ranged 0 (pos 0) (negsuc 2147483646) (pos 65536) (pos 96) (pos 0)) ≡ false
+unfolding readingOf soundRecord rawOf ones onesIn
+initial-below = refl
+
+-- no negative count
+count-highest : sounds (ranged 0 (pos 2147483647) (pos 7) (pos 65536) (pos 96) (pos 0)) ≡ true
+unfolding readingOf soundRecord rawOf ones onesIn
+count-highest = refl
+
+count-below : sounds (ranged 0 (negsuc 0) (pos 7) (pos 65536) (pos 96) (pos 0)) ≡ false
+unfolding readingOf soundRecord rawOf ones onesIn
+count-below = refl
+
+-- 0 to 2^62
+limit-highest : sounds (ranged 0 (pos 0) (pos 7) (pos 65536) (pos 96) (pos 4611686018427387904)) ≡ true
+unfolding readingOf soundRecord rawOf ones onesIn
+limit-highest = refl
+
+limit-above : sounds (ranged 0 (pos 0) (pos 7) (pos 65536) (pos 96) (pos 4611686018427387905)) ≡ false
+unfolding readingOf soundRecord rawOf ones onesIn
+limit-above = refl
+
+limit-below : sounds (ranged 0 (pos 0) (pos 7) (pos 65536) (pos 96) (negsuc 0)) ≡ false
+unfolding readingOf soundRecord rawOf ones onesIn
+limit-below = refl
+
+-- the active tail's offset: a multiple of 32, at most 2147483647
+offset-highest : sounds (ranged 2147483616 (pos 0) (pos 7) (pos 65536) (pos 96) (pos 0)) ≡ true
+unfolding readingOf soundRecord rawOf ones onesIn
+offset-highest = refl
+
+offset-above : sounds (ranged 2147483648 (pos 0) (pos 7) (pos 65536) (pos 96) (pos 0)) ≡ false
+unfolding readingOf soundRecord rawOf ones onesIn
+offset-above = refl
+
+offset-between : sounds (ranged 8 (pos 0) (pos 7) (pos 65536) (pos 96) (pos 0)) ≡ false
+unfolding readingOf soundRecord rawOf ones onesIn
+offset-between = refl
+
+-- a lent log of exactly three terms
+log-exact : sound (reading (tailAt 0)) 196608 ≡ true
+unfolding readingOf soundRecord sound rawOf ones onesIn
+log-exact = refl
+
+log-short : sound (reading (tailAt 0)) 196607 ≡ false
+unfolding readingOf soundRecord sound rawOf ones onesIn
+log-short = refl
+
+-- the record of a refused opening
+no-record : sounds noRecord ≡ false
+unfolding noRecord readingOf soundRecord ones onesIn
+no-record = refl
+
+-- ---- the assembler: a begin frame drops the 8 bytes that its session held, an end frame joins them
+
+abbrev holding-8 : Sessions
+holding-8 = record { count = 1; ids = pos 5 ∷ replicate 15 (pos 0); held = 8 ∷ replicate 15 0 }
+
+begin-drops : joining holding-8 (pos 5) 128 4 16 ≡ Join 0 0
+unfolding joining placeIn
+begin-drops = refl
+
+end-joins : joining holding-8 (pos 5) 64 4 16 ≡ Complete 0 8
+unfolding joining placeIn
+end-joins = refl
+
+-- ---- positions
+
+-- an offset over the term length is cut to it, one below is not
+offset-cut : termOffset (rawOf 2147483655 65600) 65536 ∷ termOffset (rawOf 2147483655 65504) 65536 ∷ [] ≡ 65536 ∷ 65504 ∷ []
+unfolding rawOf
+offset-cut = refl
+
+-- the window is the limit less the position, of either sign
+window-up : positionedTold (windowCall (recordAt (tailsAt 64) (pos 7) 96 0 100 false)) ≡ is (pos 0) (pos 36 ∷ [])
+unfolding openRecord readingOf soundRecord rawOf ones onesIn
+window-up = refl
+
+window-down : positionedTold (windowCall (recordAt (tailsAt 64) (pos 7) 96 0 0 false)) ≡ is (pos 0) (negsuc 63 ∷ [])
+unfolding openRecord readingOf soundRecord rawOf ones onesIn
+window-down = refl
+
+module _ (log : List ℕ) (full : length log ≡ 196608) where
+  -- ---- an append at another term: 13, and the tail has moved
+
+  stray : appendedTold (unfragmentedReply (tailAt 0) log (pos 0) [] (pos 8) .answer) ≡ is (pos 13) []
+  unfolding unfragmentedCourse course readingOf soundRecord sound rawOf ones onesIn
+  stray = rw full
+
+  stray-moves : unfragmentedReply (tailAt 0) log (pos 0) [] (pos 8) .next ≡ tailAt 32
+  unfolding unfragmentedCourse course readingOf soundRecord sound rawOf ones onesIn withTail changed
+  stray-moves = rw full
+
+  -- ---- set_position, from position 64
+
+  abbrev at64 : Image
+  at64 = newImage (pos 64) (pos 5)
+
+  abbrev closed64 : Image
+  closed64 = record { position = pos 64; session = pos 5; closed = true; eos = true }
+
+  lower : outcomeTold (setPositionOf (tailAt 0) log at64 (pos 32) .answer) ≡ is (pos 15) []
+  unfolding setPositionOf readable reachable readingOf soundRecord sound rawOf ones onesIn
+  lower = rw full
+
+  past-the-term : outcomeTold (setPositionOf (tailAt 0) log at64 (pos 65568) .answer) ≡ is (pos 15) []
+  unfolding setPositionOf readable reachable readingOf soundRecord sound rawOf ones onesIn
+  past-the-term = rw full
+
+  between : outcomeTold (setPositionOf (tailAt 0) log at64 (pos 72) .answer) ≡ is (pos 16) []
+  unfolding setPositionOf readable reachable readingOf soundRecord sound rawOf ones onesIn
+  between = rw full
+
+  -- 15 before 16
+  lower-between : outcomeTold (setPositionOf (tailAt 0) log at64 (pos 40) .answer) ≡ is (pos 15) []
+  unfolding setPositionOf readable reachable readingOf soundRecord sound rawOf ones onesIn
+  lower-between = rw full
+
+  to-the-end : setPositionOf (tailAt 0) log at64 (pos 65536) .next ≡ newImage (pos 65536) (pos 5)
+  unfolding setPositionOf readable reachable readingOf soundRecord sound rawOf ones onesIn
+  to-the-end = rw full
+
+  -- on a closed image it does nothing, whatever the position
+  closed-stays : setPositionOf (tailAt 0) log closed64 (pos 40) .next ≡ closed64
+  unfolding setPositionOf readable reachable readingOf soundRecord sound rawOf ones onesIn
+  closed-stays = rw full
+
+  closed-done : outcomeTold (setPositionOf (tailAt 0) log closed64 (pos 40) .answer) ≡ is (pos 0) []
+  unfolding setPositionOf readable reachable readingOf soundRecord sound rawOf ones onesIn
+  closed-done = rw full
+
+  -- ---- a read at the term's end reads nothing; past it, and between boundaries, it is refused
+
+  read-at-end : readTold (readOf (tailAt 0) log (pos 0) (pos 65536) (pos 1) (replicate 2 (pos 0))) ≡ is (pos 0) (pos 65536 ∷ pos 0 ∷ [])
+  unfolding readOf readVerdict walk readingOf soundRecord sound rawOf ones onesIn
+  read-at-end = rw full
+
+  read-past-end : readTold (readOf (tailAt 0) log (pos 0) (pos 65568) (pos 1) (replicate 2 (pos 0))) ≡ is (pos 1) []
+  unfolding readOf readVerdict readingOf soundRecord sound rawOf ones onesIn
+  read-past-end = refl
+
+  -- ---- is_end_of_stream: at the end of the stream, and before it; of a closed image the flag kept
+
+  abbrev ending : ℤ → LogRecord
+  ending p =
+      record {
+        tails = tailsAt 64;
+        «active_term_count» = pos 0;
+        «initial_term_id» = pos 7;
+        «term_length» = pos 65536;
+        «mtu_length» = pos 96;
+        «session_id» = pos 5;
+        «stream_id» = pos 6;
+        «is_connected» = pos 1;
+        «publication_limit» = pos 0;
+        «end_of_stream_position» = p;
+        «is_closed» = false;
+      }
+
+  at-the-end : endTold (endOfStreamOf (ending (pos 64)) log at64) ≡ is (pos 0) (pos 1 ∷ [])
+  unfolding endOfStreamOf readable readingOf soundRecord sound rawOf ones onesIn
+  at-the-end = rw full
+
+  before-the-end : endTold (endOfStreamOf (ending (pos 65)) log at64) ≡ is (pos 0) (pos 0 ∷ [])
+  unfolding endOfStreamOf readable readingOf soundRecord sound rawOf ones onesIn
+  before-the-end = rw full
+
+  kept-at-closing : endTold (endOfStreamOf (ending (pos 65)) log closed64) ≡ is (pos 0) (pos 1 ∷ [])
+  unfolding endOfStreamOf readable readingOf soundRecord sound rawOf ones onesIn
+  kept-at-closing = rw full
+
+  closing-keeps : closeImageOf (ending (pos 65)) log at64 .next ≡ record { position = pos 64; session = pos 5; closed = true; eos = false }
+  unfolding closeImageOf readingOf soundRecord sound rawOf ones onesIn
+  closing-keeps = rw full
+
+-- ---- a data frame of 42 at 64, session 8, term id 9
+
+module _ (rest : List ℕ) (full : length rest ≡ 196480) where
+  abbrev framed : List ℕ
+  framed = replicate 64 0 ++ (le4 42 ++ (0 ∷ 192 ∷ 1 ∷ 0 ∷ (le4 64 ++ (le4 8 ++ (le4 6 ++ (le4 9 ++ (replicate 40 0 ++ rest)))))))
+
+  -- an abort hands the fragment out and counts none: no fragments, one entry
+  abort-counts-none : polledTold (controlledPollOf (tailAt 128) framed (newImage (pos 64) (pos 5)) (replicate 2 (pos 0)) (1 ∷ []) (pos 1) .answer) ≡ is (pos 0) (pos 0 ∷ pos 1 ∷ [])
+  unfolding controlledPollOf goodActions pollVerdict readable frameAt frameLength walk readingOf soundRecord sound rawOf ones onesIn le4 u16 u32
+  abort-counts-none = simp full
+
+  -- offset, length, the image's own session, the frame's term id
+  block : blockTold (blockPollOf (tailAt 128) framed (newImage (pos 64) (pos 99)) (pos 64) .answer) ≡ is (pos 0) (pos 64 ∷ pos 64 ∷ pos 99 ∷ pos 9 ∷ [])
+  unfolding blockPollOf pollVerdict readable frameAt frameLength scanFrom readingOf soundRecord sound rawOf ones onesIn le4 u16 u32
+  block = simp full
