@@ -1,41 +1,226 @@
--- The replies of `next`, one after another, are what the definitions replay; and that is the history, by demand 3.
-use Prim.Native.Nat.{ℕ, zero, suc}
-use mathlib.Core.Path.{_≡_, refl, sym, ap, ap₂, _∙_}
-use mathlib.Core.List.{List}
+-- What callers see of the running functions is what the definitions say, call after call; so demand 3 holds of them.
+use Prim.Native.Nat.{ℕ, zero, suc, _+_, _-_, _*_, _<_}
+use mathlib.Core.Path.{_≡_, refl, sym, ap, ap₂, _∙_, subst}
+use mathlib.Core.Bool.{true}
+use mathlib.Core.List.{List, [], _∷_, _++_}
+use native.Mathlib.Omega.{arith}
+use lib.ListN.{length, drop, getD}
 use lib.IntN.{ℤ, pos}
+use lib.Signed.{ltZ}
 use Rattle.model.specs.declared.LogRecord.{LogRecord}
-use Rattle.model.specs.Image.{Image, newImage}
-use Rattle.model.specs.FragmentAssembler.{Sessions, fresh}
-use Rattle.model.specs.Replay.{ReplayState, NextReply, nextOf, messageBy, replayed}
-use Rattle.model.specs.History.{left}
-use Rattle.model.specs.Demand.{Demand3, GivesAll, opened}
-use Rattle.model.proofs.Demand.{demand3}
+use Rattle.model.specs.declared.Assembled.{Assembled}
+use Rattle.model.specs.declared.Outcome.{Outcome}
+use Rattle.model.specs.declared.Outcome.the-variants.{Done}
+use Rattle.model.specs.declared.RecordReply.{RecordReply}
+use Rattle.model.specs.declared.OfferReply.{OfferReply}
+use Rattle.model.specs.declared.ClaimReply.{ClaimReply}
+use Rattle.model.specs.Bytes.{long}
+use Rattle.model.specs.LogBufferDescriptor.{reading, publisherPosition, partitionOf}
+use Rattle.model.specs.Publication.{openOf, openBytes}
+use Rattle.model.specs.TermReader.{natural}
+use Rattle.model.specs.Image.{Image, PollReply, newImage, pollOf}
+use Rattle.model.specs.FragmentAssembler.{Sessions, Assembly, fresh, assembleOf}
+use Rattle.model.specs.History.{Call, Answer, offered, claimed, outcome, World, step, answers, left, messages, learn, Given, AllGiven}
+use Rattle.model.specs.Replay.{Replaying, Polls, handedOut, entriesOf, feed, feedAll, round, rounds, start, Quiet, ReplayState, NextReply, fromStart, nextOf, standing, messageBy, replayed}
+use Rattle.model.specs.Demand.{Demand3, opened, shape, history}
+use Rattle.model.proofs.Demand.{demand3, few-messages}
+use Rattle.image.specs.declared.Image.{Image as CodeImage}
+use Rattle.image.specs.declared.PollReply.{PollReply as CodePoll}
+use Rattle.image.specs.Images.{stateOf as imageState, imageOf, pollReplyOf}
+use Rattle.logbuffer.specs.declared.fragment_assembler.FragmentAssembler.{FragmentAssembler}
+use Rattle.logbuffer.specs.Assembler.{sessionsOf}
 use Rattle.replay.specs.declared.Replay.{Replay}
 use Rattle.replay.specs.Replays.{stateOf}
-use Rattle.replay.specs.History.{Ran, gathered, ReplaysHistory}
+use Rattle.replay.specs.History.{Opened, by-opening, Called, by-offer, by-claim, by-write, by-commit, by-abort, by-limit, by-close, Wrote, none, more, AllAnswered, Fed, fed-none, fed-more, Polling, Still, Ran, gathered, Upheld, ReplaysHistory}
+use Rattle.replay.proofs.Counting.{counts-all}
+
+-- ---- the writing side
+
+abbrev with-log : LogRecord → List ℕ → World
+with-log r log = record { record· = r; log = log }
+
+called-is : {w v : World} {x : Call} {a : Answer} → Called w x a v → (a ≡ step w x .answer) × (v ≡ step w x .next)
+unfolding step
+called-is (by-offer e f) = (ap (λ (r : OfferReply). offered (r .answer)) e, ap₂ (λ (r : OfferReply) (l : List ℕ). with-log (r .next) l) e f)
+called-is (by-claim e f) = (ap (λ (r : ClaimReply). claimed (r .answer)) e, ap₂ (λ (r : ClaimReply) (l : List ℕ). with-log (r .next) l) e f)
+called-is {w} (by-write e f) = (ap outcome e, ap (with-log (w .record·)) f)
+called-is {w} (by-commit e f) = (ap outcome e, ap (with-log (w .record·)) f)
+called-is {w} (by-abort e f) = (ap outcome e, ap (with-log (w .record·)) f)
+called-is {w} (by-limit e) = (ap (λ (r : RecordReply). outcome (r .answer)) e, ap (λ (r : RecordReply). with-log (r .next) (w .log)) e)
+called-is {w} (by-close e) = (ap (λ (r : RecordReply). outcome (r .answer)) e, ap (λ (r : RecordReply). with-log (r .next) (w .log)) e)
+
+-- the calls of a list with their answers
+unfoldable callsOf : List (Call × Answer) → List Call
+callsOf [] = []
+callsOf (t ∷ ts) = t .0 ∷ callsOf ts
+
+wrote-is : {w u : World} {ts : List (Call × Answer)} → Wrote w ts u → (ts ≡ answers w (callsOf ts)) × (u ≡ left w (callsOf ts))
+unfolding answers left callsOf
+wrote-is none = (refl, refl)
+wrote-is {w} (more {v = v} {x = x} {a = a} {ts = ts} c ws) =
+    let s = called-is c in
+    let t = wrote-is ws in (
+      ap₂ (λ (b : Answer) (bs : List (Call × Answer)). (x, b) ∷ bs) (s .0) (t .0 ∙ ap (λ (z : World). answers z (callsOf ts)) (s .1)),
+      t .1 ∙ ap (λ (z : World). left z (callsOf ts)) (s .1),
+    )
+
+given-is : (ks : _) (w : World) (xs : List Call) → AllAnswered ks (answers w xs) → AllGiven ks w xs
+unfolding AllAnswered AllGiven answers
+given-is ks w [] g = tt
+given-is ks w (x ∷ xs) g = (g .0, given-is (learn ks (step w x .answer)) (step w x .next) xs (g .1))
+
+opened-is : {lent : List ℕ} {term mtu initial session stream : ℤ} {w : World} → Opened lent term mtu initial session stream w
+    → (w ≡ opened lent term mtu initial session stream) × (openOf lent term mtu initial session stream .answer ≡ Done)
+opened-is (by-opening e d f) = (ap₂ (λ (r : RecordReply) (l : List ℕ). with-log (r .next) l) e f, sym (ap (λ (r : RecordReply). r .answer) e) ∙ d)
+
+-- ---- polls
+
+module _ (r : LogRecord) (log : List ℕ) where
+  abbrev Asm : ℤ → Sessions → List ℕ → ℕ → Assembly
+  Asm entry s b k = assembleOf r log s b (pos k) (pos (natural entry - 32))
+
+  abbrev at : Image → Sessions → List ℕ → List (List ℕ) → Replaying
+  at i s b out = record { image = i; sessions = s; buffer = b; out = out }
+
+  fed-is : {k n : ℕ} {slots : List ℤ} {a a′ : FragmentAssembler} {b b′ : List ℕ} {out out′ : List (List ℕ)} (i : Image) → Fed r log k n slots a b out a′ b′ out′
+      → feedAll r log k n slots (at i (sessionsOf a) b out) ≡ at i (sessionsOf a′) b′ out′
+  unfolding feedAll feed
+  fed-is i fed-none = refl
+  fed-is {k} {n = suc n} {slots} {a} {b = b} {out = out} i (fed-more reply left ea es eb f) =
+      let x = Asm (getD slots 0 (pos 0)) (sessionsOf a) b k in
+      let one : at i (x .next) (x .buffer) (out ++ handedOut log (k * reading r .term) (x .buffer) (x .answer))
+      ≡ at i (sessionsOf (reply .next)) left (out ++ handedOut log (k * reading r .term) left (reply .answer)) =
+      sym (ap₂ (λ (s : Sessions) (l : List ℕ). at i s l (out ++ handedOut log (k * reading r .term) l (reply .answer))) es eb
+      ∙ ap (λ (y : Assembled). at i (x .next) (x .buffer) (out ++ handedOut log (k * reading r .term) (x .buffer) y)) ea) in
+      ap (feedAll r log k n (drop 2 slots)) one ∙ fed-is i f
+
+  module _ (session : ℤ) (lent : List ℕ) (ps : Polls) (x : Polling r log session lent ps) where
+    abbrev here : ℕ → Replaying
+    here n = at (imageState (x .image n)) (sessionsOf (x .assembler n)) (x .buffer n) (x .out n)
+
+    polled : (n : ℕ) → imageState (x .image (suc n)) ≡ pollOf r log (imageState (x .image n)) (ps .slots n) (ps .limit n) .next
+    polled n = ap imageState (x .on n ∙ ap (λ (y : CodePoll). y .next) (x .said n))
+
+    begins : here 0 ≡ start session lent
+    begins =
+        ap₂ (λ (i : CodeImage) (s : Sessions). at (imageState i) s (x .buffer 0) (x .out 0)) (x .made .0) (x .made .1)
+        ∙ ap₂ (at (newImage (pos 0) session) fresh) (x .first .0) (x .first .1)
+
+    turns : (n : ℕ) → here (suc n) ≡ round r log (ps .limit n) (ps .slots n) (here n)
+    unfolding round
+    turns n =
+        let y = pollOf r log (imageState (x .image n)) (ps .slots n) (ps .limit n) in
+        let k = partitionOf (long (x .image n .position)) (reading r .term) in
+        sym (fed-is (imageState (x .image (suc n))) (x .fed n))
+        ∙ ap (λ (i : Image). feedAll r log k (entriesOf (x .reply n .answer)) (x .slots n) (at i (sessionsOf (x .assembler n)) (x .buffer n) (x .out n))) (polled n)
+        ∙ ap₂ (λ (z : CodePoll) (l : List ℤ). feedAll r log k (entriesOf (z .answer)) l (at (y .next) (sessionsOf (x .assembler n)) (x .buffer n) (x .out n))) (x .said n) (x .written n)
+
+    pub polls : (n : ℕ) → here n ≡ rounds r log ps (start session lent) n
+    unfolding rounds
+    polls zero = begins
+    polls (suc n) = turns n ∙ ap (round r log (ps .limit n) (ps .slots n)) (polls n)
+
+    image-is : (n : ℕ) → imageState (x .image n) ≡ rounds r log ps (start session lent) n .image
+    image-is n = ap (λ (p : Replaying). p .image) (polls n)
+
+    -- the reply that a caller sees is that of the rounds' image
+    said-is : (n : ℕ) → x .reply n ≡ pollReplyOf (pollOf r log (rounds r log ps (start session lent) n .image) (ps .slots n) (ps .limit n))
+    said-is n = x .said n ∙ ap (λ (i : Image). pollReplyOf (pollOf r log i (ps .slots n) (ps .limit n))) (image-is n)
+
+    pub still-is : (n : ℕ) → Still x n → Quiet r log ps (start session lent) n
+    still-is n h =
+        record {
+          comes = sym (ap (λ (y : CodePoll). y .answer) (said-is n)) ∙ h .0;
+          moves = sym (ap (λ (y : CodePoll). imageState (y .next)) (said-is n)) ∙ ap imageState (h .1) ∙ image-is n;
+        }
+
+    pub quiet-is : (n : ℕ) → Quiet r log ps (start session lent) n → Still x n
+    quiet-is n q = (
+      ap (λ (y : CodePoll). y .answer) (said-is n) ∙ q .comes,
+      ap (λ (y : CodePoll). y .next) (said-is n) ∙ ap imageOf (q .moves ∙ sym (image-is n)),
+    )
+
+    pub out-is : (n : ℕ) → x .out n ≡ rounds r log ps (start session lent) n .out
+    out-is n = ap (λ (p : Replaying). p .out) (polls n)
+
+-- ---- message by message
 
 module _ {r : LogRecord} {log : List ℕ} {session : ℤ} {lent : List ℕ} (x : Ran r log session lent) where
-  next-is : (i : ℕ) → nextOf r log (stateOf (x .replay i) (x .buffer i)) .next ≡ stateOf (x .replay (suc i)) (x .buffer (suc i))
+  abbrev state : ℕ → ReplayState
+  state i = stateOf (x .replay i) (x .buffer i)
+
+  next-is : (i : ℕ) → nextOf r log (state i) .next ≡ state (suc i)
   next-is i = ap (λ (y : NextReply). y .next) (sym (x .said i)) ∙ ap (λ (p : Replay). stateOf p (x .buffer (suc i))) (sym (x .on i))
 
-  pub runs : (most i : ℕ) → gathered x most i ≡ replayed most r log (stateOf (x .replay i) (x .buffer i))
+  pub runs : (most i : ℕ) → gathered x most i ≡ replayed most r log (state i)
   unfolding gathered replayed
   runs zero i = refl
   runs (suc most) i =
-      ap (messageBy log (stateOf (x .replay (suc i)) (x .buffer (suc i))) (x .reply i .answer)) (runs most (suc i))
+      ap (messageBy log (state (suc i)) (x .reply i .answer)) (runs most (suc i))
       ∙ ap₂ (λ (s : ReplayState) (y : NextReply). messageBy log s (y .answer) (replayed most r log s)) (sym (next-is i)) (x .said i)
 
-  begins : stateOf (x .replay 0) (x .buffer 0) ≡ record { image = newImage (pos 0) session; sessions = fresh; buffer = lent }
-  begins =
+  stands : (n i : ℕ) → standing n r log (state i) ≡ state (n + i)
+  unfolding standing
+  stands zero i = let e : i ≡ 0 + i = omega arith in ap state e
+  stands (suc n) i = let e : n + suc i ≡ suc n + i = omega arith in ap (standing n r log) (next-is i) ∙ stands n (suc i) ∙ ap state e
+
+  pub begins-at : state 0 ≡ fromStart session lent
+  begins-at =
       ap₂ (λ (i : Image) (s : Sessions). like i s (x .buffer 0)) (x .made .0) (x .made .1)
       ∙ ap (like (newImage (pos 0) session) fresh) (x .first)
     where
       like : Image → Sessions → List ℕ → ReplayState
       like i s b = record { image = i; sessions = s; buffer = b }
 
+  pub answer-is : (n : ℕ) → x .reply n .answer ≡ nextOf r log (standing n r log (fromStart session lent)) .answer
+  answer-is n =
+      let e : n ≡ n + 0 = omega arith in
+      ap (λ (y : NextReply). y .answer) (x .said n)
+      ∙ ap (λ (s : ReplayState). nextOf r log s .answer) (ap state e ∙ sym (stands n 0) ∙ ap (standing n r log) begins-at)
+
+-- ---- the demand
+
+module _ (lent : List ℕ) (term mtu initial session stream : ℤ) (done : openOf lent term mtu initial session stream .answer ≡ Done) where
+  abbrev w₀ : World
+  w₀ = opened lent term mtu initial session stream
+
+  abbrev Short : World → World → Type 0
+  Short w u = ltZ (publisherPosition (reading (u .record·))) (pos (3 * shape w .term)) ≡ true
+
+  by-definitions : (xs : List Call) → AllAnswered [] (answers w₀ xs) → Short w₀ (left w₀ xs) → Upheld w₀ (answers w₀ xs) (left w₀ xs)
+  unfolding Demand3
+  by-definitions xs given short =
+      let g = given-is [] w₀ xs given in
+      let d = demand3 lent term mtu initial session stream done xs g short in
+      let r = left w₀ xs .record· in
+      let log = left w₀ xs .log in
+      record {
+        replays = λ s b small holds.
+            record {
+              polls-end = λ ps al x. let q = d .replayed s b small holds .finish ps al in (q .0, quiet-is r log s b ps x (q .0) (q .1));
+              polls-give = λ ps al x n st. out-is r log s b ps x n ∙ d .replayed s b small holds .exact ps al n (still-is r log s b ps x n st);
+              gives = λ x most h. runs x most 0 ∙ ap (replayed most r log) (begins-at x) ∙ d .gives s b small holds .each most h;
+              ends = λ x. answer-is x (length (messages (history w₀ xs))) ∙ d .gives s b small holds .ended;
+              counts = λ a e. e ∙ counts-all (left w₀ xs) s b (messages (history w₀ xs)) (d .gives s b small holds) (few-messages lent term mtu initial session stream done xs g short);
+            };
+        adds-up = d .adds-up;
+        ends = d .ends;
+      }
+
+  -- the same of worlds and answers that are known to be those
+  by-callers : (w u : World) (ts : List (Call × Answer)) (xs : List Call) → w ≡ w₀ → ts ≡ answers w xs → u ≡ left w xs → AllAnswered [] ts → Short w u → Upheld w ts u
+  by-callers w u ts xs ew ea eu given short =
+      let et : ts ≡ answers w₀ xs = ea ∙ ap (λ (z : World). answers z xs) ew in
+      let el : u ≡ left w₀ xs = eu ∙ ap (λ (z : World). left z xs) ew in
+      let g : AllAnswered [] (answers w₀ xs) = subst (AllAnswered []) et given in
+      let h : Short w₀ (left w₀ xs) = sym (ap₂ (λ (a b : World). ltZ (publisherPosition (reading (b .record·))) (pos (3 * shape a .term))) ew el) ∙ short in
+      subst (λ (z : World). Upheld z ts u) (sym ew)
+      (subst (λ (bs : List (Call × Answer)). Upheld w₀ bs u) (sym et)
+      (subst (λ (z : World). Upheld w₀ (answers w₀ xs) z) (sym el) (by-definitions xs g h)))
+
 pub replays-history : ReplaysHistory
-unfolding ReplaysHistory Demand3 GivesAll
-replays-history log term mtu initial session stream o calls given short reader lent small holds x most h =
-    let w = left (opened log term mtu initial session stream) calls in
-    runs x most 0 ∙ ap (replayed most (w .record·) (w .log)) (begins x)
-    ∙ demand3 log term mtu initial session stream o calls given short .gives reader lent small holds most h
+unfolding ReplaysHistory
+replays-history lent term mtu initial session stream w u ts o ws given short =
+    let a = wrote-is ws in
+    let p = opened-is o in
+    by-callers lent term mtu initial session stream (p .1) w u ts (callsOf ts) (p .0) (a .0) (a .1) given short

@@ -1,38 +1,127 @@
--- Demand 3 for the running functions: a log made by any list of calls replays to its history. Each call of a list (`Call` of the model's
--- History) is a running function, and each function's contract says that it answers and leaves what the definition does, for refused calls too:
+-- Demand 3 for the running functions, from their contracts down. A caller sees of each function that it answers and leaves what its
+-- definition does, for refused calls too:
 --
---   opening       publication::opening::open_log                 openOf, openBytes
---   offer         publication::offer                             offerOf, offerBytes
---   claim         publication::try_claim                         claimOf, claimBytes
---   lending       logbuffer::buffer_claim::body, locate          locateOf; what is written into the part is the caller's (`filled`)
---   commit        logbuffer::buffer_claim::commit                commitOf, commitBytes
---   abort         logbuffer::buffer_claim::abort                 commitOf, abortBytes
---   limit change  publication::positions::set_publication_limit  limitOf
---   close         publication::positions::close                  closeOf
---   replay        replay::Replay::new, replay::Replay::next      newImage and fresh, nextOf
+--   opening       publication::opening::open_log                           openOf, openBytes
+--   offer         publication::offer                                       offerOf, offerBytes
+--   claim         publication::try_claim                                   claimOf, claimBytes
+--   writing       logbuffer::buffer_claim::write                           writeOf, writeBytes
+--   commit        logbuffer::buffer_claim::commit                          commitOf, commitBytes
+--   abort         logbuffer::buffer_claim::abort                           commitOf, abortBytes
+--   limit change  publication::positions::set_publication_limit            limitOf
+--   close         publication::positions::close                            closeOf
+--   poll          image::Image::new, poll                                  newImage, pollOf
+--   assembler     logbuffer::fragment_assembler::FragmentAssembler::new, on_fragment   fresh, assembleOf
+--   replay        replay::Replay::new, next                                newImage and fresh, nextOf
+--   count         replay::count                                            countOf
 --
--- so `left w calls` is the record and the log that the functions leave. `Ran` is what a caller of `next` sees: its contract, call after call.
-use Prim.Native.Nat.{ℕ, zero, suc, _*_, _≤_, _<_}
+-- `Opened`, `Called` and `Wrote` are what the callers of the writing functions see, `Polling`, `Ran` and a count what those of the reading
+-- functions see. `ReplaysHistory` says what holds then, whatever the calls were. A body that was lent by `body` and written by hand is left
+-- with other bytes, as one call of `write` with these bytes leaves it.
+use Prim.Native.Nat.{ℕ, zero, suc, _+_, _-_, _*_, _≤_, _<_}
 use mathlib.Core.Path.{_≡_}
 use mathlib.Core.Bool.{true}
-use mathlib.Core.List.{List, []}
-use lib.ListN.{length}
+use mathlib.Core.List.{List, [], _∷_, _++_}
+use lib.ListN.{length, drop, getD}
 use lib.IntN.{ℤ, pos}
 use lib.Signed.{ltZ}
 use Rattle.model.specs.declared.LogRecord.{LogRecord}
+use Rattle.model.specs.declared.Claim.{Claim}
+use Rattle.model.specs.declared.Outcome.{Outcome}
 use Rattle.model.specs.declared.Outcome.the-variants.{Done}
-use Rattle.model.specs.LogBufferDescriptor.{reading, publisherPosition}
-use Rattle.model.specs.Publication.{openOf}
-use Rattle.model.specs.Image.{newImage}
-use Rattle.model.specs.FragmentAssembler.{fresh, partLength}
-use Rattle.model.specs.History.{Call, left, messages, AllGiven}
-use Rattle.model.specs.Replay.{nextOf, messageBy}
-use Rattle.model.specs.Demand.{Holds, opened, shape, history}
-use Rattle.image.specs.Images.{stateOf as imageState}
+use Rattle.model.specs.declared.RecordReply.{RecordReply}
+use Rattle.model.specs.declared.OfferReply.{OfferReply}
+use Rattle.model.specs.declared.ClaimReply.{ClaimReply}
+use Rattle.model.specs.declared.Polled.the-variants.{Fragments}
+use Rattle.model.specs.declared.Replayed.the-variants.{End}
+use Rattle.model.specs.Bytes.{long}
+use Rattle.model.specs.LogBufferDescriptor.{reading, publisherPosition, partitionOf}
+use Rattle.model.specs.BufferClaim.{writeOf, writeBytes, commitOf, commitBytes, abortBytes}
+use Rattle.model.specs.Publication.{openOf, openBytes, offerOf, offerBytes, claimOf, claimBytes, limitOf, closeOf}
+use Rattle.model.specs.TermReader.{natural}
+use Rattle.model.specs.Image.{newImage, pollOf}
+use Rattle.model.specs.FragmentAssembler.{fresh, partLength, assembleOf}
+use Rattle.model.specs.History.{Call, offer, claim, fill, commit, abort, setLimit, close, Answer, offered, claimed, outcome, World, sizeAll, told, messages, total, learn, Given}
+use Rattle.model.specs.Replay.{Polls, handedOut, entriesOf, nextOf, messageBy}
+use Rattle.model.specs.Demand.{Ends, Allowed, Holds, shape}
+use Rattle.image.specs.declared.Image.{Image}
+use Rattle.image.specs.declared.PollReply.{PollReply}
+use Rattle.image.specs.Images.{stateOf as imageState, imageOf, pollReplyOf}
+use Rattle.logbuffer.specs.declared.fragment_assembler.FragmentAssembler.{FragmentAssembler}
+use Rattle.logbuffer.specs.declared.fragment_assembler.AssemblyReply.{AssemblyReply}
 use Rattle.logbuffer.specs.Assembler.{sessionsOf}
 use Rattle.replay.specs.declared.Replay.{Replay}
 use Rattle.replay.specs.declared.NextReply.{NextReply}
-use Rattle.replay.specs.Replays.{stateOf, nextReplyOf}
+use Rattle.replay.specs.declared.Counted.{Counted}
+use Rattle.replay.specs.declared.Counted.the-variants.{Counts}
+use Rattle.replay.specs.Replays.{stateOf, nextReplyOf, countOf}
+
+-- ---- the writing side
+
+-- an opening that was done, and the record and the log that it leaves
+pub data Opened (lent : List ℕ) (term mtu initial session stream : ℤ) : World → Type 0 where
+  by-opening : {r : RecordReply} {log : List ℕ} → r ≡ openOf lent term mtu initial session stream → r .answer ≡ Done
+      → log ≡ openBytes lent term mtu initial session stream → Opened lent term mtu initial session stream (record { record· = r .next; log = log })
+
+-- one call on a record and a log, its answer, and what it leaves
+pub data Called (w : World) : Call → Answer → World → Type 0 where
+  by-offer : {m : List ℕ} {reserved : ℤ} {r : OfferReply} {log : List ℕ} → r ≡ offerOf (w .record·) (w .log) m → log ≡ offerBytes (w .record·) (w .log) m reserved
+      → Called w (offer m reserved) (offered (r .answer)) (record { record· = r .next; log = log })
+  by-claim : {n : ℤ} {r : ClaimReply} {log : List ℕ} → r ≡ claimOf (w .record·) (w .log) n → log ≡ claimBytes (w .record·) (w .log) n
+      → Called w (claim n) (claimed (r .answer)) (record { record· = r .next; log = log })
+  by-write : {k : Claim} {b : List ℕ} {r : Outcome} {log : List ℕ} → r ≡ writeOf (w .record·) (w .log) k b → log ≡ writeBytes (w .record·) (w .log) k b
+      → Called w (fill k b) (outcome r) (record { record· = w .record·; log = log })
+  by-commit : {k : Claim} {r : Outcome} {log : List ℕ} → r ≡ commitOf (w .record·) (w .log) k → log ≡ commitBytes (w .record·) (w .log) k
+      → Called w (commit k) (outcome r) (record { record· = w .record·; log = log })
+  by-abort : {k : Claim} {r : Outcome} {log : List ℕ} → r ≡ commitOf (w .record·) (w .log) k → log ≡ abortBytes (w .record·) (w .log) k
+      → Called w (abort k) (outcome r) (record { record· = w .record·; log = log })
+  by-limit : {n : ℤ} {r : RecordReply} → r ≡ limitOf (w .record·) n → Called w (setLimit n) (outcome (r .answer)) (record { record· = r .next; log = w .log })
+  by-close : {r : RecordReply} → r ≡ closeOf (w .record·) → Called w close (outcome (r .answer)) (record { record· = r .next; log = w .log })
+
+-- calls with their answers, one after another: each gets the record and the log that the last one left, which nobody else writes
+pub data Wrote : World → List (Call × Answer) → World → Type 0 where
+  none : {w : World} → Wrote w [] w
+  more : {w v u : World} {x : Call} {a : Answer} {ts : List (Call × Answer)} → Called w x a v → Wrote v ts u → Wrote w ((x, a) ∷ ts) u
+
+-- writings, commits and aborts get only claim records that claims on this log answered
+unfoldable pub AllAnswered : List Claim → List (Call × Answer) → Type 0
+AllAnswered ks [] = Unit {0}
+AllAnswered ks (t ∷ ts) = Given ks (t .0) × AllAnswered (learn ks (t .1)) ts
+
+-- ---- polls into an assembler
+
+-- So many entries of partition k, two numbers each, given to the assembler one after another. Before it and after: the bookkeeping, the lent
+-- buffer, and the messages handed out so far.
+pub data Fed (r : LogRecord) (log : List ℕ) (k : ℕ) : ℕ → List ℤ → FragmentAssembler → List ℕ → List (List ℕ) → FragmentAssembler → List ℕ → List (List ℕ) → Type 0 where
+  fed-none : {slots : List ℤ} {a : FragmentAssembler} {b : List ℕ} {out : List (List ℕ)} → Fed r log k zero slots a b out a b out
+  fed-more : {n : ℕ} {slots : List ℤ} {a a′ : FragmentAssembler} {b b′ : List ℕ} {out out′ : List (List ℕ)} (reply : AssemblyReply) (left : List ℕ)
+      → reply .answer ≡ assembleOf r log (sessionsOf a) b (pos k) (pos (natural (getD slots 0 (pos 0)) - 32)) .answer
+      → sessionsOf (reply .next) ≡ assembleOf r log (sessionsOf a) b (pos k) (pos (natural (getD slots 0 (pos 0)) - 32)) .next
+      → left ≡ assembleOf r log (sessionsOf a) b (pos k) (pos (natural (getD slots 0 (pos 0)) - 32)) .buffer
+      → Fed r log k n (drop 2 slots) (reply .next) left (out ++ handedOut log (k * reading r .term) left (reply .answer)) a′ b′ out′
+      → Fed r log k (suc n) slots a b out a′ b′ out′
+
+-- Polls from position 0 by a fresh image into a fresh assembler, each from where the one before it left image, bookkeeping and lent buffer,
+-- with any fragment limits and any lent entries. A poll's entries lie in the partition of the position that it polled from.
+pub record Polling (r : LogRecord) (log : List ℕ) (session : ℤ) (lent : List ℕ) (ps : Polls) : Type 0 where
+  pub image : ℕ → Image
+  pub assembler : ℕ → FragmentAssembler
+  pub buffer : ℕ → List ℕ
+  pub out : ℕ → List (List ℕ)
+  pub reply : ℕ → PollReply
+  pub slots : ℕ → List ℤ
+  pub made : (image 0 ≡ imageOf (newImage (pos 0) session)) × (sessionsOf (assembler 0) ≡ fresh)
+  pub first : (buffer 0 ≡ lent) × (out 0 ≡ [])
+  pub said : (n : ℕ) → reply n ≡ pollReplyOf (pollOf r log (imageState (image n)) (ps .slots n) (ps .limit n))
+  pub written : (n : ℕ) → slots n ≡ pollOf r log (imageState (image n)) (ps .slots n) (ps .limit n) .slots
+  pub on : (n : ℕ) → image (suc n) ≡ reply n .next
+  pub fed : (n : ℕ) → Fed r log (partitionOf (long (image n .position)) (reading r .term)) (entriesOf (reply n .answer)) (slots n)
+      (assembler n) (buffer n) (out n) (assembler (suc n)) (buffer (suc n)) (out (suc n))
+
+-- at a poll nothing comes and nothing moves
+abbrev pub Still : {r : LogRecord} {log : List ℕ} {session : ℤ} {lent : List ℕ} {ps : Polls} → Polling r log session lent ps → ℕ → Type 0
+Still x n = (x .reply n .answer ≡ Fragments 0 0) × (x .reply n .next ≡ x .image n)
+
+-- ---- message by message
 
 -- a replay as `new` makes it, and the replies of `next`, each taken from where the one before it left replay and lent buffer
 pub record Ran (r : LogRecord) (log : List ℕ) (session : ℤ) (lent : List ℕ) : Type 0 where
@@ -50,13 +139,27 @@ gathered x zero i = []
 gathered {log = log} x (suc most) i =
     messageBy log (stateOf (x .replay (suc i)) (x .buffer (suc i))) (x .reply i .answer) (gathered x most (suc i))
 
+-- ---- the demand
+
+-- Any replay of a record and a log gives back these messages: by polls, by `next`, and by `count`. The reader's session is any number, and
+-- the lent buffer may hold anything.
+pub record Replays (r : LogRecord) (log : List ℕ) (session : ℤ) (lent : List ℕ) (ms : List (List ℕ)) : Type 0 where
+  pub polls-end : (ps : Polls) → Allowed ps → (x : Polling r log session lent ps) → (n : ℕ) × Still x n
+  pub polls-give : (ps : Polls) → Allowed ps → (x : Polling r log session lent ps) (n : ℕ) → Still x n → x .out n ≡ ms
+  pub gives : (x : Ran r log session lent) (most : ℕ) → length ms < most → gathered x most 0 ≡ ms
+  pub ends : (x : Ran r log session lent) → x .reply (length ms) .answer ≡ End
+  pub counts : (a : Counted) → a ≡ countOf r log session lent .answer → a ≡ Counts (length ms) (total ms)
+
+-- w is the log as it was opened, ts the calls with their answers, u what they leave
+pub record Upheld (w : World) (ts : List (Call × Answer)) (u : World) : Type 0 where
+  pub replays : (session : ℤ) (lent : List ℕ) → length lent ≤ 2147483647 → Holds (shape w) (partLength (length lent)) (told (shape w) [] ts)
+      → Replays (u .record·) (u .log) session lent (messages (told (shape w) [] ts))
+  pub adds-up : publisherPosition (reading (u .record·)) ≡ pos (sizeAll (shape w) (told (shape w) [] ts))
+  pub ends : Ends (shape w) [] ts
+
 unfoldable pub ReplaysHistory : Type 0
 ReplaysHistory =
-    (log : List ℕ) (term mtu initial session stream : ℤ) → openOf log term mtu initial session stream .answer ≡ Done
-    → (calls : List Call) → AllGiven [] (opened log term mtu initial session stream) calls
-    → ltZ (publisherPosition (reading (left (opened log term mtu initial session stream) calls .record·))) (pos (3 * shape (opened log term mtu initial session stream) .term)) ≡ true
-    → (reader : ℤ) (lent : List ℕ) → length lent ≤ 2147483647
-    → Holds (shape (opened log term mtu initial session stream)) (partLength (length lent)) (history (opened log term mtu initial session stream) calls)
-    → (x : Ran (left (opened log term mtu initial session stream) calls .record·) (left (opened log term mtu initial session stream) calls .log) reader lent)
-    → (most : ℕ) → length (messages (history (opened log term mtu initial session stream) calls)) < most
-    → gathered x most 0 ≡ messages (history (opened log term mtu initial session stream) calls)
+    (lent : List ℕ) (term mtu initial session stream : ℤ) (w u : World) (ts : List (Call × Answer))
+    → Opened lent term mtu initial session stream w → Wrote w ts u → AllAnswered [] ts
+    → ltZ (publisherPosition (reading (u .record·))) (pos (3 * shape w .term)) ≡ true
+    → Upheld w ts u
