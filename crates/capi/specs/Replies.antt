@@ -40,6 +40,7 @@ use Rattle.logbuffer.specs.declared.fragment_assembler.FragmentAssembler.{Fragm
 use Rattle.image.specs.Images.{imageOf}
 use Rattle.image.specs.declared.Image.{Image}
 use Rattle.image.specs.declared.PollReply.{PollReply as PollSaid}
+use Rattle.image.specs.declared.PeekReply.{PeekReply as PeekSaid}
 use Rattle.image.specs.declared.BlockReply.{BlockReply as BlockSaid}
 use Rattle.image.specs.declared.ImageReply.{ImageReply as ImageSaid}
 use Rattle.replay.specs.declared.Replay.{Replay}
@@ -178,8 +179,11 @@ pollBy nx a = record { next = nx; code = polledTold a .number; fragments = size 
 abbrev pub pollReply : PollSaid → PollReply
 pollReply o = pollBy (o .next) (o .answer)
 
-abbrev pub peekReply : Peeked → PeekReply
-peekReply a = record { code = peekedTold a .number; position = value 0 (peekedTold a); entries = size 1 (peekedTold a) }
+abbrev pub peekBy : Image → Peeked → PeekReply
+peekBy nx a = record { next = nx; code = peekedTold a .number; position = value 0 (peekedTold a); entries = size 1 (peekedTold a) }
+
+abbrev pub peekReply : PeekSaid → PeekReply
+peekReply o = peekBy (o .next) (o .answer)
 
 abbrev pub blockBy : Image → BlockPolled → BlockReply
 blockBy nx a =

@@ -9,7 +9,7 @@ ghost use Rattle.model.specs.Image.{newImage, pollOf, boundedPollOf, controlled
 ghost use Rattle.model.specs.FragmentAssembler.{fresh, assembleOf};
 ghost use Rattle.model.specs.Replay.{nextOf};
 ghost use Rattle.logbuffer.specs.Assembler.{sessionsOf};
-ghost use Rattle.image.specs.Images.{stateOf, imageOf, pollReplyOf, blockReplyOf, imageReplyOf};
+ghost use Rattle.image.specs.Images.{stateOf, imageOf, pollReplyOf, peekReplyOf, blockReplyOf, imageReplyOf};
 ghost use Rattle.replay.specs.Replays.{stateOf as stateOfReplay, countOf};
 ghost use Rattle.capi.specs.Replies.{spanReply, headerReply, readReply, scanReply, gapReply, availabilityReply, pollReply, peekReply, blockReply, imageReply, endOfStreamReply, assemblerOf, assemblyBy, replayOf, nextBy, countReply};
 use crate::replies;
@@ -204,10 +204,13 @@ pub extern "C" fn logbuffer_image_controlled_peek(
     start: i64,
     limit_position: i64,
 ) -> PeekReply
-    ensures { λ r. ⌜ r ≡ peekReply (peekOf rec (now (log .entry)) (stateOf image) (now (entries .entry)) (now (actions .entry)) start «limit_position») ⌝ }
+    ensures { λ r. ⌜ r ≡ peekReply (peekReplyOf (stateOf image) (peekOf rec (now (log .entry)) (stateOf image) (now (entries .entry)) (now (actions .entry)) start «limit_position»)) ⌝ }
     ensures { λ _. ⌜ now (entries .exit) ≡ peekSlots rec (now (log .entry)) (stateOf image) (now (entries .entry)) (now (actions .entry)) start «limit_position» ⌝ }
 {
-    replies::peeked(image.controlled_peek(rec, log, entries, actions, start, limit_position))
+    let o = image.controlled_peek(rec, log, entries, actions, start, limit_position);
+    let next = o.next;
+    let answer = o.answer;
+    replies::peeked(next, answer)
 }
 
 #[no_mangle]

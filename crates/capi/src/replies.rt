@@ -4,7 +4,7 @@ ghost use mathlib.Core.Path.{_≡_};
 ghost use Prim.Native.Nat.{_-_};
 ghost use mathlib.Core.List.{[]};
 ghost use Rattle.model.specs.Answers.{answered};
-ghost use Rattle.capi.specs.Replies.{outcomeNumber, positionReply, claimAt, offerBy, claimBy, spanReply, appendBy, appendClaimBy, fieldsAt, headerReply, readReply, scanReply, gapReply, availabilityReply, pollBy, peekReply, blockBy, endOfStreamReply, assemblyBy, nextBy, countReply};
+ghost use Rattle.capi.specs.Replies.{outcomeNumber, positionReply, claimAt, offerBy, claimBy, spanReply, appendBy, appendClaimBy, fieldsAt, headerReply, readReply, scanReply, gapReply, availabilityReply, pollBy, peekBy, blockBy, endOfStreamReply, assemblyBy, nextBy, countReply};
 use image::Image;
 use logbuffer::errors;
 use logbuffer::fragment_assembler::FragmentAssembler;
@@ -127,6 +127,7 @@ pub struct PollReply {
 
 #[repr(C)]
 pub struct PeekReply {
+    pub next: Image,
     pub code: i32,
     pub position: i64,
     pub entries: usize,
@@ -461,16 +462,18 @@ pub fn polled(next: Image, answer: Polled) -> PollReply
     }
 }
 
-pub fn peeked(answer: Peeked) -> PeekReply
-    ensures { λ r. ⌜ r ≡ peekReply answer ⌝ }
+pub fn peeked(next: Image, answer: Peeked) -> PeekReply
+    ensures { λ r. ⌜ r ≡ peekBy next answer ⌝ }
 {
     match answer {
         Peeked::Position(p, entries) => PeekReply {
+            next: next,
             code: 0,
             position: p,
             entries: entries,
         },
         Peeked::Refused(e) => PeekReply {
+            next: next,
             code: errors::number(e),
             position: 0,
             entries: 0,

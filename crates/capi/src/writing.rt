@@ -2,7 +2,7 @@
 ghost use mathlib.Core.Path.{_≡_};
 ghost use Rattle.model.specs.Parts.{locatedNumber};
 ghost use Rattle.model.specs.LogBufferDescriptor.{rotateLogOf};
-ghost use Rattle.model.specs.BufferClaim.{locateOf, commitOf, commitBytes, abortBytes};
+ghost use Rattle.model.specs.BufferClaim.{locateOf, writeOf, writeBytes, commitOf, commitBytes, abortBytes};
 ghost use Rattle.model.specs.TermAppender.{unfragmentedReply, unfragmentedBytes, fragmentedReply, fragmentedBytes, claimAppendReply, claimAppendBytes};
 ghost use Rattle.model.specs.Publication.{openOf, openBytes, limitOf, closeOf, positionCall, limitCall, windowCall, offerOf, offerBytes, claimOf, claimBytes};
 ghost use Rattle.capi.specs.Replies.{outcomeNumber, recordReply, positionReply, offerReply, claimReply, spanReply, appendReply, appendClaimReply};
@@ -149,6 +149,19 @@ pub extern "C" fn logbuffer_claim_body_number(rec: LogRecord, log: &[u8], claim:
     ensures { λ r. ⌜ r ≡ locatedNumber (locateOf rec (now (log .entry)) claim) ⌝ }
 {
     buffer_claim::body_number(rec, log, claim)
+}
+
+#[no_mangle]
+pub extern "C" fn logbuffer_claim_write(
+    rec: LogRecord,
+    log: &mut [u8],
+    claim: Claim,
+    bytes: &[u8],
+) -> i32
+    ensures { λ r. ⌜ r ≡ outcomeNumber (writeOf rec (now (log .entry)) claim (now (bytes .entry))) ⌝ }
+    ensures { λ _. ⌜ now (log .exit) ≡ writeBytes rec (now (log .entry)) claim (now (bytes .entry)) ⌝ }
+{
+    replies::outcome_code(buffer_claim::write(rec, log, claim, bytes))
 }
 
 #[no_mangle]

@@ -7,7 +7,6 @@ use native.Mathlib.Omega.{arith}
 use borrow.Author.Tests.{le-leb, eq-eqb, ne-eqb}
 use lib.Dec.{eqb, leb}
 use lib.ListN.{length, drop}
-use lib.Seq.{drop-drop}
 use lib.IntN.{ℤ, pos}
 use mir.Syntax.{w32}
 use mir.Val.{SFits, toZ, ofZ}
@@ -28,20 +27,21 @@ use Rattle.model.specs.declared.Scanned.{Scanned}
 use Rattle.model.specs.declared.Scanned.the-variants.{Offset, Refused}
 use Rattle.model.specs.declared.BlockPolled.{BlockPolled}
 use Rattle.model.specs.declared.BlockPolled.the-variants.{Block}
-use Rattle.model.specs.Bytes.{word, long, i32, u32}
+use Rattle.model.specs.Bytes.{word, long}
 use Rattle.model.specs.DataFrameHeader.{headerAt}
 use Rattle.model.specs.FrameDescriptor.{align, frameAt}
 use Rattle.model.specs.LogBufferDescriptor.{reading, sound, partitionOf, goodPartition, goodOffset, withinTerm, placeOf}
 use Rattle.model.specs.TermReader.{natural, fieldsOf, headerBy, headerCall}
 use Rattle.model.specs.TermScan.{scanOver, scanFrom, scanBy, scanOf}
-use Rattle.model.specs.Image.{Image as State, refuseIf, readable, unsoundAt, pollVerdict, blockEnd, blockLength, blockBy, blockPollOf}
+use Rattle.model.specs.Image.{Image as State, movedTo, refuseIf, readable, unsoundAt, pollVerdict, blockEnd, blockLength, blockBy, blockPollOf}
 use Rattle.model.proofs.FrameLaws.{Lies, lies}
 use Rattle.model.proofs.HeaderRows.{header-by}
 use Rattle.model.proofs.Rows.{no-row}
 use Rattle.model.proofs.ScanRows.{scan-goes}
-use Rattle.image.specs.Images.{blockSaid}
+use Rattle.image.specs.Images.{blockSaid, blockRead}
 use Rattle.image.proofs.Places.{At, at-place}
 use Rattle.image.proofs.Rungs.{after, poll-after}
+use Rattle.image.proofs.Replies.{only-moved}
 
 -- ---- how far a scan goes: not back, and not past the term
 
@@ -133,12 +133,12 @@ module _ (r : LogRecord) (log : List ℕ) (v : Reading) (p : ℕ) (ev : v ≡ re
       ap (headerBy f) (no-row _ _ g h) ∙ header-by r log (signed (p / v .term % 3)) (signed (p % v .term)) named named-is
 
   id-field : fieldsOf v (p % v .term) (headerAt (drop (partitionOf p (v .term) * v .term + p % v .term) log)) .«term_id»
-      ≡ i32 (drop (partitionOf p (v .term) * v .term + p % v .term + 20) log)
-  unfolding fieldsOf headerAt
-  id-field = ap (λ (s : List ℕ). toZ w32 (u32 s)) (drop-drop 20 (partitionOf p (v .term) * v .term + p % v .term) log)
+      ≡ toZ w32 (headerAt (drop (partitionOf p (v .term) * v .term + p % v .term) log) .id)
+  unfolding fieldsOf
+  id-field = refl
 
   pub term-id-is : (f : HeaderFields) → headerCall r log (signed (p / v .term % 3)) (signed (p % v .term)) ≡ Fields f
-      → f .«term_id» ≡ i32 (drop (partitionOf p (v .term) * v .term + p % v .term + 20) log)
+      → f .«term_id» ≡ toZ w32 (headerAt (drop (partitionOf p (v .term) * v .term + p % v .term) log) .id)
   term-id-is f q =
       let e : Fields (fieldsOf v (p % v .term) (headerAt (drop (partitionOf p (v .term) * v .term + p % v .term) log))) ≡ Fields f = header-is ∙ q in
       let s : fieldsOf v (p % v .term) (headerAt (drop (partitionOf p (v .term) * v .term + p % v .term) log)) ≡ f = cc in
@@ -190,12 +190,15 @@ module _ (v : Reading) (log : List ℕ) (i : State) (limit n : ℕ) (en : n ≡ 
       let made : ℕ → BlockPolled = λ (x : ℕ). blockBy v log i x Read in
       sym (ap made (sym en ∙ h))
 
-  pub block-some : (p : ℕ) (id : ℤ) → (n ≡ 0 → ⊥) → p ≡ long (i .position) → id ≡ i32 (drop (partitionOf p (v .term) * v .term + p % v .term + 20) log)
+  pub block-some : (p : ℕ) (id : ℤ) → (n ≡ 0 → ⊥) → p ≡ long (i .position) → id ≡ toZ w32 (headerAt (drop (partitionOf p (v .term) * v .term + p % v .term) log) .id)
       → Block (p % v .term) n (i .session) id ≡ blockBy v log i (blockLength v log (long (i .position)) limit) Read
   block-some p id h ep ei =
       let some : Bool → ℕ → ℕ → BlockPolled = λ (b : Bool) (x m : ℕ). cond b (Block 0 0 (pos 0) (pos 0))
-      (Block (x % v .term) m (i .session) (i32 (drop (partitionOf x (v .term) * v .term + x % v .term + 20) log))) in
+      (Block (x % v .term) m (i .session) (toZ w32 (headerAt (drop (partitionOf x (v .term) * v .term + x % v .term) log) .id))) in
       ap (λ (z : ℤ). Block (p % v .term) n (i .session) z) ei ∙ sym (ap (λ (b : Bool). some b p n) (ne-eqb n 0 h)) ∙ ap₂ (λ (x m : ℕ). some (eqb m 0) x m) ep en
+
+pub block-kept : (v : Reading) (log : List ℕ) (i : State) (limit : ℕ) → movedTo i (blockRead v log i limit .next .position) ≡ blockRead v log i limit .next
+block-kept v log i limit = only-moved i (blockLength v log (long (i .position)) limit) (refuseIf (unsoundAt v log (long (i .position)) (blockEnd v (long (i .position)) limit) 1) UnsoundFrame Read)
 
 -- ---- the call, over the code's numbers
 

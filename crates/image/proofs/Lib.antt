@@ -6,3 +6,4 @@ pub mod Bounds
 pub mod Settings
 pub mod Blocks
 pub mod Peeks
+pub mod Replies

@@ -15,8 +15,8 @@ use Rattle.model.specs.declared.ReadVerdict.{ReadVerdict}
 use Rattle.model.specs.declared.ReadVerdict.the-variants.{Read, Closed, Refuse}
 use Rattle.model.specs.Bytes.{long}
 use Rattle.model.specs.LogBufferDescriptor.{reading, greatest}
-use Rattle.model.specs.TermReader.{Walked, natural, goodEntries}
-use Rattle.model.specs.Image.{Image as State, refuseIf, readable, reachable, endOffset, walkAt, unsoundAt, goodActions, slotsBy, peekVerdict, peekedBy, peekOf, peekSlots}
+use Rattle.model.specs.TermReader.{Walked, natural, goodEntries, goodActions}
+use Rattle.model.specs.Image.{Image as State, refuseIf, readable, reachable, endOffset, walkAt, unsoundAt, slotsBy, peekVerdict, peekedBy, peekOf, peekSlots}
 use Rattle.image.proofs.Rungs.{after, Readable, readable-after, readable-read}
 
 -- ---- rows 15 and 16 after the others

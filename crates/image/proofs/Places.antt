@@ -18,6 +18,7 @@ use Rattle.model.proofs.Sound.{sound-true, term-32}
 use Rattle.model.proofs.PlaceLaws.{part-in}
 use Rattle.model.proofs.ReaderLaws.{good-walk-by}
 use Rattle.model.proofs.Both.{and-true}
+use Rattle.image.specs.Images.{TermLength}
 
 pub record At (v : Reading) (n p : ℕ) : Type 0 where
   pub some : 0 < v .term
@@ -43,6 +44,9 @@ at-place v n p h a =
       below = mod-lt p z;
       term-32 = m;
     }
+
+pub term-length : (v : Reading) (n : ℕ) → sound v n ≡ true → TermLength (v .term)
+term-length v n h = let s = sound-true v n h in record { some = omega (arith, s .term-low); high = s .term-high; one-bit = s .one-bit }
 
 -- the leaf library's own row 1 is met
 pub walk-good : (v : Reading) (n p end limit slots : ℕ) → sound v n ≡ true → p % 32 ≡ 0 → end ≤ v .term → goodEntries slots limit ≡ true

@@ -1,8 +1,8 @@
 -- What the leaf library's walk answers, told as a poll of an image: p is the image's position as the code has it.
-use mathlib.Core.Path.{_≡_, sym, ap, ap₂, _∙_}
+use mathlib.Core.Path.{_≡_, refl, sym, ap, ap₂, _∙_}
 use mathlib.Core.Bool.{Bool, true, false, cond, _&&_}
 use mathlib.Core.List.{List, []}
-use Prim.Native.Nat.{ℕ, _+_, _-_, _*_, _/_, _%_, _≤_, min}
+use Prim.Native.Nat.{ℕ, _*_, _/_, _%_, _≤_}
 use native.Mathlib.Omega.{arith}
 use lib.Dec.{leb}
 use lib.ListN.{length}
@@ -12,14 +12,22 @@ use Rattle.model.specs.declared.Reading.{Reading}
 use Rattle.model.specs.declared.Error.{Error}
 use Rattle.model.specs.declared.Error.the-variants.{UnsoundFrame}
 use Rattle.model.specs.declared.Verdict.the-variants.{Pass, Refuse as VerdictRefuse}
+use Rattle.model.specs.declared.ReadVerdict.{ReadVerdict}
+use Rattle.model.specs.declared.ReadVerdict.the-variants.{Read, Closed, Refuse}
 use Rattle.model.specs.declared.Walk.{Walk}
 use Rattle.model.specs.declared.FramesRead.{FramesRead}
 use Rattle.model.specs.declared.FramesRead.the-variants.{Walked as AllWalked, Refused as WalkRefused}
 use Rattle.model.specs.Bytes.{long}
 use Rattle.model.specs.LogBufferDescriptor.{reading}
-use Rattle.model.specs.TermReader.{walkOf, framesBy, entriesBy, laid, natural, goodEntries}
-use Rattle.model.specs.Image.{Image as State, PollReply, walkAt, unsoundAt, endOffset, goodActions, pollReply, pollVerdict, pollOf, boundedPollOf, controlledPollOf}
+use Rattle.model.specs.TermReader.{walkOf, framesBy, entriesBy, laid, natural, goodEntries, goodActions}
+use Rattle.model.specs.Image.{Image as State, PollReply, movedTo, refuseIf, readable, walkAt, unsoundAt, endOffset, pollReply, pollVerdict, pollOf, boundedPollOf, controlledPollOf}
 use Rattle.model.proofs.ReadLaws.{walk-moved}
+use Rattle.model.proofs.Sound.{sound-true}
+use Rattle.image.specs.declared.PollReply.{PollReply as Reply}
+use Rattle.image.specs.declared.frames.PolledTo.{PolledTo}
+use Rattle.image.specs.Images.{imageOf, pollReplyOf, polledTo}
+use Rattle.image.proofs.Replies.{only-moved, poll-replied}
+use Rattle.image.proofs.Rungs.{after, readable-read, poll-after}
 use Rattle.image.proofs.Places.{walked-first, refused-first}
 
 -- the answer F of a walk that left the lent entries as `out`, from a position p
@@ -51,31 +59,52 @@ module _ (v : Reading) (log : List ℕ) (slots : List ℤ) (end limit : ℕ) (ac
       let e = frames-walked w h .1 .0 in
       omega (arith, ap (λ (x : Walk). x .moved) e, walk-moved (v .term) log (q / v .term % 3 * v .term) (v .term) end (q % v .term) limit acts)
 
+-- ---- a call with no limit position ends with its term
+
+module _ (v : Reading) (log : List ℕ) (i : State) (slots : List ℤ) (good : Bool) (limit : ℕ) (acts : List ℕ) where
+  abbrev ending : ℕ → PollReply
+  ending e = pollReply i slots (walkAt v log (long (i .position)) e limit acts) (pollVerdict v log i good e limit)
+
+  -- the reply, once the image has taken the position that the call came to
+  pub replied : (e : ℕ) (z : ℤ) (t : PolledTo) → z ≡ t .position → t ≡ polledTo (ending e)
+      → _≡_ {A = Reply} (record { next = imageOf (movedTo i z); answer = t .answer }) (pollReplyOf (ending e))
+  replied e z t ez et = poll-replied i z t (ending e) ez et (only-moved i (walkAt v log (long (i .position)) e limit acts .moved) (pollVerdict v log i good e limit))
+
+  -- a verdict that lets nothing be read decides, wherever the call ends
+  decided : (e : ℕ) (x : ReadVerdict) → x ≡ readable good v (length log) i Read
+      → ending e ≡ pollReply i slots (walkAt v log (long (i .position)) e limit acts) (after x (refuseIf (unsoundAt v log (long (i .position)) e limit) UnsoundFrame Read))
+  decided e x h = ap (pollReply i slots (walkAt v log (long (i .position)) e limit acts)) (sym (poll-after v log i good e limit x h))
+
+  to-term : ending (endOffset v (long (i .position)) 9223372036854775807) ≡ ending (v .term)
+  to-term = go (readable good v (length log) i Read) refl
+    where
+      go : (x : ReadVerdict) → x ≡ readable good v (length log) i Read → ending (endOffset v (long (i .position)) 9223372036854775807) ≡ ending (v .term)
+      go Read h =
+          let k = readable-read good v (length log) i h in
+          let e : endOffset v (long (i .position)) 9223372036854775807 ≡ v .term = omega (arith, k .high, sound-true _ _ (k .sound) .term-high) in
+          ap ending e
+      go Closed h = decided _ Closed h ∙ sym (decided (v .term) Closed h)
+      go (Refuse e) h = decided _ (Refuse e) h ∙ sym (decided (v .term) (Refuse e) h)
+
 -- ---- the three calls, with the numbers as the code has them
 
 module _ (r : LogRecord) (log : List ℕ) (i : State) (slots : List ℤ) (fragments : ℤ) (v : Reading) (limit : ℕ) (good : Bool) (ev : v ≡ reading r) (el : limit ≡ natural fragments) where
-  pub as-poll : good ≡ goodEntries (length slots) limit
-      → pollReply i slots (walkAt v log (long (i .position)) (v .term) limit []) (pollVerdict v log i good (v .term) limit) ≡ pollOf r log i slots fragments
+  pub as-poll : good ≡ goodEntries (length slots) limit → ending v log i slots good limit [] (endOffset v (long (i .position)) 9223372036854775807) ≡ pollOf r log i slots fragments
   unfolding pollOf
   as-poll eg =
-      let f : Reading → ℕ → PollReply = λ (x : Reading) (l : ℕ). pollReply i slots (walkAt x log (long (i .position)) (x .term) l []) (pollVerdict x log i (goodEntries (length slots) l) (x .term) l) in
-      ap (λ (b : Bool). pollReply i slots (walkAt v log (long (i .position)) (v .term) limit []) (pollVerdict v log i b (v .term) limit)) eg ∙ ap₂ f ev el
+      let f : Reading → ℕ → PollReply = λ (x : Reading) (l : ℕ). ending x log i slots (goodEntries (length slots) l) l [] (x .term) in
+      to-term v log i slots good limit [] ∙ ap (λ (b : Bool). ending v log i slots b limit [] (v .term)) eg ∙ ap₂ f ev el
 
   pub as-controlled : (acts : List ℕ) → good ≡ (goodEntries (length slots) limit && (goodActions acts && (leb (length acts) 2147483647 && leb limit (length acts))))
-      → pollReply i slots (walkAt v log (long (i .position)) (v .term) limit acts) (pollVerdict v log i good (v .term) limit) ≡ controlledPollOf r log i slots acts fragments
+      → ending v log i slots good limit acts (endOffset v (long (i .position)) 9223372036854775807) ≡ controlledPollOf r log i slots acts fragments
   unfolding controlledPollOf
   as-controlled acts eg =
-      let f : Reading → ℕ → PollReply = λ (x : Reading) (l : ℕ). pollReply i slots (walkAt x log (long (i .position)) (x .term) l acts)
-      (pollVerdict x log i (goodEntries (length slots) l && (goodActions acts && (leb (length acts) 2147483647 && leb l (length acts)))) (x .term) l) in
-      ap (λ (b : Bool). pollReply i slots (walkAt v log (long (i .position)) (v .term) limit acts) (pollVerdict v log i b (v .term) limit)) eg ∙ ap₂ f ev el
+      let f : Reading → ℕ → PollReply = λ (x : Reading) (l : ℕ). ending x log i slots (goodEntries (length slots) l && (goodActions acts && (leb (length acts) 2147483647 && leb l (length acts)))) l acts (x .term) in
+      to-term v log i slots good limit acts ∙ ap (λ (b : Bool). ending v log i slots b limit acts (v .term)) eg ∙ ap₂ f ev el
 
-  pub as-bounded : (position : ℤ) (end p bound : ℕ) → good ≡ goodEntries (length slots) limit → p ≡ long (i .position) → bound ≡ natural position
-      → end ≡ min (v .term) (p % v .term + (bound - p))
-      → pollReply i slots (walkAt v log (long (i .position)) end limit []) (pollVerdict v log i good end limit) ≡ boundedPollOf r log i slots position fragments
+  pub as-bounded : (position : ℤ) (bound : ℕ) → good ≡ goodEntries (length slots) limit → bound ≡ natural position
+      → ending v log i slots good limit [] (endOffset v (long (i .position)) bound) ≡ boundedPollOf r log i slots position fragments
   unfolding boundedPollOf
-  as-bounded position end p bound eg ep eb ee =
-      let f : Reading → ℕ → ℕ → Bool → PollReply = λ (x : Reading) (l e : ℕ) (b : Bool). pollReply i slots (walkAt x log (long (i .position)) e l []) (pollVerdict x log i b e l) in
-      let e : end ≡ endOffset (reading r) (long (i .position)) (natural position) =
-      ee ∙ ap (λ (x : Reading). min (x .term) (p % x .term + (bound - p))) ev ∙ ap₂ (λ (q b : ℕ). min (reading r .term) (q % reading r .term + (b - q))) ep eb in
-      let g : good ≡ goodEntries (length slots) (natural fragments) = eg ∙ ap (goodEntries (length slots)) el in
-      ap₂ (λ (x : Reading) (l : ℕ). f x l end good) ev el ∙ ap₂ (f (reading r) (natural fragments)) e g
+  as-bounded position bound eg eb =
+      let f : Reading → ℕ → ℕ → Bool → PollReply = λ (x : Reading) (l b : ℕ) (g : Bool). ending x log i slots g l [] (endOffset x (long (i .position)) b) in
+      ap₂ (λ (x : Reading) (l : ℕ). f x l bound good) ev el ∙ ap₂ (f (reading r) (natural fragments)) eb (eg ∙ ap (goodEntries (length slots)) el)

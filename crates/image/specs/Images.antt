@@ -1,16 +1,22 @@
 -- An image of the code and the image of the definitions hold the same; and so do their replies.
-use Prim.Native.Nat.{ℕ}
+use mathlib.Core.Path.{_≡_}
+use Prim.Native.Nat.{ℕ, _≤_, _<_}
 use mathlib.Core.List.{List}
+use lib.Count.{ones}
 use Rattle.model.specs.declared.Reading.{Reading}
 use Rattle.model.specs.declared.ReadVerdict.{ReadVerdict}
 use Rattle.model.specs.declared.ReadVerdict.the-variants.{Read}
 use Rattle.model.specs.declared.Error.the-variants.{UnsoundFrame}
+use Rattle.model.specs.declared.Peeked.{Peeked}
 use Rattle.model.specs.Bytes.{long}
 use Rattle.model.specs.Image.{Image as State, PollReply as PollSaid, BlockReply as BlockSaid, ImageReply as ImageSaid, refuseIf, unsoundAt, blockEnd, blockLength, blockBy, imageBy}
 use Rattle.image.specs.declared.Image.{Image}
 use Rattle.image.specs.declared.PollReply.{PollReply}
+use Rattle.image.specs.declared.PeekReply.{PeekReply}
 use Rattle.image.specs.declared.BlockReply.{BlockReply}
 use Rattle.image.specs.declared.ImageReply.{ImageReply}
+use Rattle.image.specs.declared.frames.PolledTo.{PolledTo}
+use Rattle.image.specs.declared.block.BlockTo.{BlockTo}
 
 abbrev pub stateOf : Image → State
 stateOf i = record { position = i .position; session = i .«session_id»; closed = i .«is_closed»; eos = i .«is_eos» }
@@ -21,11 +27,28 @@ imageOf s = record { position = s .position; «session_id» = s .session; «is_c
 abbrev pub pollReplyOf : PollSaid → PollReply
 pollReplyOf x = record { next = imageOf (x .next); answer = x .answer }
 
+-- a peek moves nothing: the next image is the image as it was
+abbrev pub peekReplyOf : State → Peeked → PeekReply
+peekReplyOf i a = record { next = imageOf i; answer = a }
+
 abbrev pub imageReplyOf : ImageSaid → ImageReply
 imageReplyOf x = record { next = imageOf (x .next); answer = x .answer }
 
 abbrev pub blockReplyOf : BlockSaid → BlockReply
 blockReplyOf x = record { next = imageOf (x .next); answer = x .answer }
+
+-- what of a reply is worked out, before the image takes its position
+abbrev pub polledTo : PollSaid → PolledTo
+polledTo x = record { position = x .next .position; answer = x .answer }
+
+abbrev pub blockTo : BlockSaid → BlockTo
+blockTo x = record { position = x .next .position; answer = x .answer }
+
+-- the term length of a sound record: one bit
+pub record TermLength (term : ℕ) : Type 0 where
+  pub some : 0 < term
+  pub high : term ≤ 1073741824
+  pub one-bit : ones term ≡ 1
 
 -- a block poll by its verdict, and once only row 17 is left to judge
 abbrev pub blockSaid : Reading → List ℕ → State → ℕ → ReadVerdict → BlockSaid

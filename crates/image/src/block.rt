@@ -1,16 +1,18 @@
 // A block: whole frames at a position, told by where they lie.
 ghost use mathlib.Core.Path.{_≡_};
 ghost use mathlib.Core.Bool.{cond, true};
-ghost use Prim.Native.Nat.{_+_, _*_, _/_, _%_, _≤_, _<_};
+ghost use Prim.Native.Nat.{_+_, _*_, _%_, _≤_, _<_};
 ghost use lib.ListN.{length, drop};
 ghost use Rattle.model.specs.declared.Error.the-variants.{UnsoundFrame};
 ghost use Rattle.model.specs.declared.Verdict.the-variants.{Pass, Refuse};
-ghost use Rattle.model.specs.Bytes.{i32, long};
+ghost use mir.Syntax.{w32};
+ghost use mir.Val.{toZ};
+ghost use Rattle.model.specs.Bytes.{long};
+ghost use Rattle.model.specs.DataFrameHeader.{headerAt};
 ghost use Rattle.model.specs.LogBufferDescriptor.{reading, sound, greatest, partitionOf};
 ghost use Rattle.model.specs.TermScan.{scanFrom, scanBy};
 ghost use Rattle.model.specs.Image.{unsoundAt};
-ghost use Rattle.image.specs.Images.{stateOf, blockReplyOf, blockRead};
-use crate::BlockReply;
+ghost use Rattle.image.specs.Images.{stateOf, blockTo, blockRead};
 use crate::Image;
 use crate::limits;
 use logbuffer::cast;
@@ -23,6 +25,12 @@ use model::LogRecord;
 use model::Reading;
 use model::Scanned;
 
+// Where a block poll leaves the image's position, and its answer.
+pub struct BlockTo {
+    pub position: i64,
+    pub answer: BlockPolled,
+}
+
 // The scan from a position of a sound log up to an offset of its term.
 fn scan_at(rec: LogRecord, v: Reading, log: &[u8], p: usize, end: usize) -> Scanned
     requires { ⌜ (v ≡ reading rec) × ((sound v (length (now log)) ≡ true) × ((p % 32 ≡ 0) × (end ≤ v .term))) ⌝ }
@@ -32,8 +40,8 @@ fn scan_at(rec: LogRecord, v: Reading, log: &[u8], p: usize, end: usize) -> Scan
     term_scan::scan(
         rec,
         log,
-        (p / term % 3) as i32,
-        (p % term) as i32,
+        limits::partition_of(term, p) as i32,
+        limits::offset_of(term, p) as i32,
         end as i32,
     )
 }
@@ -41,14 +49,14 @@ fn scan_at(rec: LogRecord, v: Reading, log: &[u8], p: usize, end: usize) -> Scan
 // The term id of the frame at a position of a sound log.
 fn term_id_at(rec: LogRecord, v: Reading, log: &[u8], p: usize) -> i32
     requires { ⌜ (v ≡ reading rec) × ((sound v (length (now log)) ≡ true) × (p % 32 ≡ 0)) ⌝ }
-    ensures { λ r. ⌜ r ≡ i32 (drop (partitionOf p (v .term) * v .term + p % v .term + 20) (now (log .entry))) ⌝ }
+    ensures { λ r. ⌜ r ≡ toZ w32 (headerAt (drop (partitionOf p (v .term) * v .term + p % v .term) (now (log .entry))) .id) ⌝ }
 {
     let term = v.term;
     let HeaderRead::Fields(fields) = header::fields(
         rec,
         log,
-        (p / term % 3) as i32,
-        (p % term) as i32,
+        limits::partition_of(term, p) as i32,
+        limits::offset_of(term, p) as i32,
     ) else {
         return 0;
     };
@@ -56,31 +64,31 @@ fn term_id_at(rec: LogRecord, v: Reading, log: &[u8], p: usize) -> i32
 }
 
 // A block of at most so many bytes, for an image that may read.
-pub fn block_at(image: Image, rec: LogRecord, v: Reading, log: &[u8], limit: usize) -> BlockReply
+pub fn block_at(image: Image, rec: LogRecord, v: Reading, log: &[u8], limit: usize) -> BlockTo
     requires { ⌜ (v ≡ reading rec) × ((sound v (length (now log)) ≡ true) × ((long (image .position) ≤ greatest v) × ((long (image .position) % 32 ≡ 0) × (limit < 2147483648)))) ⌝ }
-    ensures { λ r. ⌜ r ≡ blockReplyOf (blockRead v (now (log .entry)) (stateOf image) limit) ⌝ }
+    ensures { λ r. ⌜ r ≡ blockTo (blockRead v (now (log .entry)) (stateOf image) limit) ⌝ }
 {
     let term = v.term;
     let p = cast::long(image.position);
     let end = limits::end_offset(term, p, p + limit);
     let Scanned::Offset(stop) = scan_at(rec, v, log, p, end) else {
-        return BlockReply {
-            next: image,
+        return BlockTo {
+            position: image.position,
             answer: BlockPolled::Refused(Error::UnsoundFrame),
         };
     };
-    let at = p % term;
+    let at = limits::offset_of(term, p);
     let n = stop - at;
-    let next = image.moved_to((p + n) as i64);
+    let position = (p + n) as i64;
     if n == 0 {
-        return BlockReply {
-            next: next,
+        return BlockTo {
+            position: position,
             answer: BlockPolled::Block(0, 0, 0, 0),
         };
     }
     let id = term_id_at(rec, v, log, p);
-    BlockReply {
-        next: next,
+    BlockTo {
+        position: position,
         answer: BlockPolled::Block(at, n, image.session_id, id),
     }
 }

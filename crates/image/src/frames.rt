@@ -7,12 +7,12 @@ ghost use Rattle.model.specs.declared.Error.the-variants.{UnsoundFrame};
 ghost use Rattle.model.specs.declared.Verdict.the-variants.{Pass, Refuse};
 ghost use Rattle.model.specs.Bytes.{long};
 ghost use Rattle.model.specs.LogBufferDescriptor.{sound};
-ghost use Rattle.model.specs.TermReader.{goodEntries, framesBy, entriesBy};
-ghost use Rattle.model.specs.Image.{walkAt, unsoundAt, pollReply, pollVerdict, slotsBy};
-ghost use Rattle.image.specs.Images.{stateOf, pollReplyOf};
+ghost use Rattle.model.specs.TermReader.{goodEntries, goodHandler, framesBy, entriesBy};
+ghost use Rattle.model.specs.Image.{walkAt, unsoundAt, endOffset, pollReply, pollVerdict, slotsBy};
+ghost use Rattle.image.specs.Images.{stateOf, polledTo};
 use crate::Image;
-use crate::PollReply;
 use crate::ladder;
+use crate::limits;
 use logbuffer::cast;
 use logbuffer::term_reader;
 use model::Error;
@@ -20,6 +20,12 @@ use model::FramesRead;
 use model::Polled;
 use model::ReadVerdict;
 use model::Reading;
+
+// Where a poll leaves the image's position, and its answer.
+pub struct PolledTo {
+    pub position: i64,
+    pub answer: Polled,
+}
 
 // The walk from a position of a sound log up to an offset of its term.
 pub fn frames_at(
@@ -31,58 +37,59 @@ pub fn frames_at(
     limit: usize,
     actions: &[u8],
 ) -> FramesRead
-    requires { ⌜ (sound v (length (now log)) ≡ true) × ((p % 32 ≡ 0) × ((end ≤ v .term) × (goodEntries (length (now entries)) limit ≡ true))) ⌝ }
+    requires { ⌜ (sound v (length (now log)) ≡ true) × ((p % 32 ≡ 0) × ((end ≤ v .term) × ((goodEntries (length (now entries)) limit ≡ true) × (goodHandler (now actions) limit ≡ true)))) ⌝ }
     ensures { λ r. ⌜ r ≡ framesBy (walkAt v (now (log .entry)) p end limit (now (actions .entry))) (cond (unsoundAt v (now (log .entry)) p end limit) (Refuse UnsoundFrame) Pass) ⌝ }
     ensures { λ _. ⌜ now (entries .exit) ≡ entriesBy (now (entries .entry)) (walkAt v (now (log .entry)) p end limit (now (actions .entry))) (cond (unsoundAt v (now (log .entry)) p end limit) (Refuse UnsoundFrame) Pass) ⌝ }
 {
     let term = v.term;
     term_reader::read_frames(
         log,
-        p / term % 3 * term,
+        limits::partition_of(term, p) * term,
         term,
         end,
-        p % term,
+        limits::offset_of(term, p),
         limit,
         actions,
         entries,
     )
 }
 
-// A poll: where it ends, its fragment limit, its actions, and whether its arguments are as row 1 asks.
+// A poll: its limit position, its fragment limit, its actions, and whether its arguments are as row 1 asks.
 pub fn poll_frames(
     image: Image,
     v: Reading,
     log: &[u8],
     entries: &mut [i32],
     good: bool,
-    end: usize,
+    bound: usize,
     limit: usize,
     actions: &[u8],
-) -> PollReply
-    requires { ⌜ (end ≤ v .term) × (good ≡ true → goodEntries (length (now entries)) limit ≡ true) ⌝ }
-    ensures { λ r. ⌜ r ≡ pollReplyOf (pollReply (stateOf image) (now (entries .entry)) (walkAt v (now (log .entry)) (long (image .position)) end limit (now (actions .entry))) (pollVerdict v (now (log .entry)) (stateOf image) good end limit)) ⌝ }
-    ensures { λ _. ⌜ now (entries .exit) ≡ slotsBy (now (entries .entry)) (walkAt v (now (log .entry)) (long (image .position)) end limit (now (actions .entry))) (pollVerdict v (now (log .entry)) (stateOf image) good end limit) ⌝ }
+) -> PolledTo
+    requires { ⌜ (good ≡ true → (goodEntries (length (now entries)) limit ≡ true) × (goodHandler (now actions) limit ≡ true)) ⌝ }
+    ensures { λ r. ⌜ r ≡ polledTo (pollReply (stateOf image) (now (entries .entry)) (walkAt v (now (log .entry)) (long (image .position)) (endOffset v (long (image .position)) bound) limit (now (actions .entry))) (pollVerdict v (now (log .entry)) (stateOf image) good (endOffset v (long (image .position)) bound) limit)) ⌝ }
+    ensures { λ _. ⌜ now (entries .exit) ≡ slotsBy (now (entries .entry)) (walkAt v (now (log .entry)) (long (image .position)) (endOffset v (long (image .position)) bound) limit (now (actions .entry))) (pollVerdict v (now (log .entry)) (stateOf image) good (endOffset v (long (image .position)) bound) limit) ⌝ }
 {
     match ladder::readable(good, v, log.len(), image) {
-        ReadVerdict::Refuse(e) => PollReply {
-            next: image,
+        ReadVerdict::Refuse(e) => PolledTo {
+            position: image.position,
             answer: Polled::Refused(e),
         },
-        ReadVerdict::Closed => PollReply {
-            next: image,
+        ReadVerdict::Closed => PolledTo {
+            position: image.position,
             answer: Polled::Fragments(0, 0),
         },
         ReadVerdict::Read => {
             let p = cast::long(image.position);
+            let end = limits::end_offset(v.term, p, bound);
             let FramesRead::Walked(walked) = frames_at(v, log, entries, p, end, limit, actions)
             else {
-                return PollReply {
-                    next: image,
+                return PolledTo {
+                    position: image.position,
                     answer: Polled::Refused(Error::UnsoundFrame),
                 };
             };
-            PollReply {
-                next: image.moved_to((p + walked.moved) as i64),
+            PolledTo {
+                position: (p + walked.moved) as i64,
                 answer: Polled::Fragments(walked.fragments, walked.entries),
             }
         }

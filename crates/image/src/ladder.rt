@@ -1,16 +1,17 @@
 // What is asked of a call on an image before it reads: its arguments, the record, whether the image is closed, its position.
 ghost use mathlib.Core.Path.{_≡_};
 ghost use Rattle.model.specs.declared.ReadVerdict.the-variants.{Read};
-ghost use Rattle.model.specs.TermReader.{goodEntries};
+ghost use Rattle.model.specs.TermReader.{goodEntries, goodControl};
 ghost use mathlib.Core.Bool.{_&&_};
-ghost use Prim.Native.Nat.{_*_, _≤_, _<_};
-ghost use lib.Dec.{leb};
-ghost use lib.ListN.{length};
+ghost use Prim.Native.Nat.{_*_, _≤_};
 ghost use Rattle.model.specs.Bytes.{long};
-ghost use Rattle.model.specs.Image.{goodActions, readable as readableOf, reachable as reachableOf};
-ghost use Rattle.image.specs.Images.{stateOf};
+ghost use Rattle.model.specs.Image.{readable as readableOf, reachable as reachableOf};
+ghost use Rattle.image.specs.Images.{stateOf, TermLength};
 use crate::Image;
+use crate::limits;
+use logbuffer::argument;
 use logbuffer::cast;
+use logbuffer::frame_descriptor::FRAME_ALIGNMENT;
 use logbuffer::log_buffer_descriptor;
 use model::Error;
 use model::ReadVerdict;
@@ -26,37 +27,14 @@ pub fn good_entries(slots: usize, limit: usize) -> bool
     limit <= slots / 2
 }
 
-// The handler's answers: each 1 to 4.
-fn good_actions(actions: &[u8]) -> bool
-    ensures { λ r. ⌜ r ≡ goodActions (now (actions .entry)) ⌝ }
-{
-    let mut i: usize = 0;
-    while i < actions.len() {
-        if actions[i] < 1 {
-            return false;
-        }
-        if actions[i] > 4 {
-            return false;
-        }
-        i += 1;
-    }
-    true
-}
-
 // Row 1 of a controlled call: entries and actions, neither fewer than the fragment limit.
 pub fn good_control(slots: usize, limit: usize, actions: &[u8]) -> bool
-    ensures { λ r. ⌜ r ≡ (goodEntries slots limit && (goodActions (now (actions .entry)) && (leb (length (now (actions .entry))) 2147483647 && leb limit (length (now (actions .entry)))))) ⌝ }
+    ensures { λ r. ⌜ r ≡ (goodEntries slots limit && goodControl (now (actions .entry)) limit) ⌝ }
 {
     if !good_entries(slots, limit) {
         return false;
     }
-    if !good_actions(actions) {
-        return false;
-    }
-    if actions.len() > 2147483647 {
-        return false;
-    }
-    limit <= actions.len()
+    argument::good_control(actions, limit)
 }
 
 // In order: 1, 2, closed, 3.
@@ -76,7 +54,7 @@ pub fn readable(good: bool, v: Reading, n: usize, image: Image) -> ReadVerdict
     if p > v.term * 2147483648 {
         return ReadVerdict::Refuse(Error::PositionOutOfRange);
     }
-    if p % 32 != 0 {
+    if p % FRAME_ALIGNMENT != 0 {
         return ReadVerdict::Refuse(Error::PositionOutOfRange);
     }
     ReadVerdict::Read
@@ -84,17 +62,17 @@ pub fn readable(good: bool, v: Reading, n: usize, image: Image) -> ReadVerdict
 
 // 15, 16: from the current position to the end of its term, on a frame's boundary.
 fn reachable(v: Reading, current: usize, new: usize) -> ReadVerdict
-    requires { ⌜ (0 < v .term) × ((v .term ≤ 1073741824) × (current ≤ v .term * 2147483648)) ⌝ }
+    requires { ⌜ TermLength (v .term) × (current ≤ v .term * 2147483648) ⌝ }
     ensures { λ r. ⌜ r ≡ reachableOf v current new Read ⌝ }
 {
     let term = v.term;
     if new < current {
         return ReadVerdict::Refuse(Error::NewPositionOutOfRange);
     }
-    if new > current - current % term + term {
+    if new > current - limits::offset_of(term, current) + term {
         return ReadVerdict::Refuse(Error::NewPositionOutOfRange);
     }
-    if new % 32 != 0 {
+    if new % FRAME_ALIGNMENT != 0 {
         return ReadVerdict::Refuse(Error::NewPositionNotAligned);
     }
     ReadVerdict::Read

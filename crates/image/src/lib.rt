@@ -1,14 +1,13 @@
 // An image: a reader's place in a log that is lent. A call takes the image by value, and hands the next one back beside its answer.
 ghost use mathlib.Core.Path.{_≡_};
-ghost use Rattle.model.specs.Image.{newImage, movedTo, pollOf, boundedPollOf, controlledPollOf, setPositionOf, endOfStreamOf, closeImageOf, peekOf, peekSlots, blockPollOf};
-ghost use Rattle.image.specs.Images.{stateOf, imageOf, pollReplyOf, blockReplyOf, imageReplyOf};
+ghost use Rattle.model.specs.Image.{newImage, pollOf, boundedPollOf, controlledPollOf, setPositionOf, endOfStreamOf, closeImageOf, peekOf, peekSlots, blockPollOf};
+ghost use Rattle.image.specs.Images.{stateOf, imageOf, pollReplyOf, peekReplyOf, blockReplyOf, imageReplyOf};
 use logbuffer::argument;
 use logbuffer::cast;
 use logbuffer::log_buffer_descriptor;
 use model::BlockPolled;
 use model::EndOfStream;
 use model::Error;
-use model::FramesRead;
 use model::LogRecord;
 use model::Outcome;
 use model::Peeked;
@@ -19,6 +18,7 @@ mod block;
 mod frames;
 mod ladder;
 mod limits;
+mod peek;
 
 // A position in the stream, the session, whether it is closed, and the end-of-stream flag kept at closing.
 #[repr(C)]
@@ -32,6 +32,11 @@ pub struct Image {
 pub struct PollReply {
     pub next: Image,
     pub answer: Polled,
+}
+
+pub struct PeekReply {
+    pub next: Image,
+    pub answer: Peeked,
 }
 
 pub struct BlockReply {
@@ -56,17 +61,9 @@ impl Image {
         }
     }
 
-    // The same image at another position.
-    pub(crate) fn moved_to(mut self, position: i64) -> Image
-        ensures { λ r. ⌜ r ≡ imageOf (movedTo (stateOf self) position) ⌝ }
-    {
-        self.position = position;
-        self
-    }
-
     // Reads frames to the end of the term, at most `fragment_limit` fragments, and moves past what it read.
     pub fn poll(
-        self,
+        mut self,
         rec: LogRecord,
         log: &[u8],
         entries: &mut [i32],
@@ -77,13 +74,28 @@ impl Image {
     {
         let v = log_buffer_descriptor::read_active(rec);
         let limit = argument::natural(fragment_limit);
-        let term = v.term;
         let good = ladder::good_entries(entries.len(), limit);
-        frames::poll_frames(self, v, log, entries, good, term, limit, &log[0..0])
+        let to = frames::poll_frames(
+            self,
+            v,
+            log,
+            entries,
+            good,
+            limits::NO_LIMIT,
+            limit,
+            &log[0..0],
+        );
+        let position = to.position;
+        let answer = to.answer;
+        self.position = position;
+        PollReply {
+            next: self,
+            answer: answer,
+        }
     }
     // The same, and nothing at or past a limit position.
     pub fn bounded_poll(
-        self,
+        mut self,
         rec: LogRecord,
         log: &[u8],
         entries: &mut [i32],
@@ -96,14 +108,20 @@ impl Image {
         let v = log_buffer_descriptor::read_active(rec);
         let limit = argument::natural(fragment_limit);
         let bound = limits::natural_position(limit_position);
-        let end = limits::end_offset(v.term, cast::long(self.position), bound);
         let good = ladder::good_entries(entries.len(), limit);
-        frames::poll_frames(self, v, log, entries, good, end, limit, &log[0..0])
+        let to = frames::poll_frames(self, v, log, entries, good, bound, limit, &log[0..0]);
+        let position = to.position;
+        let answer = to.answer;
+        self.position = position;
+        PollReply {
+            next: self,
+            answer: answer,
+        }
     }
 
     // A poll whose handler's answers are given: 1 abort, 2 break, 3 commit, 4 continue.
     pub fn controlled_poll(
-        self,
+        mut self,
         rec: LogRecord,
         log: &[u8],
         entries: &mut [i32],
@@ -115,52 +133,49 @@ impl Image {
     {
         let v = log_buffer_descriptor::read_active(rec);
         let limit = argument::natural(fragment_limit);
-        let term = v.term;
         let good = ladder::good_control(entries.len(), limit, actions);
-        frames::poll_frames(self, v, log, entries, good, term, limit, actions)
+        let to = frames::poll_frames(
+            self,
+            v,
+            log,
+            entries,
+            good,
+            limits::NO_LIMIT,
+            limit,
+            actions,
+        );
+        let position = to.position;
+        let answer = to.answer;
+        self.position = position;
+        PollReply {
+            next: self,
+            answer: answer,
+        }
     }
 
     // Reads from another position as a controlled poll does, one fragment for each action, and leaves the image where it is. It answers the
     // position after the last whole message or padding.
     pub fn controlled_peek(
-        self,
+        mut self,
         rec: LogRecord,
         log: &[u8],
         entries: &mut [i32],
         actions: &[u8],
         start: i64,
         limit_position: i64,
-    ) -> Peeked
-        ensures { λ r. ⌜ r ≡ peekOf rec (now (log .entry)) (stateOf self) (now (entries .entry)) (now (actions .entry)) start «limit_position» ⌝ }
+    ) -> PeekReply
+        ensures { λ r. ⌜ r ≡ peekReplyOf (stateOf self) (peekOf rec (now (log .entry)) (stateOf self) (now (entries .entry)) (now (actions .entry)) start «limit_position») ⌝ }
         ensures { λ _. ⌜ now (entries .exit) ≡ peekSlots rec (now (log .entry)) (stateOf self) (now (entries .entry)) (now (actions .entry)) start «limit_position» ⌝ }
     {
-        let v = log_buffer_descriptor::read_active(rec);
-        let p = cast::long(start);
-        let n = actions.len();
-        let good = ladder::good_control(entries.len(), n, actions);
-        match ladder::reach(good, v, log.len(), self, p) {
-            ReadVerdict::Refuse(e) => Peeked::Refused(e),
-            ReadVerdict::Closed => Peeked::Position(start, 0),
-            ReadVerdict::Read => {
-                let end = limits::end_offset(v.term, p, limits::natural_position(limit_position));
-                let FramesRead::Walked(walked) = frames::frames_at(
-                    v,
-                    log,
-                    entries,
-                    p,
-                    end,
-                    n,
-                    actions,
-                ) else {
-                    return Peeked::Refused(Error::UnsoundFrame);
-                };
-                Peeked::Position((p + walked.settled) as i64, walked.entries)
-            }
+        let answer = peek::peek_frames(self, rec, log, entries, actions, start, limit_position);
+        PeekReply {
+            next: self,
+            answer: answer,
         }
     }
 
     // Moves past whole frames of at most `limit` bytes, and answers where they lie; a padding frame only by itself.
-    pub fn block_poll(self, rec: LogRecord, log: &[u8], limit: i32) -> BlockReply
+    pub fn block_poll(mut self, rec: LogRecord, log: &[u8], limit: i32) -> BlockReply
         ensures { λ r. ⌜ r ≡ blockReplyOf (blockPollOf rec (now (log .entry)) (stateOf self) limit) ⌝ }
     {
         let v = log_buffer_descriptor::read_active(rec);
@@ -174,12 +189,21 @@ impl Image {
                 next: self,
                 answer: BlockPolled::Block(0, 0, 0, 0),
             },
-            ReadVerdict::Read => block::block_at(self, rec, v, log, most),
+            ReadVerdict::Read => {
+                let to = block::block_at(self, rec, v, log, most);
+                let position = to.position;
+                let answer = to.answer;
+                self.position = position;
+                BlockReply {
+                    next: self,
+                    answer: answer,
+                }
+            }
         }
     }
 
     // Moves to a frame's boundary between the position and the end of its term.
-    pub fn set_position(self, rec: LogRecord, log: &[u8], new_position: i64) -> ImageReply
+    pub fn set_position(mut self, rec: LogRecord, log: &[u8], new_position: i64) -> ImageReply
         ensures { λ r. ⌜ r ≡ imageReplyOf (setPositionOf rec (now (log .entry)) (stateOf self) «new_position») ⌝ }
     {
         let v = log_buffer_descriptor::read_active(rec);
@@ -192,10 +216,13 @@ impl Image {
                 next: self,
                 answer: Outcome::Done,
             },
-            ReadVerdict::Read => ImageReply {
-                next: self.moved_to(new_position),
-                answer: Outcome::Done,
-            },
+            ReadVerdict::Read => {
+                self.position = new_position;
+                ImageReply {
+                    next: self,
+                    answer: Outcome::Done,
+                }
+            }
         }
     }
 

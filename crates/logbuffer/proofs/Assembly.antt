@@ -1,7 +1,8 @@
 -- The rows of the assembler's entry point, and what a frame that passes them is.
-use mathlib.Core.Path.{_≡_, sym, ap, ap₂, _∙_}
+use mathlib.Core.Path.{_≡_, refl, sym, ap, ap₂, _∙_}
 use mathlib.Core.Bool.{Bool, true, false, _&&_, _||_}
-use mathlib.Core.List.{List}
+use mathlib.Core.Logic.{⊎-elim}
+use mathlib.Core.List.{List, [], _∷_}
 use Prim.Native.Nat.{ℕ, _+_, _-_, _*_, _/_, _%_, _≤_, _<_}
 use native.Mathlib.Nat.{mul-le-mul-right}
 use native.Mathlib.Omega.{arith}
@@ -16,12 +17,17 @@ use Rattle.model.specs.declared.Place.{Place}
 use Rattle.model.specs.declared.Error.{Error}
 use Rattle.model.specs.declared.Verdict.{Verdict}
 use Rattle.model.specs.declared.Verdict.the-variants.{Pass, Refuse}
+use Rattle.model.specs.declared.FrameLength.{FrameLength}
+use Rattle.model.specs.declared.FrameLength.the-variants.{Free, Writing, Finished}
 use Rattle.model.specs.declared.Joining.{Joining}
 use Rattle.model.specs.declared.Joining.the-variants.{Through, Ignore, Full, TooLong, Join, Complete}
 use Rattle.model.specs.Bytes.{u32, i32}
-use Rattle.model.specs.FrameDescriptor.{align, unsoundLength, flagsAt, begins, ends}
+use Rattle.model.specs.FrameDescriptor.{align, frameLength, isFinished, unsoundLength, flagsAt, begins, ends}
 use Rattle.model.specs.LogBufferDescriptor.{sound, goodPartition, goodOffset, placeOf as placeRead, firstRows, row17}
 use Rattle.model.specs.FragmentAssembler.{Sessions, Assembly, entered, placeOf, joining, sessionsBy, bufferBy, assembledBy, joinedAt, goodFrame, goodAssembly, assembleVerdict, assembleBy, assembleOf}
+use types.Run.{OneOf}
+use denote.Enum.Declared.{tagOf}
+use Rattle.model.proofs.FrameLength.{the-type}
 use Rattle.model.proofs.Choice.{cond-true, cond-case}
 use Rattle.model.proofs.ReaderLaws.{and-not, and-then}
 use Rattle.model.proofs.Both.{and-true, or-false, test}
@@ -40,10 +46,22 @@ no-pass h = let x : _≡_ {A = ℕ} 0 1 = cc in omega arith
 -- ---- row 1
 
 pub frame-short : (log : List ℕ) (at : ℕ) → length log < at + 4 → false ≡ goodFrame log at
-frame-short log at h = ap (λ (b : Bool). b && (ltb 0 (u32 (drop at log)) && ltb (u32 (drop at log)) 2147483648)) (sym (lt-leb (at + 4) (length log) h))
+frame-short log at h = ap (λ (b : Bool). b && isFinished (frameLength (u32 (drop at log)))) (sym (lt-leb (at + 4) (length log) h))
 
-pub frame-long : (log : List ℕ) (at : ℕ) → at + 4 ≤ length log → (ltb 0 (u32 (drop at log)) && ltb (u32 (drop at log)) 2147483648) ≡ goodFrame log at
-frame-long log at h = ap (λ (b : Bool). b && (ltb 0 (u32 (drop at log)) && ltb (u32 (drop at log)) 2147483648)) (sym (le-leb (at + 4) (length log) h))
+module _ (log : List ℕ) (at : ℕ) (x : FrameLength) (e : x ≡ frameLength (u32 (drop at log))) (h : at + 4 ≤ length log) where
+  judged : isFinished x ≡ goodFrame log at
+  judged = ap isFinished e ∙ ap (λ (b : Bool). b && isFinished (frameLength (u32 (drop at log)))) (sym (le-leb (at + 4) (length log) h))
+
+  pub frame-finished : (n : ℕ) → x ≡ Finished n → true ≡ goodFrame log at
+  frame-finished n q = sym (ap isFinished q) ∙ judged
+
+  pub frame-unfinished : OneOf (0 ∷ 1 ∷ []) (tagOf the-type x) → false ≡ goodFrame log at
+  frame-unfinished o = sym (other x o) ∙ judged
+    where
+      other : (y : FrameLength) → OneOf (0 ∷ 1 ∷ []) (tagOf the-type y) → isFinished y ≡ false
+      other Free k = refl
+      other Writing k = refl
+      other (Finished n) k = absurd (⊎-elim (λ i. omega arith) (λ i. omega arith) k)
 
 module _ (v : Reading) (log : List ℕ) (lent k at : ℕ) where
   pub assembly-lent : 2147483647 < lent → false ≡ goodAssembly v log lent k at

@@ -8,6 +8,7 @@ use native.Mathlib.Omega.{arith}
 use borrow.Author.Tests.{eq-eqb, ne-eqb}
 use lib.Dec.{eqb, leb}
 use lib.ListN.{drop}
+use lib.Seq.{drop-drop}
 use Rattle.model.specs.declared.Claim.{Claim}
 use Rattle.model.specs.declared.Reading.{Reading}
 use Rattle.model.specs.Bytes.{word, u32}
@@ -31,11 +32,12 @@ start-small k t o hk ht ho =
     let m : k * t ≤ 4294967295 * 4294967295 = mul-le-mul a b in
     (omega arith, omega arith)
 
-module _ (log : List ℕ) (at : ℕ) (c : Claim) (w l : ℕ) (ew : w ≡ u32 (drop at log)) (el : l ≡ word (c .length)) where
-  pub differs : (w ≡ negated l → ⊥) → false ≡ matches log at c
+-- the length word that was read, beside the claim's length negated
+module _ (log : List ℕ) (at : ℕ) (c : Claim) (w l : ℕ) (ew : w ≡ u32 (drop at log)) (el : l ≡ negated (word (c .length))) where
+  pub differs : (w ≡ l → ⊥) → false ≡ matches log at c
   unfolding matches
-  differs h = simp (ne-eqb _ _ (λ (e : u32 (drop at log) ≡ negated (word (c .length))). h (ew ∙ e ∙ ap negated (sym el))))
+  differs h = simp (ne-eqb _ _ (λ (e : u32 (drop at log) ≡ negated (word (c .length))). h (ew ∙ e ∙ sym el)))
 
-  pub agrees : w ≡ negated l → (u i : ℕ) → u ≡ u32 (drop (at + 20) log) → i ≡ word (c .«term_id») → eqb u i ≡ matches log at c
+  pub agrees : w ≡ l → (u i : ℕ) → u ≡ u32 (drop (at + 20) log) → i ≡ word (c .«term_id») → eqb u i ≡ matches log at c
   unfolding matches
-  agrees h u i eu ei = simp (eq-eqb _ _ (sym ew ∙ h ∙ ap negated el)) (ap₂ eqb eu ei)
+  agrees h u i eu ei = simp (eq-eqb _ _ (sym ew ∙ h ∙ el)) (ap₂ eqb (eu ∙ ap u32 (sym (drop-drop 20 at log))) ei)

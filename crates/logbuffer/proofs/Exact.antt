@@ -1,16 +1,15 @@
 -- Exact sums, differences and products of signed numbers, by how far each lies from 0: what is near enough to 0 fits 64 bits.
-use mathlib.Core.Path.{_≡_, refl, ap, _∙_}
+use mathlib.Core.Path.{_≡_, refl}
 use mathlib.Core.Bool.{Bool, true, false, cond}
-use Prim.Native.Nat.{ℕ, zero, suc, _+_, _-_, _*_, _%_, _^_, _<_, _≤_}
-use native.Mathlib.Nat.{one-mul, mod-eq-of-lt, mul-le-mul}
+use Prim.Native.Nat.{ℕ, zero, suc, _+_, _-_, _*_, _^_, _<_, _≤_}
+use native.Mathlib.Nat.{mul-le-mul}
 use native.Mathlib.Omega.{arith}
 use borrow.Author.Tests.{ltb-true}
 use lib.Dec.{ltb}
 use lib.Pow.{pow-mono}
 use lib.IntN.{ℤ, pos, negsuc, natAbs, negℤ, _+ℤ_, _-ℤ_, _*ℤ_, subℕ}
 use mir.Syntax.{w32, w64}
-use mir.Val.{SFits, toZ}
-use mir.Facts.{toZ-pos}
+use mir.Val.{SFits}
 
 near-sub : (a b : ℕ) → natAbs (subℕ a b) ≤ a + b
 near-sub a b = go (ltb a b) refl
@@ -34,7 +33,7 @@ pub near-times : (a : ℤ) (m : ℕ) → natAbs (a *ℤ pos m) ≡ natAbs a * m
 near-times (pos n) m = refl
 near-times (negsuc n) m = near-neg (pos (suc n * m))
 
-near-32 : (a : ℤ) → SFits w32 a → natAbs a ≤ 2147483648
+pub near-32 : (a : ℤ) → SFits w32 a → natAbs a ≤ 2147483648
 near-32 (pos n) f = omega arith
 near-32 (negsuc n) f = omega arith
 
@@ -52,20 +51,14 @@ module _ (a b : ℤ) (fa : SFits w32 a) (fb : SFits w32 b) where
   difference-fits = near-fits (a -ℤ b) (omega (arith, near-difference))
 
   module _ (bits : ℕ) (h : bits ≤ 30) where
-    near-product : natAbs ((a -ℤ b) *ℤ pos (2 ^ bits)) ≤ 4611686018427387904
-    near-product =
+    pub product-near : natAbs (a -ℤ b) * 2 ^ bits ≤ 4611686018427387904
+    product-near =
         let m : natAbs (a -ℤ b) * 2 ^ bits ≤ 4294967296 * 2 ^ 30 = mul-le-mul near-difference (pow-mono h) in
-        omega (arith, near-times (a -ℤ b) (2 ^ bits))
+        omega arith
 
-    pub product-fits : SFits w64 ((a -ℤ b) *ℤ pos (2 ^ bits))
-    product-fits = near-fits ((a -ℤ b) *ℤ pos (2 ^ bits)) (omega (arith, near-product))
+    near-product : natAbs ((a -ℤ b) *ℤ pos (2 ^ bits)) ≤ 4611686018427387904
+    near-product = omega (arith, near-times (a -ℤ b) (2 ^ bits), product-near)
 
     pub position-fits : (offset : ℕ) → offset < 4294967296 → SFits w64 ((a -ℤ b) *ℤ pos (2 ^ bits) +ℤ pos offset)
     position-fits offset k =
         near-fits ((a -ℤ b) *ℤ pos (2 ^ bits) +ℤ pos offset) (omega (arith, near-product, near-sum ((a -ℤ b) *ℤ pos (2 ^ bits)) (pos offset)))
-
--- 1 shifted by the bits
-pub shifted-one : (bits : ℕ) → bits ≤ 30 → toZ w64 (1 * 2 ^ bits % 18446744073709551616) ≡ pos (2 ^ bits)
-shifted-one bits h =
-    let l : 2 ^ bits ≤ 2 ^ 30 = pow-mono h in
-    ap (toZ w64) (ap (λ (x : ℕ). x % 18446744073709551616) (one-mul (2 ^ bits)) ∙ mod-eq-of-lt (omega arith)) ∙ toZ-pos w64 (omega arith)

@@ -1,6 +1,6 @@
 -- The words of a header, laid one behind the other; and header, reserved value and body as one frame.
-use mathlib.Core.Path.{_≡_, refl, ap, ap₂, _∙_}
-use mathlib.Core.List.{List, [], _∷_, _++_, append-assoc}
+use mathlib.Core.Path.{_≡_, refl, sym, ap, ap₂, _∙_}
+use mathlib.Core.List.{List, [], _∷_, _++_, append-assoc, append-nil}
 use Prim.Native.Nat.{ℕ, _+_, _*_, _/_, _%_, _≤_, _<_}
 use native.Mathlib.Omega.{arith}
 use lib.Arith.{digits-mod}
@@ -12,8 +12,8 @@ use Rattle.model.specs.Bytes.{splice, le2, le4, le8}
 use Rattle.model.specs.DataFrameHeader.{header24}
 use Rattle.model.specs.LogBufferDescriptor.{biased}
 use Rattle.model.specs.TermAppender.{headerOf, header, fragment, fragmentBytes}
-use Rattle.model.proofs.Splice.{splice-more}
-use Rattle.model.proofs.Fields.{length-header}
+use Rattle.model.proofs.Splice.{splice-more, splice-over}
+use Rattle.model.proofs.Fields.{length-header, fragment-parts}
 
 -- version 0, flags and type as one number of four bytes
 flags-word : (fl ty : ℕ) → fl < 256 → ty < 65536 → le4 (fl * 256 + ty * 65536) ≡ 0 ∷ fl ∷ le2 ty
@@ -57,26 +57,41 @@ header-by l l1 l2 l3 l4 l5 l6 at v o len fl ty h hf ht e1 e2 e3 e4 e5 e6 = cc (h
 
 length-24 : (v : Reading) (o len fl ty : ℕ) → length (header v o len fl ty) ≡ 24
 unfolding header
-length-24 v o len fl ty = length-header (headerOf v o len fl ty)
+length-24 v o len fl ty = length-header (headerOf v o len fl ty 0)
 
 length-le8 : (n : ℕ) → length (le8 n) ≡ 8
 unfolding le8 le4
 length-le8 n = refl
 
-fragment-law : (l : List ℕ) (at : ℕ) (v : Reading) (o fl re : ℕ) (body : List ℕ) → at + (length body + 32) ≤ length l
-    → splice (splice (splice l at (header v o (length body + 32) fl 1)) (at + 24) (le8 re)) (at + 32) body ≡ splice l at (fragmentBytes v o (fragment fl re body))
-unfolding fragmentBytes
-fragment-law l at v o fl re body h =
-    let low : at ≤ length l = omega arith in
-    let hd = header v o (length body + 32) fl 1 in
-    let lh : length hd ≡ 24 = length-24 v o (length body + 32) fl 1 in
+-- the length of a header stored anew, whatever lies behind it
+relength : (l : List ℕ) (at : ℕ) (v : Reading) (o len new fl ty : ℕ) (w : List ℕ) → at ≤ length l
+    → splice (splice l at (header v o len fl ty ++ w)) at (le4 new) ≡ splice l at (header v o new fl ty ++ w)
+unfolding header header24 le4
+relength l at v o len new fl ty w h =
+    splice-over l at (le4 len) ((0 ∷ fl ∷ (le2 ty ++ (le4 o ++ (le4 (v .session) ++ (le4 (v .stream) ++ le4 (biased (v .id))))))) ++ w) (le4 new) refl h
+
+-- a header whose length comes last
+pub finished-by : (l l1 l2 : List ℕ) (at : ℕ) (v : Reading) (o len new fl ty : ℕ) → at ≤ length l → l1 ≡ splice l at (header v o len fl ty) → l2 ≡ splice l1 at (le4 new)
+    → l2 ≡ splice l at (header v o new fl ty)
+finished-by l l1 l2 at v o len new fl ty h e1 e2 =
+    e2 ∙ ap (λ (x : List ℕ). splice x at (le4 new)) (e1 ∙ ap (splice l at) (sym (append-nil (header v o len fl ty)))) ∙ relength l at v o len new fl ty [] h
+    ∙ ap (splice l at) (append-nil (header v o new fl ty))
+
+fragment-law : (l : List ℕ) (at : ℕ) (v : Reading) (o len fl re : ℕ) (body : List ℕ) → at ≤ length l
+    → splice (splice (splice l at (header v o len fl 1)) (at + 24) (le8 re)) (at + 32) body ≡ splice l at (header v o len fl 1 ++ (le8 re ++ body))
+fragment-law l at v o len fl re body low =
+    let hd = header v o len fl 1 in
+    let lh : length hd ≡ 24 = length-24 v o len fl 1 in
     ap (λ (x : List ℕ). splice x (at + 32) body) (splice-more l at hd (le8 re) (at + 24) (omega arith) low)
     ∙ splice-more l at (hd ++ le8 re) body (at + 32) (omega (arith, length-append hd (le8 re), length-le8 re)) low
     ∙ ap (splice l at) (append-assoc hd (le8 re) body)
 
--- the body is copied from the beginning of its slice, all of it
-pub fragment-by : (l l1 l2 l3 : List ℕ) (at : ℕ) (v : Reading) (o fl re : ℕ) (body : List ℕ) → at + (length body + 32) ≤ length l
-    → l1 ≡ splice l at (header v o (length body + 32) fl 1) → l2 ≡ splice l1 (at + 24) (le8 re) → l3 ≡ splice l2 (at + 32) (take (length body) (drop 0 body))
-    → l3 ≡ splice l at (fragmentBytes v o (fragment fl re body))
-fragment-by l l1 l2 l3 at v o fl re body h e1 e2 e3 =
-    e3 ∙ ap (splice l2 (at + 32)) (take-length body) ∙ ap (λ (x : List ℕ). splice x (at + 32) body) (e2 ∙ ap (λ (x : List ℕ). splice x (at + 24) (le8 re)) e1) ∙ fragment-law l at v o fl re body h
+-- the body is copied from the beginning of its slice, all of it; the length comes last
+pub fragment-by : (l l1 l2 l3 l4 : List ℕ) (at : ℕ) (v : Reading) (o len fl re : ℕ) (body : List ℕ) → at ≤ length l
+    → l1 ≡ splice l at (header v o len fl 1) → l2 ≡ splice l1 (at + 24) (le8 re) → l3 ≡ splice l2 (at + 32) (take (length body) (drop 0 body)) → l4 ≡ splice l3 at (le4 (length body + 32))
+    → l4 ≡ splice l at (fragmentBytes v o (fragment fl re body))
+fragment-by l l1 l2 l3 l4 at v o len fl re body h e1 e2 e3 e4 =
+    let laid : l3 ≡ splice l at (header v o len fl 1 ++ (le8 re ++ body)) =
+    e3 ∙ ap (splice l2 (at + 32)) (take-length body) ∙ ap (λ (x : List ℕ). splice x (at + 32) body) (e2 ∙ ap (λ (x : List ℕ). splice x (at + 24) (le8 re)) e1) ∙ fragment-law l at v o len fl re body h in
+    e4 ∙ ap (λ (x : List ℕ). splice x at (le4 (length body + 32))) laid ∙ relength l at v o len (length body + 32) fl 1 (le8 re ++ body) h
+    ∙ ap (splice l at) (sym (fragment-parts v o fl re body))

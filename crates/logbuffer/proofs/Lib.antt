@@ -3,6 +3,7 @@ pub mod Signed
 pub mod Bytes
 pub mod RawTails
 pub mod Exact
+pub mod Shifts
 pub mod Signs
 pub mod Behind
 pub mod Actions

@@ -1,41 +1,42 @@
 -- The position past a frame, exactly: its aligned length with its sign, and that each step of the sum fits 64 bits.
-use mathlib.Core.Path.{_≡_, refl, ap, ap₂, _∙_}
+use mathlib.Core.Path.{_≡_, refl, sym, ap, ap₂, _∙_}
 use mathlib.Core.Bool.{Bool, true, false, cond}
-use Prim.Native.Nat.{ℕ, zero, suc, _+_, _-_, _*_, _/_, _<_, _≤_}
+use Prim.Native.Nat.{ℕ, zero, suc, _+_, _-_, _*_, _/_, _%_, _^_, _<_, _≤_}
 use native.Mathlib.Omega.{arith}
 use native.Mathlib.Nat.{mul-le-mul}
-use borrow.Author.Tests.{ltb-true, lt-ltb}
+use borrow.Author.Tests.{ltb-true, ltb-false}
 use lib.Dec.{ltb}
+use lib.Pow.{pow-pos, pow-mono}
 use lib.IntN.{ℤ, pos, negsuc, natAbs, negℤ, _+ℤ_, _-ℤ_, _*ℤ_}
-use lib.Signed.{ltZ}
+use lib.Signed.{shrZ}
 use mir.Syntax.{w32, w64}
 use mir.Val.{SFits, toZ, ofZ}
-use mir.Facts.{toZ-pos}
+use mir.Facts.{toZ-pos, toZ-ofZ, sfits-widen}
 use Rattle.model.specs.TermReader.{alignℤ}
 use Rattle.model.specs.LogBufferDescriptor.{positionOf}
 use Rattle.logbuffer.proofs.Signed.{lands, asks}
-use Rattle.logbuffer.proofs.Signs.{negative, not-negative}
-use Rattle.logbuffer.proofs.Exact.{near-sum, near-neg, near-times, near-fits}
+use Rattle.logbuffer.proofs.Exact.{near-sum, near-neg, near-times, near-32, near-fits}
+use Rattle.logbuffer.proofs.Shifts.{left-by}
 
 -- bits below 2^63 are the number
-pub plain : (n : ℕ) → n < 9223372036854775808 → toZ w64 n ≡ pos n
+plain : (n : ℕ) → n < 9223372036854775808 → toZ w64 n ≡ pos n
 plain n h = toZ-pos w64 h
 
 -- ---- the aligned length
 
-zero-sub : (m : ℕ) → pos 0 -ℤ pos m ≡ negℤ (pos m)
-zero-sub zero = refl
-zero-sub (suc m) = let e : suc m - suc 0 ≡ m = omega arith in rw (lt-ltb 0 (suc m) (omega arith)) (ap negsuc e)
-
-pub aligned-below : (z : ℤ) → SFits w32 z → ltZ (toZ w32 (ofZ w32 z)) (pos 0) ≡ true → pos 0 -ℤ pos ((4294967296 - ofZ w32 z) / 32 * 32) ≡ alignℤ z
-aligned-below (pos n) f h = absurd (let k : 2147483648 ≤ ofZ w32 (pos n) = negative (pos n) f h in omega arith)
-aligned-below (negsuc n) f h =
-    let e : (4294967296 - ofZ w32 (negsuc n)) / 32 * 32 ≡ (n + 1) / 32 * 32 = omega arith in
-    zero-sub ((4294967296 - ofZ w32 (negsuc n)) / 32 * 32) ∙ ap (λ (m : ℕ). negℤ (pos m)) e
-
-pub aligned-above : (z : ℤ) → SFits w32 z → ltZ (toZ w32 (ofZ w32 z)) (pos 0) ≡ false → pos ((ofZ w32 z + 31) / 32 * 32) ≡ alignℤ z
-aligned-above (pos n) f h = ap pos (omega arith)
-aligned-above (negsuc n) f h = absurd (let k : ofZ w32 (negsuc n) < 2147483648 = not-negative (negsuc n) f h in omega arith)
+-- 31 more, cut to a multiple of 32 by a shift that keeps the sign
+shifted : (z : ℤ) → shrZ (z +ℤ pos 31) 32 *ℤ pos 32 ≡ alignℤ z
+shifted (pos n) = refl
+shifted (negsuc n) = go (ltb 31 (suc n)) refl
+  where
+    go : (t : Bool) → ltb 31 (suc n) ≡ t → shrZ (cond t (negsuc (suc n - 32)) (pos (31 - suc n))) 32 *ℤ pos 32 ≡ negℤ (pos ((n + 1) / 32 * 32))
+    go true e =
+        let k : suc ((suc n - 32) / 32) * 32 ≡ (n + 1) / 32 * 32 = omega (arith, ltb-true 31 (suc n) e) in
+        ap (λ (m : ℕ). negℤ (pos m)) k
+    go false e =
+        let k : (31 - suc n) / 32 * 32 ≡ 0 = omega arith in
+        let l : (n + 1) / 32 * 32 ≡ 0 = omega (arith, ltb-false 31 (suc n) e) in
+        ap pos k ∙ sym (ap (λ (m : ℕ). negℤ (pos m)) l)
 
 pub near-aligned : (z : ℤ) → SFits w32 z → natAbs (alignℤ z) ≤ 2147483680
 near-aligned (pos n) f = omega arith
@@ -43,6 +44,33 @@ near-aligned (negsuc n) f = omega (arith, near-neg (pos ((n + 1) / 32 * 32)))
 
 pub aligned-fits : (z : ℤ) → SFits w32 z → SFits w64 (alignℤ z)
 aligned-fits z f = near-fits (alignℤ z) (omega (arith, near-aligned z f))
+
+shift-fits : (y : ℤ) → SFits w64 y → SFits w64 (shrZ y 32)
+shift-fits (pos n) f = record { sfits = omega arith }
+shift-fits (negsuc n) f = record { sfits = omega arith }
+
+-- step by step, as the code goes
+module _ (z : ℤ) (f : SFits w32 z) where
+  wide-is : toZ w64 (ofZ w64 (toZ w32 (ofZ w32 z))) ≡ z
+  wide-is = lands (toZ-ofZ f) (sfits-widen tt f)
+
+  sum-is : toZ w64 (ofZ w64 (toZ w32 (ofZ w32 z))) +ℤ pos 31 ≡ z +ℤ pos 31
+  sum-is = ap (λ (x : ℤ). x +ℤ pos 31) wide-is
+
+  sum-fits : SFits w64 (z +ℤ pos 31)
+  sum-fits = near-fits (z +ℤ pos 31) (omega (arith, near-sum z (pos 31), near-32 z f))
+
+  pub sum-asks : SFits w64 (toZ w64 (ofZ w64 (toZ w32 (ofZ w32 z))) +ℤ pos 31)
+  sum-asks = asks sum-is sum-fits
+
+  aligned-is : toZ w64 (ofZ w64 (shrZ (toZ w64 (ofZ w64 (toZ w64 (ofZ w64 (toZ w32 (ofZ w32 z))) +ℤ pos 31))) 32)) *ℤ pos 32 ≡ alignℤ z
+  aligned-is = ap (λ (x : ℤ). x *ℤ pos 32) (lands (ap (λ (x : ℤ). shrZ x 32) (lands sum-is sum-fits)) (shift-fits (z +ℤ pos 31) sum-fits)) ∙ shifted z
+
+  pub aligned-asks : SFits w64 (toZ w64 (ofZ w64 (shrZ (toZ w64 (ofZ w64 (toZ w64 (ofZ w64 (toZ w32 (ofZ w32 z))) +ℤ pos 31))) 32)) *ℤ pos 32)
+  aligned-asks = asks aligned-is (aligned-fits z f)
+
+  pub aligned-lands : toZ w64 (ofZ w64 (toZ w64 (ofZ w64 (shrZ (toZ w64 (ofZ w64 (toZ w64 (ofZ w64 (toZ w32 (ofZ w32 z))) +ℤ pos 31))) 32)) *ℤ pos 32)) ≡ alignℤ z
+  aligned-lands = lands aligned-is (aligned-fits z f)
 
 -- ---- the position, step by step
 
@@ -54,7 +82,7 @@ near-gap a (suc b) h k = go (ltb a (suc b)) refl
     go true e = omega (arith, ltb-true a (suc b) e)
     go false e = omega arith
 
-module _ (id initial term at : ℕ) (z : ℤ) (hi : id < 4294967296) (hj : initial < 4294967296) (ht : term ≤ 1073741824) (ha : at < 4294967296) (fz : SFits w32 z) where
+module _ (id initial bits at : ℕ) (z : ℤ) (hi : id < 4294967296) (hj : initial < 4294967296) (hb : bits ≤ 30) (ha : at < 4294967296) (fz : SFits w32 z) where
   gap-is : toZ w64 id -ℤ toZ w64 initial ≡ pos id -ℤ pos initial
   gap-is = ap₂ (λ (x y : ℤ). x -ℤ y) (plain id (omega arith)) (plain initial (omega arith))
 
@@ -64,33 +92,32 @@ module _ (id initial term at : ℕ) (z : ℤ) (hi : id < 4294967296) (hj : initi
   pub gap-asks : SFits w64 (toZ w64 id -ℤ toZ w64 initial)
   gap-asks = asks gap-is gap-fits
 
-  start-is : toZ w64 (ofZ w64 (toZ w64 id -ℤ toZ w64 initial)) *ℤ toZ w64 term ≡ (pos id -ℤ pos initial) *ℤ pos term
-  start-is = ap₂ (λ (x y : ℤ). x *ℤ y) (lands gap-is gap-fits) (plain term (omega arith))
+  near-times-2 : natAbs (pos id -ℤ pos initial) * 2 ^ bits ≤ 4611686017353646080
+  near-times-2 =
+      let m : natAbs (pos id -ℤ pos initial) * 2 ^ bits ≤ 4294967295 * 2 ^ 30 = mul-le-mul (near-gap id initial hi hj) (pow-mono hb) in
+      omega arith
 
-  near-start : natAbs ((pos id -ℤ pos initial) *ℤ pos term) ≤ 4611686017353646080
-  near-start =
-      let m : natAbs (pos id -ℤ pos initial) * term ≤ 4294967295 * 1073741824 = mul-le-mul (near-gap id initial hi hj) ht in
-      omega (arith, near-times (pos id -ℤ pos initial) term)
+  near-start : natAbs ((pos id -ℤ pos initial) *ℤ pos (2 ^ bits)) ≤ 4611686017353646080
+  near-start = omega (arith, near-times (pos id -ℤ pos initial) (2 ^ bits), near-times-2)
 
-  start-fits : SFits w64 ((pos id -ℤ pos initial) *ℤ pos term)
-  start-fits = near-fits ((pos id -ℤ pos initial) *ℤ pos term) (omega (arith, near-start))
-
-  pub start-asks : SFits w64 (toZ w64 (ofZ w64 (toZ w64 id -ℤ toZ w64 initial)) *ℤ toZ w64 term)
-  start-asks = asks start-is start-fits
+  start-is : toZ w64 (ofZ w64 (toZ w64 id -ℤ toZ w64 initial) * 2 ^ bits % 18446744073709551616) ≡ (pos id -ℤ pos initial) *ℤ pos (2 ^ bits)
+  start-is =
+      ap (λ (x : ℤ). toZ w64 (ofZ w64 x * 2 ^ bits % 18446744073709551616)) gap-is
+      ∙ left-by (pos id -ℤ pos initial) (2 ^ bits) (pow-pos bits) (omega (arith, near-times-2))
 
   abbrev here : ℤ
-  here = positionOf id initial term at
+  here = positionOf id initial (2 ^ bits) at
 
-  here-is : toZ w64 (ofZ w64 (toZ w64 (ofZ w64 (toZ w64 id -ℤ toZ w64 initial)) *ℤ toZ w64 term)) +ℤ toZ w64 at ≡ here
-  here-is = ap₂ (λ (x y : ℤ). x +ℤ y) (lands start-is start-fits) (plain at (omega arith))
+  here-is : toZ w64 (ofZ w64 (toZ w64 id -ℤ toZ w64 initial) * 2 ^ bits % 18446744073709551616) +ℤ toZ w64 at ≡ here
+  here-is = ap₂ (λ (x y : ℤ). x +ℤ y) start-is (plain at (omega arith))
 
   near-here : natAbs here ≤ 4611686021648613376
-  near-here = omega (arith, near-start, near-sum ((pos id -ℤ pos initial) *ℤ pos term) (pos at))
+  near-here = omega (arith, near-start, near-sum ((pos id -ℤ pos initial) *ℤ pos (2 ^ bits)) (pos at))
 
   here-fits : SFits w64 here
   here-fits = near-fits here (omega (arith, near-here))
 
-  pub here-asks : SFits w64 (toZ w64 (ofZ w64 (toZ w64 (ofZ w64 (toZ w64 id -ℤ toZ w64 initial)) *ℤ toZ w64 term)) +ℤ toZ w64 at)
+  pub here-asks : SFits w64 (toZ w64 (ofZ w64 (toZ w64 id -ℤ toZ w64 initial) * 2 ^ bits % 18446744073709551616) +ℤ toZ w64 at)
   here-asks = asks here-is here-fits
 
   past-fits : SFits w64 (here +ℤ alignℤ z)
@@ -98,11 +125,11 @@ module _ (id initial term at : ℕ) (z : ℤ) (hi : id < 4294967296) (hj : initi
 
   -- with a length that the callee answered
   module _ (a : ℤ) (ea : a ≡ alignℤ z) where
-    past-is : toZ w64 (ofZ w64 (toZ w64 (ofZ w64 (toZ w64 (ofZ w64 (toZ w64 id -ℤ toZ w64 initial)) *ℤ toZ w64 term)) +ℤ toZ w64 at)) +ℤ toZ w64 (ofZ w64 a) ≡ here +ℤ alignℤ z
+    past-is : toZ w64 (ofZ w64 (toZ w64 (ofZ w64 (toZ w64 id -ℤ toZ w64 initial) * 2 ^ bits % 18446744073709551616) +ℤ toZ w64 at)) +ℤ toZ w64 (ofZ w64 a) ≡ here +ℤ alignℤ z
     past-is = ap₂ (λ (x y : ℤ). x +ℤ y) (lands here-is here-fits) (lands ea (aligned-fits z fz))
 
-    pub past-asks : SFits w64 (toZ w64 (ofZ w64 (toZ w64 (ofZ w64 (toZ w64 (ofZ w64 (toZ w64 id -ℤ toZ w64 initial)) *ℤ toZ w64 term)) +ℤ toZ w64 at)) +ℤ toZ w64 (ofZ w64 a))
+    pub past-asks : SFits w64 (toZ w64 (ofZ w64 (toZ w64 (ofZ w64 (toZ w64 id -ℤ toZ w64 initial) * 2 ^ bits % 18446744073709551616) +ℤ toZ w64 at)) +ℤ toZ w64 (ofZ w64 a))
     past-asks = asks past-is past-fits
 
-    pub past-lands : toZ w64 (ofZ w64 (toZ w64 (ofZ w64 (toZ w64 (ofZ w64 (toZ w64 (ofZ w64 (toZ w64 id -ℤ toZ w64 initial)) *ℤ toZ w64 term)) +ℤ toZ w64 at)) +ℤ toZ w64 (ofZ w64 a))) ≡ here +ℤ alignℤ z
+    pub past-lands : toZ w64 (ofZ w64 (toZ w64 (ofZ w64 (toZ w64 (ofZ w64 (toZ w64 id -ℤ toZ w64 initial) * 2 ^ bits % 18446744073709551616) +ℤ toZ w64 at)) +ℤ toZ w64 (ofZ w64 a))) ≡ here +ℤ alignℤ z
     past-lands = lands past-is past-fits

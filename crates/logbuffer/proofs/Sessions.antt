@@ -1,5 +1,5 @@
 -- The assembler's bookkeeping: looking for a session's place, and a part of the lent buffer lies in it.
-use mathlib.Core.Path.{_≡_, sym, ap, ap₂, _∙_, subst}
+use mathlib.Core.Path.{_≡_, sym, ap, ap₂, _∙_}
 use mathlib.Core.Bool.{Bool, true, false, cond, _&&_, _||_}
 use Prim.Native.Nat.{ℕ, suc, _+_, _-_, _*_, _/_, _≤_, _<_}
 use native.Mathlib.Nat.{mul-le-mul-right}
@@ -18,6 +18,7 @@ use Rattle.model.specs.declared.Joining.the-variants.{Through, Ignore, Full, To
 use Rattle.model.specs.FragmentAssembler.{Sessions, entered, placeIn, placeOf, holding, joining}
 use Rattle.model.proofs.Choice.{cond-true, cond-false, split}
 use Rattle.model.proofs.Both.{both-true}
+use Rattle.logbuffer.specs.Assembler.{heldAt}
 
 -- part k of 16 lies in the buffer
 pub part-in : (k part n : ℕ) → part ≡ n / 16 → k < 16 → k * part + part ≤ n
@@ -58,14 +59,25 @@ left-none ids n z i h r =
 
 -- ---- a session entered at a place
 
-module _ (s : Sessions) (k : ℕ) (z : ℤ) (n m : ℕ) (e : m ≡ entered s) where
-  pub held-before : k < m → _≡_ {A = Sessions} (record { count = m; ids = set (s .ids) k z; held = set (s .held) k n }) (holding s k z n)
-  unfolding holding
-  held-before l = ap {B = Sessions} (λ (c : ℕ). record { count = c; ids = set (s .ids) k z; held = set (s .held) k n }) (e ∙ sym (cond-true (ltb k (entered s)) (entered s) (suc k) (lt-ltb k (entered s) (subst (λ (x : ℕ). k < x) e l))))
+module _ (m n k : ℕ) (e : m ≡ n) where
+  pub entered-before : k < m → m ≡ cond (ltb k n) n (k + 1)
+  entered-before h = e ∙ sym (cond-true (ltb k n) n (k + 1) (lt-ltb k n (omega arith)))
 
-  pub held-new : m ≤ k → _≡_ {A = Sessions} (record { count = k + 1; ids = set (s .ids) k z; held = set (s .held) k n }) (holding s k z n)
-  unfolding holding
-  held-new l = ap {B = Sessions} (λ (c : ℕ). record { count = c; ids = set (s .ids) k z; held = set (s .held) k n }) (add-one k ∙ sym (cond-false (ltb k (entered s)) (entered s) (suc k) (le-ltb k (entered s) (subst (λ (x : ℕ). x ≤ k) e l))))
+  pub entered-new : m ≤ k → k + 1 ≡ cond (ltb k n) n (k + 1)
+  entered-new h = sym (cond-false (ltb k n) n (k + 1) (le-ltb k n (omega arith)))
+
+pub held-in : (s : Sessions) (k : ℕ) (z : ℤ) (n : ℕ) → k < 16 → heldAt s k z n ≡ holding s k z n
+held-in s k z n h = cond-true (ltb k 16) (holding s k z n) s (lt-ltb k 16 h)
+
+pub held-by : (s : Sessions) (k : ℕ) (z : ℤ) (n m : ℕ) → k < 16 → m ≡ cond (ltb k (entered s)) (entered s) (k + 1)
+    → _≡_ {A = Sessions} (record { count = m; ids = set (s .ids) k z; held = set (s .held) k n }) (heldAt s k z n)
+unfolding holding
+held-by s k z n m h e =
+    ap {B = Sessions} (λ (c : ℕ). record { count = c; ids = set (s .ids) k z; held = set (s .held) k n }) (e ∙ ap (λ (x : ℕ). cond (ltb k (entered s)) (entered s) x) (add-one k))
+    ∙ sym (held-in s k z n h)
+
+pub held-none : (s : Sessions) (k : ℕ) (z : ℤ) (n : ℕ) → 16 ≤ k → s ≡ heldAt s k z n
+held-none s k z n h = sym (cond-false (ltb k 16) (holding s k z n) s (le-ltb k 16 h))
 
 -- ---- what is done with a frame
 

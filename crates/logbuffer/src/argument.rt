@@ -4,8 +4,9 @@ ghost use mathlib.Core.Bool.{_&&_};
 ghost use Prim.Native.Nat.{_<_};
 ghost use Rattle.model.specs.declared.Verdict.the-variants.{Pass};
 ghost use Rattle.model.specs.LogBufferDescriptor.{sound, withinTerm, goodPartition, goodOffset, placeOf, firstRows};
-ghost use Rattle.model.specs.TermReader.{natural as naturalOf};
+ghost use Rattle.model.specs.TermReader.{natural as naturalOf, goodActions, goodControl, goodStart};
 use crate::cast;
+use crate::frame_descriptor::FRAME_ALIGNMENT;
 use crate::log_buffer_descriptor;
 use model::Error;
 use model::LogRecord;
@@ -51,10 +52,53 @@ pub(crate) fn good_place(p: Place) -> bool
     if p.partition > 2 {
         return false;
     }
-    if p.offset % 32 != 0 {
+    if p.offset % FRAME_ALIGNMENT != 0 {
         return false;
     }
     within_term(p.offset + 1, p.read)
+}
+
+// The same for the start of a read, which may also be the term's end.
+pub(crate) fn good_start(p: Place) -> bool
+    ensures { λ r. ⌜ r ≡ (goodPartition (p .partition) && goodStart (p .offset) (p .read)) ⌝ }
+{
+    if p.partition > 2 {
+        return false;
+    }
+    if p.offset % FRAME_ALIGNMENT != 0 {
+        return false;
+    }
+    within_term(p.offset, p.read)
+}
+
+// The handler's answers: each 1 to 4.
+pub fn good_actions(actions: &[u8]) -> bool
+    ensures { λ r. ⌜ r ≡ goodActions (now (actions .entry)) ⌝ }
+{
+    let mut i: usize = 0;
+    while i < actions.len() {
+        if actions[i] < 1 {
+            return false;
+        }
+        if actions[i] > 4 {
+            return false;
+        }
+        i += 1;
+    }
+    true
+}
+
+// And not fewer than the fragment limit.
+pub fn good_control(actions: &[u8], limit: usize) -> bool
+    ensures { λ r. ⌜ r ≡ goodControl (now (actions .entry)) limit ⌝ }
+{
+    if !good_actions(actions) {
+        return false;
+    }
+    if actions.len() > 2147483647 {
+        return false;
+    }
+    limit <= actions.len()
 }
 
 // Rows 1 and 2: whether the arguments are good, and whether the record is sound for a log of n bytes.

@@ -1,14 +1,21 @@
-// A claim's body lent out of the middle of the log, commit and abort.
+// A claim's body lent out of the middle of the log, or written there; commit and abort.
 ghost use mathlib.Core.Path.{_≡_};
 ghost use Prim.Native.Nat.{_+_, _≤_, _<_};
 ghost use denote.Ref.{ptr};
 ghost use lib.ListN.{length};
+ghost use Rattle.model.specs.Bytes.{word};
 ghost use Rattle.model.specs.Parts.{partOf, locatedNumber};
-ghost use Rattle.model.specs.BufferClaim.{claimStart, goodClaim, matches, locateOf, commitOf, commitBytes, abortBytes};
+ghost use Rattle.model.specs.BufferClaim.{claimStart, goodClaim, matches, locateOf, writeOf, writeBytes, commitOf, commitBytes, abortBytes};
 ghost use Rattle.logbuffer.specs.Lent.{startOf};
+use crate::bit_utils;
 use crate::cast;
+use crate::copying;
+use crate::data_frame_header::HEADER_LENGTH;
+use crate::data_frame_header::TERM_ID_FIELD_OFFSET;
 use crate::errors;
 use crate::field;
+use crate::frame_descriptor::ALIGNMENT_MASK;
+use crate::frame_descriptor::FRAME_ALIGNMENT;
 use crate::log_buffer_descriptor;
 use model::Claim;
 use model::Error;
@@ -26,13 +33,13 @@ fn good_claim(v: Reading, claim: Claim) -> bool
     if cast::word(claim.partition) > 2 {
         return false;
     }
-    if offset % 32 != 0 {
+    if offset % FRAME_ALIGNMENT != 0 {
         return false;
     }
-    if length < 32 {
+    if length < HEADER_LENGTH {
         return false;
     }
-    if offset + (length + 31) / 32 * 32 > v.term {
+    if offset + (length + ALIGNMENT_MASK) / FRAME_ALIGNMENT * FRAME_ALIGNMENT > v.term {
         return false;
     }
     v.term <= 2147483647
@@ -48,13 +55,14 @@ fn start(v: Reading, claim: Claim) -> usize
 
 // The header at a place still shows minus the claim's length, and its term id.
 fn shows(log: &[u8], at: usize, claim: Claim) -> bool
-    requires { ⌜ at + 24 ≤ length (now log) ⌝ }
+    requires { ⌜ (at + 24 ≤ length (now log)) × ((0 < word (claim .length)) × (word (claim .length) ≤ 2147483647)) ⌝ }
     ensures { λ r. ⌜ r ≡ matches (now (log .entry)) at claim ⌝ }
 {
-    if field::word4(log, at) != 4294967296 - cast::word(claim.length) {
+    let shown = cast::to_i32(field::word4(log, at));
+    if shown != -claim.length {
         return false;
     }
-    field::word4(log, at + 20) == cast::word(claim.term_id)
+    field::word4(log, at + TERM_ID_FIELD_OFFSET) == cast::word(claim.term_id)
 }
 
 // Where the body lies, by value.
@@ -72,7 +80,7 @@ pub fn locate(rec: LogRecord, log: &[u8], claim: Claim) -> Located
     if !shows(log, at, claim) {
         return Located::Refused(Error::ClaimMismatch);
     }
-    Located::Span(at + 32, at + cast::word(claim.length))
+    Located::Span(at + HEADER_LENGTH, at + cast::word(claim.length))
 }
 
 // The body between header and slack, to be written; the empty part for a refusal.
@@ -96,6 +104,24 @@ pub fn body_number(rec: LogRecord, log: &[u8], claim: Claim) -> i32
     }
 }
 
+// A lending and its writing in one call: the bytes go over the body from its start on, as far as it goes.
+pub fn write(rec: LogRecord, log: &mut [u8], claim: Claim, bytes: &[u8]) -> Outcome
+    ensures { λ r. ⌜ r ≡ writeOf rec (now (log .entry)) claim (now (bytes .entry)) ⌝ }
+    ensures { λ _. ⌜ now (log .exit) ≡ writeBytes rec (now (log .entry)) claim (now (bytes .entry)) ⌝ }
+{
+    let n = bytes.len();
+    if n > 2147483647 {
+        return Outcome::Refused(Error::IllegalArgument);
+    }
+    match locate(rec, log, claim) {
+        Located::Refused(e) => Outcome::Refused(e),
+        Located::Span(from, to) => {
+            copying::copy(log, from, bytes, 0, bit_utils::at_most(to - from, n));
+            Outcome::Done
+        }
+    }
+}
+
 // The length is stored: the frame is finished.
 pub fn commit(rec: LogRecord, log: &mut [u8], claim: Claim) -> Outcome
     ensures { λ r. ⌜ r ≡ commitOf rec (now (log .entry)) claim ⌝ }
@@ -104,7 +130,7 @@ pub fn commit(rec: LogRecord, log: &mut [u8], claim: Claim) -> Outcome
     match locate(rec, log, claim) {
         Located::Refused(e) => Outcome::Refused(e),
         Located::Span(from, _) => {
-            field::put4(log, from - 32, cast::word(claim.length));
+            field::put4(log, from - HEADER_LENGTH, cast::word(claim.length));
             Outcome::Done
         }
     }
@@ -119,7 +145,7 @@ pub fn abort(rec: LogRecord, log: &mut [u8], claim: Claim) -> Outcome
         Located::Refused(e) => Outcome::Refused(e),
         Located::Span(from, _) => {
             field::put2(log, from - 26, 0);
-            field::put4(log, from - 32, cast::word(claim.length));
+            field::put4(log, from - HEADER_LENGTH, cast::word(claim.length));
             Outcome::Done
         }
     }

@@ -8,14 +8,23 @@ ghost use lib.ListN.{length, drop, getD};
 ghost use Rattle.model.specs.declared.Joining.the-variants.{Through, Ignore, Full, TooLong, Join, Complete};
 ghost use Rattle.model.specs.Bytes.{word, u32 as wordAt};
 ghost use Rattle.model.specs.FrameDescriptor.{unsoundLength};
-ghost use Rattle.model.specs.FragmentAssembler.{fresh, entered as enteredOf, placeOf, holding as holdingOf, joining as joiningOf, goodFrame, goodAssembly, assembleVerdict, assembleOf, joinedAt};
-ghost use Rattle.logbuffer.specs.Assembler.{sessionsOf};
+ghost use Rattle.model.specs.FragmentAssembler.{fresh, entered as enteredOf, placeOf, joining as joiningOf, goodFrame, goodAssembly, assembleVerdict, assembleOf, joinedAt};
+ghost use Rattle.logbuffer.specs.Assembler.{sessionsOf, heldAt, leaving};
 use crate::argument;
 use crate::buffer_builder;
 use crate::cast;
+use crate::data_frame_header::FLAGS_FIELD_OFFSET;
+use crate::data_frame_header::HEADER_LENGTH;
+use crate::data_frame_header::SESSION_ID_FIELD_OFFSET;
 use crate::field;
+use crate::frame_descriptor;
+use crate::frame_descriptor::ALIGNMENT_MASK;
+use crate::frame_descriptor::BEGIN_FRAG;
+use crate::frame_descriptor::END_FRAG;
+use crate::frame_descriptor::FRAME_ALIGNMENT;
 use model::Assembled;
 use model::Error;
+use model::FrameLength;
 use model::Joining;
 use model::LogRecord;
 use model::Place;
@@ -32,6 +41,15 @@ pub struct FragmentAssembler {
 pub struct AssemblyReply {
     pub next: FragmentAssembler,
     pub answer: Assembled,
+}
+
+// What a frame leaves: the place whose session it enters, that session and the bytes that it then holds, and the answer. No session has
+// place 16.
+struct Joined {
+    place: usize,
+    session: i32,
+    held: usize,
+    answer: Assembled,
 }
 
 impl FragmentAssembler {
@@ -70,20 +88,13 @@ impl FragmentAssembler {
         i
     }
 
-    // The session at a place, entered, with so many bytes held.
-    fn holding(mut self, k: usize, session: i32, n: usize) -> FragmentAssembler
+    // How many are entered once place k is.
+    fn entered_with(self, k: usize) -> usize
         requires { ⌜ k < 16 ⌝ }
-        ensures { λ r. ⌜ sessionsOf r ≡ holdingOf (sessionsOf self) k session n ⌝ }
+        ensures { λ r. ⌜ r ≡ cond (ltb k (enteredOf (sessionsOf self))) (enteredOf (sessionsOf self)) (k + 1) ⌝ }
     {
-        let count = self.entered();
-        self.ids[k] = session;
-        self.held[k] = n;
-        if k < count {
-            self.count = count;
-        } else {
-            self.count = k + 1;
-        }
-        self
+        let n = self.entered();
+        if k < n { n } else { k + 1 }
     }
 }
 
@@ -140,8 +151,8 @@ fn held_at(a: FragmentAssembler, k: usize) -> usize
 fn joining(a: FragmentAssembler, session: i32, flags: usize, n: usize, part: usize) -> Joining
     ensures { λ r. ⌜ r ≡ joiningOf (sessionsOf a) session flags n part ⌝ }
 {
-    let begins = flags / 128 % 2 == 1;
-    let ends = flags / 64 % 2 == 1;
+    let begins = flags / BEGIN_FRAG % 2 == 1;
+    let ends = flags / END_FRAG % 2 == 1;
     if begins {
         if ends {
             return Joining::Through;
@@ -165,11 +176,11 @@ fn good_frame(log: &[u8], at: usize) -> bool
     if at > n - 4 {
         return false;
     }
-    let word = field::word4(log, at);
-    if word == 0 {
+    let word = cast::to_i32(field::word4(log, at));
+    let FrameLength::Finished(_) = frame_descriptor::frame_length(word) else {
         return false;
-    }
-    word < 2147483648
+    };
+    true
 }
 
 // A length that no frame has, or that reaches past its term.
@@ -177,10 +188,10 @@ fn unsound_length(n: usize, room: usize) -> bool
     requires { ⌜ n < 4294967296 ⌝ }
     ensures { λ r. ⌜ r ≡ unsoundLength n room ⌝ }
 {
-    if n < 32 {
+    if n < HEADER_LENGTH {
         return true;
     }
-    room < (n + 31) / 32 * 32
+    room < (n + ALIGNMENT_MASK) / FRAME_ALIGNMENT * FRAME_ALIGNMENT
 }
 
 // Row 1: the lent buffer, the place, the frame there.
@@ -216,6 +227,17 @@ fn assemble_verdict(p: Place, log: &[u8], lent: usize) -> Verdict
     Verdict::Pass
 }
 
+fn holding(place: usize, session: i32, held: usize, answer: Assembled) -> Joined
+    ensures { λ r. ⌜ r ≡ leaving place session held answer ⌝ }
+{
+    Joined {
+        place: place,
+        session: session,
+        held: held,
+        answer: answer,
+    }
+}
+
 // The whole frame at an index, joined: `at` is its offset in the term.
 fn join_frame(
     a: FragmentAssembler,
@@ -223,54 +245,37 @@ fn join_frame(
     buffer: &mut [u8],
     place: usize,
     at: usize,
-) -> AssemblyReply
+) -> Joined
     requires { ⌜ (at < 4294967296) × ((32 ≤ wordAt (drop place (now log))) × (place + wordAt (drop place (now log)) ≤ length (now log))) ⌝ }
-    ensures { λ r. ⌜ (r .answer ≡ joinedAt (sessionsOf a) (now (buffer .entry)) (drop place (now (log .entry))) at .answer) × (sessionsOf (r .next) ≡ joinedAt (sessionsOf a) (now (buffer .entry)) (drop place (now (log .entry))) at .next) ⌝ }
+    ensures { λ r. ⌜ (r .answer ≡ joinedAt (sessionsOf a) (now (buffer .entry)) (drop place (now (log .entry))) at .answer) × (heldAt (sessionsOf a) (r .place) (r .session) (r .held) ≡ joinedAt (sessionsOf a) (now (buffer .entry)) (drop place (now (log .entry))) at .next) ⌝ }
     ensures { λ _. ⌜ now (buffer .exit) ≡ joinedAt (sessionsOf a) (now (buffer .entry)) (drop place (now (log .entry))) at .buffer ⌝ }
 {
-    let n = field::word4(log, place) - 32;
-    let session = cast::to_i32(field::word4(log, place + 12));
-    let flags = field::byte(log, place + 5);
+    let n = field::word4(log, place) - HEADER_LENGTH;
+    let session = cast::to_i32(field::word4(log, place + SESSION_ID_FIELD_OFFSET));
+    let flags = field::byte(log, place + FLAGS_FIELD_OFFSET);
     let part = buffer.len() / 16;
     match joining(a, session, flags, n, part) {
-        Joining::Through => AssemblyReply {
-            next: a,
-            answer: Assembled::Fragment(at + 32, n),
-        },
-        Joining::Ignore => AssemblyReply {
-            next: a,
-            answer: Assembled::Nothing,
-        },
-        Joining::Full => AssemblyReply {
-            next: a,
-            answer: Assembled::Refused(Error::AssemblyFull),
-        },
-        Joining::TooLong(k) => AssemblyReply {
-            next: a.holding(k, session, 0),
-            answer: Assembled::Refused(Error::AssemblyFull),
-        },
+        Joining::Through => holding(16, session, 0, Assembled::Fragment(at + HEADER_LENGTH, n)),
+        Joining::Ignore => holding(16, session, 0, Assembled::Nothing),
+        Joining::Full => holding(16, session, 0, Assembled::Refused(Error::AssemblyFull)),
+        Joining::TooLong(k) => holding(k, session, 0, Assembled::Refused(Error::AssemblyFull)),
         Joining::Join(k, from) => {
-            buffer_builder::append(buffer, k, part, from, log, place + 32, n);
-            AssemblyReply {
-                next: a.holding(k, session, from + n),
-                answer: Assembled::Nothing,
-            }
+            buffer_builder::append(buffer, k, part, from, log, place + HEADER_LENGTH, n);
+            holding(k, session, from + n, Assembled::Nothing)
         }
         Joining::Complete(k, from) => {
-            buffer_builder::append(buffer, k, part, from, log, place + 32, n);
-            AssemblyReply {
-                next: a.holding(k, session, 0),
-                answer: Assembled::Message(k * part, from + n),
-            }
+            buffer_builder::append(buffer, k, part, from, log, place + HEADER_LENGTH, n);
+            holding(k, session, 0, Assembled::Message(k * part, from + n))
         }
     }
 }
 
 impl FragmentAssembler {
     // One frame of a term, by its partition and offset: nothing yet, its body as it lies in the log, or the message that it ends, as it
-    // lies in the lent buffer. A refusal leaves the bookkeeping and the buffer as they were.
+    // lies in the lent buffer. A refusal leaves the buffer as it was, and the bookkeeping too, but for fragments that are too long for
+    // their part (18): their session stays entered, emptied. A 17th session (18 too) changes nothing.
     pub fn on_fragment(
-        self,
+        mut self,
         rec: LogRecord,
         log: &[u8],
         buffer: &mut [u8],
@@ -288,7 +293,19 @@ impl FragmentAssembler {
             },
             Verdict::Pass => {
                 let index = p.partition * p.read.term + p.offset;
-                join_frame(self, log, buffer, index, p.offset)
+                let joined = join_frame(self, log, buffer, index, p.offset);
+                let answer = joined.answer;
+                let k = joined.place;
+                let session = joined.session;
+                if k < 16 {
+                    self.count = self.entered_with(k);
+                    self.ids[k] = session;
+                    self.held[k] = joined.held;
+                }
+                AssemblyReply {
+                    next: self,
+                    answer: answer,
+                }
             }
         }
     }

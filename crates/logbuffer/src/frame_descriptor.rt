@@ -5,9 +5,25 @@ ghost use lib.ListN.{length, drop, getD};
 ghost use Rattle.model.specs.Bytes.{word, u16 as halfOf, u32 as wordOf};
 ghost use Rattle.model.specs.FrameDescriptor.{frameLength, frameAt, flagsAt, ends};
 use crate::cast;
+use crate::data_frame_header::FLAGS_FIELD_OFFSET;
+use crate::data_frame_header::HDR_TYPE_PAD;
+use crate::data_frame_header::HEADER_LENGTH;
+use crate::data_frame_header::TYPE_FIELD_OFFSET;
 use crate::field;
 use model::Frame;
 use model::FrameLength;
+
+pub const FRAME_ALIGNMENT: usize = 32;
+// What is added before a number is cut to a multiple of the alignment.
+pub const ALIGNMENT_MASK: usize = 31;
+
+pub const BEGIN_FRAG: usize = 0x80;
+
+pub const END_FRAG: usize = 0x40;
+
+pub const UNFRAGMENTED: usize = 0xc0;
+
+pub const MAX_MESSAGE_LENGTH: usize = 16777216;
 
 // 0 is free, a negative length is being written, a positive one is finished.
 pub fn frame_length(length: i32) -> FrameLength
@@ -28,7 +44,11 @@ pub fn compute_max_message_length(term_length: u32) -> usize
     ensures { λ r. ⌜ r ≡ min («term_length» / 8) 16777216 ⌝ }
 {
     let eighth = (term_length as usize) / 8;
-    if eighth < 16777216 { eighth } else { 16777216 }
+    if eighth < MAX_MESSAGE_LENGTH {
+        eighth
+    } else {
+        MAX_MESSAGE_LENGTH
+    }
 }
 
 // The byte that lies i behind an index, and 0 past the log's end.
@@ -58,7 +78,7 @@ fn length_word(log: &[u8], at: usize) -> usize
     byte_behind(log, at, 0)
         + 256 * byte_behind(log, at, 1)
         + 65536 * byte_behind(log, at, 2)
-        + 16777216 * byte_behind(log, at, 3)
+        + MAX_MESSAGE_LENGTH * byte_behind(log, at, 3)
 }
 
 // Its type, in the same way.
@@ -68,7 +88,7 @@ fn frame_type(log: &[u8], at: usize) -> usize
     let n = log.len();
     if n >= 8 {
         if at <= n - 8 {
-            return field::half(log, at + 6);
+            return field::half(log, at + TYPE_FIELD_OFFSET);
         }
     }
     byte_behind(log, at, 6) + 256 * byte_behind(log, at, 7)
@@ -82,13 +102,13 @@ pub fn frame_at(log: &[u8], at: usize, room: usize) -> Frame
         FrameLength::Free => Frame::Absent,
         FrameLength::Writing => Frame::Absent,
         FrameLength::Finished(n) => {
-            if n < 32 {
+            if n < HEADER_LENGTH {
                 return Frame::Unsound;
             }
-            if room < (n + 31) / 32 * 32 {
+            if room < (n + ALIGNMENT_MASK) / FRAME_ALIGNMENT * FRAME_ALIGNMENT {
                 return Frame::Unsound;
             }
-            if frame_type(log, at) == 0 {
+            if frame_type(log, at) == HDR_TYPE_PAD {
                 Frame::Padding(n)
             } else {
                 Frame::Data(n)
@@ -102,6 +122,6 @@ pub(crate) fn ends_message(log: &[u8], at: usize) -> bool
     requires { ⌜ at + 8 ≤ length (now log) ⌝ }
     ensures { λ r. ⌜ r ≡ ends (flagsAt (drop at (now (log .entry)))) ⌝ }
 {
-    let flags = field::byte(log, at + 5);
-    flags / 64 % 2 == 1
+    let flags = field::byte(log, at + FLAGS_FIELD_OFFSET);
+    flags / END_FRAG % 2 == 1
 }

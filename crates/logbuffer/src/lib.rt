@@ -5,6 +5,7 @@ mod buffer_builder;
 pub mod buffer_claim;
 pub mod cast;
 mod copying;
+pub mod data_frame_header;
 pub mod errors;
 mod field;
 pub mod fragment_assembler;

@@ -1,8 +1,9 @@
 // The log record: read, judged, and changed; and the arithmetic of raw tails and positions.
 ghost use mathlib.Core.Path.{_≡_};
 ghost use Prim.Native.Nat.{_+_, _<_};
-ghost use Rattle.model.specs.LogBufferDescriptor.{termId, termOffset, indexByTermCount, indexByPosition, bitsToShift, computePosition, tailOf, readingOf, reading, soundRecord, sound, withTail, withCount, nextTail, rotateVerdict, rotateLogOf};
+ghost use Rattle.model.specs.LogBufferDescriptor.{offsetOf, termId, termOffset, indexByTermCount, indexByPosition, bitsToShift, computePosition, tailOf, readingOf, reading, soundRecord, sound, withTail, withCount, nextTail, rotateVerdict, rotateLogOf};
 use crate::cast;
+use crate::frame_descriptor::FRAME_ALIGNMENT;
 use model::Error;
 use model::LogRecord;
 use model::Outcome;
@@ -10,6 +11,12 @@ use model::Positioned;
 use model::Reading;
 use model::RecordReply;
 use model::Verdict;
+
+pub const TERM_MIN_LENGTH: usize = 65536;
+
+pub const TERM_MAX_LENGTH: usize = 1073741824;
+
+pub const PARTITION_COUNT: usize = 3;
 
 // ---- numbers
 
@@ -20,11 +27,18 @@ pub fn term_id(raw_tail: i64) -> i32
     (raw_tail >> 32) as i32
 }
 
+// The lower half.
+fn offset_bits(raw_tail: i64) -> usize
+    ensures { λ r. ⌜ r ≡ offsetOf «raw_tail» ⌝ }
+{
+    (raw_tail & 0xffff_ffff) as usize
+}
+
 // The lower half, cut to the term length.
 pub fn term_offset(raw_tail: i64, term_length: usize) -> usize
     ensures { λ r. ⌜ r ≡ termOffset «raw_tail» «term_length» ⌝ }
 {
-    let offset = cast::long(raw_tail) % 4294967296;
+    let offset = offset_bits(raw_tail);
     if offset < term_length {
         offset
     } else {
@@ -35,7 +49,7 @@ pub fn term_offset(raw_tail: i64, term_length: usize) -> usize
 pub fn index_by_term_count(count: usize) -> usize
     ensures { λ r. ⌜ r ≡ indexByTermCount count ⌝ }
 {
-    count % 3
+    count % PARTITION_COUNT
 }
 
 // No bit of a position is left by a shift past its width.
@@ -60,7 +74,7 @@ pub fn compute_position(term_id: i32, offset: u32, bits: u32, initial: i32) -> P
     if bits > 30 {
         return Positioned::Refused(Error::IllegalArgument);
     }
-    Positioned::Position(((term_id as i64) - (initial as i64)) * (1i64 << bits) + (offset as i64))
+    Positioned::Position((((term_id as i64) - (initial as i64)) << bits) + (offset as i64))
 }
 
 // ---- the record, read
@@ -80,7 +94,9 @@ fn tail(rec: LogRecord, partition: usize) -> i64
 pub fn read(rec: LogRecord, partition: usize) -> Reading
     ensures { λ r. ⌜ r ≡ readingOf rec partition ⌝ }
 {
-    let bits = cast::long(tail(rec, partition));
+    let raw = tail(rec, partition);
+    let id = cast::word(term_id(raw));
+    let offset = offset_bits(raw);
     let initial = (cast::word(rec.initial_term_id) + 2147483648) % 4294967296;
     Reading {
         term: cast::word(rec.term_length),
@@ -91,8 +107,8 @@ pub fn read(rec: LogRecord, partition: usize) -> Reading
         stream: cast::word(rec.stream_id),
         connected: cast::word(rec.is_connected),
         limit: cast::long(rec.publication_limit),
-        id: (bits / 4294967296 + 2147483648) % 4294967296,
-        offset: bits % 4294967296,
+        id: (id + 2147483648) % 4294967296,
+        offset: offset,
         closed: rec.is_closed,
     }
 }
@@ -110,10 +126,10 @@ pub fn read_active(rec: LogRecord) -> Reading
 pub fn is_sound_record(v: Reading) -> bool
     ensures { λ r. ⌜ r ≡ soundRecord v ⌝ }
 {
-    if v.term < 65536 {
+    if v.term < TERM_MIN_LENGTH {
         return false;
     }
-    if v.term > 1073741824 {
+    if v.term > TERM_MAX_LENGTH {
         return false;
     }
     if usize::count_ones(v.term) != 1 {
@@ -125,7 +141,7 @@ pub fn is_sound_record(v: Reading) -> bool
     if v.mtu > 65504 {
         return false;
     }
-    if v.mtu % 32 != 0 {
+    if v.mtu % FRAME_ALIGNMENT != 0 {
         return false;
     }
     if v.initial < 2 {
@@ -137,7 +153,7 @@ pub fn is_sound_record(v: Reading) -> bool
     if v.limit > 4611686018427387904 {
         return false;
     }
-    if v.offset % 32 != 0 {
+    if v.offset % FRAME_ALIGNMENT != 0 {
         return false;
     }
     v.offset <= 2147483647
@@ -150,7 +166,7 @@ pub fn is_sound(v: Reading, n: usize) -> bool
     if !is_sound_record(v) {
         return false;
     }
-    n == 3 * v.term
+    n == PARTITION_COUNT * v.term
 }
 
 // ---- the record, changed
@@ -181,7 +197,7 @@ fn next_tail(rec: LogRecord, count: usize, id: usize) -> LogRecord
     requires { ⌜ (count < 2147483648) × (id < 4294967296) ⌝ }
     ensures { λ r. ⌜ r ≡ nextTail rec count id ⌝ }
 {
-    let k = (count + 1) % 3;
+    let k = (count + 1) % PARTITION_COUNT;
     let v = read(rec, k);
     if v.id + 2 == id {
         return with_tail(rec, k, id + 1, 0);

@@ -8,6 +8,11 @@ ghost use Rattle.model.specs.LogBufferDescriptor.{biased};
 ghost use Rattle.model.specs.TermAppender.{cut, need, written, claimed, course, bytesBy, goodMessage, unfragmentedReply, unfragmentedBytes, fragmentedReply, fragmentedBytes, claimAppendReply, claimAppendBytes};
 ghost use Rattle.logbuffer.specs.Ways.{wayBy, goodAppend, courseOf, goodClaiming, claimCourse, messageReply, messageBytes, fragmentLimit, claimBits};
 use crate::cast;
+use crate::data_frame_header::HEADER_LENGTH;
+use crate::frame_descriptor::ALIGNMENT_MASK;
+use crate::frame_descriptor::BEGIN_FRAG;
+use crate::frame_descriptor::END_FRAG;
+use crate::frame_descriptor::FRAME_ALIGNMENT;
 use crate::header;
 use crate::log_buffer_descriptor;
 use crate::way;
@@ -91,18 +96,18 @@ fn begin_append(v: Reading, log: &mut [u8], k: usize, needed: usize, given: usiz
 
 // What a message of m bytes needs: its aligned length, or the sum over its frames.
 fn need_of(payload: usize, m: usize) -> usize
-    requires { ⌜ (32 ≤ payload) × ((payload ≤ 2147483648) × (m ≤ 2147483647)) ⌝ }
+    requires { ⌜ (32 ≤ payload) × ((payload % 32 ≡ 0) × ((payload ≤ 2147483648) × (m ≤ 2147483647))) ⌝ }
     ensures { λ r. ⌜ r ≡ need payload m ⌝ }
 {
     if m <= payload {
-        return (m + 32 + 31) / 32 * 32;
+        return (m + HEADER_LENGTH + ALIGNMENT_MASK) / FRAME_ALIGNMENT * FRAME_ALIGNMENT;
     }
-    let full = m / payload * (payload + 32);
+    let full = m / payload * (payload + HEADER_LENGTH);
     let rest = m % payload;
     if rest == 0 {
         return full;
     }
-    full + (rest + 32 + 31) / 32 * 32
+    full + (rest + HEADER_LENGTH + ALIGNMENT_MASK) / FRAME_ALIGNMENT * FRAME_ALIGNMENT
 }
 
 // The fragments of a message, one after another from the tail's offset on.
@@ -114,21 +119,29 @@ fn write_fragments(
     reserved: usize,
     message: &[u8],
 )
-    requires { ⌜ (base + v .term ≤ length (now log)) × ((v .id < 4294967296) × ((0 < payload) × ((payload % 32 ≡ 0) × (v .offset + need payload (length (now message)) ≤ v .term)))) ⌝ }
+    requires { ⌜ (base + v .term ≤ length (now log)) × ((v .id < 4294967296) × ((0 < payload) × ((payload % 32 ≡ 0) × ((v .offset + need payload (length (now message)) ≤ v .term) × (v .term ≤ 2147483647))))) ⌝ }
     ensures { λ _. ⌜ now (log .exit) ≡ written v (now (log .entry)) base (v .offset) (cut payload reserved (now (message .entry))) ⌝ }
 {
     let mut offset = v.offset;
     let mut at: usize = 0;
-    let mut flags: usize = 128;
+    let mut flags: usize = BEGIN_FRAG;
     while message.len() - at > payload {
         let part = &message[at..at + payload];
         header::write_fragment(log, base + offset, v, offset, flags, reserved, part);
         at = at + payload;
-        offset = offset + (payload + 32);
+        offset = offset + (payload + HEADER_LENGTH);
         flags = 0;
     }
     let rest = &message[at..];
-    header::write_fragment(log, base + offset, v, offset, flags + 64, reserved, rest);
+    header::write_fragment(
+        log,
+        base + offset,
+        v,
+        offset,
+        flags + END_FRAG,
+        reserved,
+        rest,
+    );
 }
 
 // The way that a message goes, and what it leaves in the log.
@@ -160,13 +173,13 @@ fn good_append(v: Reading, k: usize, payload: usize, m: usize) -> bool
     if !good_message(k, m) {
         return false;
     }
-    if payload < 32 {
+    if payload < FRAME_ALIGNMENT {
         return false;
     }
     if payload > 2147483648 {
         return false;
     }
-    if payload % 32 != 0 {
+    if payload % FRAME_ALIGNMENT != 0 {
         return false;
     }
     v.id < 4294967296
@@ -257,7 +270,7 @@ fn claim_record(v: Reading, k: usize, n: usize) -> Claim
     Claim {
         partition: cast::to_i32(k),
         offset: cast::to_i32(v.offset),
-        length: cast::to_i32((n + 32) % 4294967296),
+        length: cast::to_i32((n + HEADER_LENGTH) % 4294967296),
         term_id: cast::to_i32((v.id + 2147483648) % 4294967296),
     }
 }
@@ -268,7 +281,13 @@ fn claim_frame(v: Reading, log: &mut [u8], k: usize, n: usize, given: usize) -> 
     ensures { λ r. ⌜ r ≡ course v (length (now (log .entry))) (space n) given ⌝ }
     ensures { λ _. ⌜ now (log .exit) ≡ bytesBy v k (now (log .entry)) (claimed v (now (log .entry)) (k * v .term) n) (course v (length (now (log .entry))) (space n) given) ⌝ }
 {
-    let way = begin_append(v, log, k, (n + 32 + 31) / 32 * 32, given);
+    let way = begin_append(
+        v,
+        log,
+        k,
+        (n + HEADER_LENGTH + ALIGNMENT_MASK) / FRAME_ALIGNMENT * FRAME_ALIGNMENT,
+        given,
+    );
     let term = v.term;
     if let Course::Fit = way {
         header::write_claim(log, k * term, v, n);
@@ -294,7 +313,11 @@ pub fn claim_way(v: Reading, log: &mut [u8], k: usize, n: usize, given: usize) -
         return way::refused(Error::IllegalArgument);
     }
     let course = claim_frame(v, log, k, n, given);
-    way::way_by(v, (n + 32 + 31) / 32 * 32, course)
+    way::way_by(
+        v,
+        (n + HEADER_LENGTH + ALIGNMENT_MASK) / FRAME_ALIGNMENT * FRAME_ALIGNMENT,
+        course,
+    )
 }
 
 // A frame of n bytes claimed, to be written and committed later.

@@ -7,13 +7,16 @@ ghost use denote.Ref.{ptr};
 ghost use Rattle.logbuffer.specs.Lent.{startOf};
 ghost use Rattle.model.specs.declared.Error.the-variants.{UnsoundFrame};
 ghost use Rattle.model.specs.declared.Verdict.the-variants.{Pass, Refuse};
-ghost use Rattle.model.specs.LogBufferDescriptor.{goodPartition, goodOffset};
-ghost use Rattle.model.specs.TermReader.{nextAction, walk, firstUnsound, goodWalk, goodEntries, entriesBy, framesBy, framesOf, framesEntries, readOf, readEntries, goodView, viewOf};
+ghost use Rattle.model.specs.LogBufferDescriptor.{goodPartition};
+ghost use Rattle.model.specs.TermReader.{nextAction, walk, firstUnsound, goodWalk, goodHandler, goodEntries, goodStart, entriesBy, framesBy, framesOf, framesEntries, readOf, readEntries, goodView, viewOf};
 ghost use Rattle.model.specs.Parts.{partOf, locatedNumber};
 use crate::argument;
 use crate::cast;
+use crate::data_frame_header::HEADER_LENGTH;
 use crate::errors;
 use crate::frame_descriptor;
+use crate::frame_descriptor::ALIGNMENT_MASK;
+use crate::frame_descriptor::FRAME_ALIGNMENT;
 use model::Error;
 use model::Frame;
 use model::FramesRead;
@@ -63,19 +66,29 @@ fn good_walk(
     if term > 1073741824 {
         return false;
     }
-    if term % 32 != 0 {
+    if term % FRAME_ALIGNMENT != 0 {
         return false;
     }
     if end > term {
         return false;
     }
-    if at % 32 != 0 {
+    if at % FRAME_ALIGNMENT != 0 {
         return false;
     }
     if slots > 2147483647 {
         return false;
     }
     limit <= slots / 2
+}
+
+// And of its handler's answers: none where nobody handles.
+fn good_handler(actions: &[u8], limit: usize) -> bool
+    ensures { λ r. ⌜ r ≡ goodHandler (now (actions .entry)) limit ⌝ }
+{
+    if actions.len() == 0 {
+        return true;
+    }
+    argument::good_control(actions, limit)
 }
 
 // The walk itself, its arguments judged. Each frame is looked at once; it is left at a free place, an unsound frame, the end or the limit.
@@ -115,7 +128,7 @@ fn walk_frames(
                 break;
             }
             Frame::Padding(n) => {
-                offset = offset + (n + 31) / 32 * 32;
+                offset = offset + (n + ALIGNMENT_MASK) / FRAME_ALIGNMENT * FRAME_ALIGNMENT;
                 moved = offset - at;
                 settled = moved;
             }
@@ -123,8 +136,8 @@ fn walk_frames(
                 let action = action_of(actions, count);
                 let whole = frame_descriptor::ends_message(log, base + offset);
                 let p = 2 * count;
-                entries[p] = (offset + 32) as i32;
-                entries[p + 1] = (n - 32) as i32;
+                entries[p] = (offset + HEADER_LENGTH) as i32;
+                entries[p + 1] = (n - HEADER_LENGTH) as i32;
                 if action == 1 {
                     return FramesRead::Walked(Walk {
                         entries: count + 1,
@@ -133,7 +146,7 @@ fn walk_frames(
                         settled: settled,
                     });
                 }
-                let size = (n + 31) / 32 * 32;
+                let size = (n + ALIGNMENT_MASK) / FRAME_ALIGNMENT * FRAME_ALIGNMENT;
                 offset = offset + size;
                 moved = offset - at;
                 settled = last_settled(whole, moved, settled);
@@ -153,7 +166,8 @@ fn walk_frames(
 }
 
 // A walk over frames for any numbers: log, where the term starts, its length, the end, the offset, the fragment limit, the handler's
-// answers, and the lent entries, two numbers each. 1 where the numbers do not fit each other, 17 where the first frame is unsound.
+// answers, if it has one, and the lent entries, two numbers each. 1 where the numbers do not fit each other or the answers are not as row 1
+// asks, 17 where the first frame is unsound.
 pub fn read_frames(
     log: &[u8],
     base: usize,
@@ -170,15 +184,17 @@ pub fn read_frames(
     if !good_walk(log.len(), base, term, end, at, limit, entries.len()) {
         return FramesRead::Refused(Error::IllegalArgument);
     }
+    if !good_handler(actions, limit) {
+        return FramesRead::Refused(Error::IllegalArgument);
+    }
     walk_frames(log, base, term, end, at, limit, actions, entries)
 }
 
 // Row 1 of `read`.
 fn good_read(p: Place, limit: usize, slots: usize) -> bool
-    requires { ⌜ p .offset < 4294967296 ⌝ }
-    ensures { λ r. ⌜ r ≡ (goodPartition (p .partition) && (goodOffset (p .offset) (p .read) && goodEntries slots limit)) ⌝ }
+    ensures { λ r. ⌜ r ≡ (goodPartition (p .partition) && (goodStart (p .offset) (p .read) && goodEntries slots limit)) ⌝ }
 {
-    if !argument::good_place(p) {
+    if !argument::good_start(p) {
         return false;
     }
     if slots > 2147483647 {

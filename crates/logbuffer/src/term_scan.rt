@@ -12,9 +12,13 @@ ghost use Rattle.model.specs.TermScan.{scanFrom, scanBy, scanOf, rebuild, gapLe
 ghost use Rattle.model.proofs.GapLaws.{gapFound};
 ghost use Rattle.model.proofs.AvailableLaws.{outcome as outcomeOf};
 use crate::argument;
+use crate::bit_utils;
 use crate::cast;
+use crate::data_frame_header::HEADER_LENGTH;
 use crate::field;
 use crate::frame_descriptor;
+use crate::frame_descriptor::ALIGNMENT_MASK;
+use crate::frame_descriptor::FRAME_ALIGNMENT;
 use model::AvailabilityScanned;
 use model::Error;
 use model::Frame;
@@ -46,12 +50,14 @@ fn scan_frames(log: &[u8], base: usize, term: usize, limit: usize, at: usize) ->
             }
             Frame::Padding(n) => {
                 if offset == at {
-                    return Scanned::Offset(at + (n + 31) / 32 * 32);
+                    return Scanned::Offset(
+                        at + (n + ALIGNMENT_MASK) / FRAME_ALIGNMENT * FRAME_ALIGNMENT,
+                    );
                 }
                 break;
             }
             Frame::Data(n) => {
-                let next = offset + (n + 31) / 32 * 32;
+                let next = offset + (n + ALIGNMENT_MASK) / FRAME_ALIGNMENT * FRAME_ALIGNMENT;
                 if next > limit {
                     break;
                 }
@@ -95,7 +101,7 @@ fn gap_length(log: &[u8], base: usize, term: usize, high: usize, at: usize) -> u
     requires { ⌜ (base + term ≤ length (now log)) × ((term ≤ 1073741824) × ((high ≤ term) × ((high % 32 ≡ 0) × ((at % 32 ≡ 0) × (at < high))))) ⌝ }
     ensures { λ r. ⌜ r ≡ gapLength term (now (log .entry)) base high at ⌝ }
 {
-    let mut gap: usize = 32;
+    let mut gap: usize = FRAME_ALIGNMENT;
     loop {
         if high <= at + gap {
             break;
@@ -103,7 +109,7 @@ fn gap_length(log: &[u8], base: usize, term: usize, high: usize, at: usize) -> u
         if field::word4(log, base + (at + gap)) != 0 {
             break;
         }
-        gap = gap + 32;
+        gap = gap + FRAME_ALIGNMENT;
     }
     gap
 }
@@ -133,13 +139,13 @@ fn gap_frames(
                 return GapScanned::NoGap(offset);
             }
             Frame::Padding(n) => {
-                offset = offset + (n + 31) / 32 * 32;
+                offset = offset + (n + ALIGNMENT_MASK) / FRAME_ALIGNMENT * FRAME_ALIGNMENT;
                 if high <= offset {
                     return GapScanned::NoGap(offset);
                 }
             }
             Frame::Data(n) => {
-                offset = offset + (n + 31) / 32 * 32;
+                offset = offset + (n + ALIGNMENT_MASK) / FRAME_ALIGNMENT * FRAME_ALIGNMENT;
                 if high <= offset {
                     return GapScanned::NoGap(offset);
                 }
@@ -160,7 +166,7 @@ fn good_gap(p: Place, mark: usize) -> bool
     if !argument::good_place(p) {
         return false;
     }
-    if mark % 32 != 0 {
+    if mark % FRAME_ALIGNMENT != 0 {
         return false;
     }
     argument::within_term(mark, p.read)
@@ -223,17 +229,17 @@ fn available_frames(
                 return outcome(available, padding);
             }
             Frame::Padding(n) => {
-                if most < available + 32 {
+                if most < available + HEADER_LENGTH {
                     return outcome(available, 0);
                 }
-                available = available + 32;
-                padding = (n + 31) / 32 * 32 - 32;
+                available = available + HEADER_LENGTH;
+                padding = (n + ALIGNMENT_MASK) / FRAME_ALIGNMENT * FRAME_ALIGNMENT - HEADER_LENGTH;
                 if most <= available + padding {
                     return outcome(available, padding);
                 }
             }
             Frame::Data(n) => {
-                let size = (n + 31) / 32 * 32;
+                let size = (n + ALIGNMENT_MASK) / FRAME_ALIGNMENT * FRAME_ALIGNMENT;
                 if most < available + size {
                     return outcome(available, 0);
                 }
@@ -245,13 +251,6 @@ fn available_frames(
         }
     }
     outcome(available, padding)
-}
-
-// The smaller of a maximum and what is left of a term.
-fn at_most(maximum: usize, left: usize) -> usize
-    ensures { λ r. ⌜ r ≡ min maximum left ⌝ }
-{
-    if maximum < left { maximum } else { left }
 }
 
 // What is available from an offset on, at most a maximum: any number, cut to what is left of the term.
@@ -271,7 +270,13 @@ pub fn scan_for_availability(
         Verdict::Pass => {
             let term = p.read.term;
             let at = p.offset;
-            available_frames(log, p.partition * term, term, at, at_most(most, term - at))
+            available_frames(
+                log,
+                p.partition * term,
+                term,
+                at,
+                bit_utils::at_most(most, term - at),
+            )
         }
     }
 }

@@ -21,8 +21,9 @@ use Rattle.model.specs.Bytes.{long}
 use Rattle.model.specs.LogBufferDescriptor.{idOf, offsetOf, termId, termOffset, tailOf, readingOf, reading, soundRecord, Sound, computePosition, publisherPosition}
 use Rattle.model.specs.Publication.{openRecord, changeOf}
 use Rattle.model.proofs.Moving.{term-id-back}
-use Rattle.model.proofs.Power.{power, shift-high}
+use Rattle.model.proofs.Power.{shift-high}
 use Rattle.model.proofs.Sound.{id-small, initial-small}
+use Rattle.logbuffer.proofs.Shifts.{shifted}
 use Rattle.logbuffer.proofs.Exact.{near-sum, near-neg, near-fits}
 use Rattle.publication.specs.Numbers.{numberVerdict}
 use Rattle.publication.proofs.Ids.{id-difference, near-position, small-limit}
@@ -67,9 +68,6 @@ module _ (v : Reading) where
 -- ---- the position
 
 module _ (r : LogRecord) (v : Reading) (n : ℕ) (ev : v ≡ reading r) (s : Sound v n) where
-  shifted : 2 ^ trailingZeros 32 (v .term) ≡ v .term
-  shifted = power 32 (v .term) (omega (arith, s .term-high)) (s .one-bit)
-
   ids : (raw : ℤ) → SFits w64 raw → SFits w32 (r .«initial_term_id») → raw ≡ tailOf r (v .count % 3) → termId raw -ℤ r .«initial_term_id» ≡ pos (v .id) -ℤ pos (v .initial)
   unfolding readingOf
   ids raw f fi er =
@@ -86,7 +84,7 @@ module _ (r : LogRecord) (v : Reading) (n : ℕ) (ev : v ≡ reading r) (s : Sou
       → offset ≡ termOffset raw (v .term) → bits ≡ trailingZeros 32 (v .term) → computePosition id offset bits initial ≡ Position (publisherPosition v)
   unfolding computePosition readingOf
   position-by raw initial id offset bits f er fi ei ed eo eb =
-      let e : 2 ^ bits ≡ v .term = ap (λ (x : ℕ). 2 ^ x) eb ∙ shifted in
+      let e : 2 ^ bits ≡ v .term = ap (λ (x : ℕ). 2 ^ x) eb ∙ shifted (v .term) (s .term-high) (s .one-bit) in
       let l : bits ≤ 30 = shift-high bits (v .term) e (s .term-high) in
       let d : id -ℤ initial ≡ pos (v .id) -ℤ pos (v .initial) = ap₂ (λ (x y : ℤ). x -ℤ y) ed ei ∙ ids raw f fi er in
       let o : offset ≡ min (v .offset) (v .term) = eo ∙ ap (λ (x : ℕ). min x (v .term)) (ap offsetOf er ∙ sym (ap (λ (x : Reading). x .offset) ev ∙ ap (λ (j : ℕ). offsetOf (tailOf r (j % 3))) (sym (ap (λ (x : Reading). x .count) ev)))) in

@@ -14,7 +14,7 @@ use Rattle.model.specs.LogBufferDescriptor.{biased, readingOf, reading, active,
 use Rattle.model.specs.TermAppender.{need, course}
 use Rattle.model.specs.Publication.{beforeAppend, offerOf, offerBytes}
 use Rattle.model.proofs.Append.{appendReply, appendBytes}
-use Rattle.model.proofs.Moving.{need-32}
+use Rattle.model.proofs.Cut.{need-32}
 use Rattle.model.proofs.OfferLaws.{Turns, after, offer-is, end-in, trip-turns}
 
 -- the active partition, by the count that was read
@@ -46,7 +46,7 @@ module _ (r : LogRecord) (log m : List ℕ) (v : Reading) (k g : ℕ) (a : Appen
   pub turns-by : (count id : ℤ) → count ≡ r .«active_term_count» → biased (word id) ≡ g → length (r .tails) ≡ 3 → (v .mtu - 32) % 32 ≡ 0 → a .answer ≡ Tripped → Turns (a .next) v count id
   turns-by count id ec ei three p h =
       let nd = need (v .mtu - 32) (length m) in
-      let law = trip-turns r (readingOf r k) k (length log) nd g id (course (readingOf r k) (length log) nd g) (ap (readingOf r) ek) ek refl (sym (ap (λ (x : AppendReply). x .answer) ea) ∙ h) three (need-32 (v .mtu - 32) (length m) p)
+      let law = trip-turns r (readingOf r k) k (length log) nd g id (course (readingOf r k) (length log) nd g) (ap (readingOf r) ek) ek refl (sym (ap (λ (x : AppendReply). x .answer) ea) ∙ h) three (need-32 (v .mtu - 32) (length m))
       (ei ∙ eg ∙ ap (λ (x : Reading). x .id) here) in
       subst (λ (q : LogRecord). Turns q v count id) (sym (ap (λ (x : AppendReply). x .next) ea))
       (subst (λ (x : Reading). Turns (appendReply r log k (v .mtu - 32) m g .next) x count id) (sym here)

@@ -1,9 +1,12 @@
 // The refusals of an offer that leave everything as it was, in document 01's order.
 ghost use mathlib.Core.Path.{_≡_};
-ghost use Prim.Native.Nat.{_≤_, _<_};
+ghost use Prim.Native.Nat.{_*_, _≤_, _<_};
+ghost use lib.Count.{ones};
 ghost use Rattle.model.specs.declared.Verdict.the-variants.{Pass};
 ghost use Rattle.model.specs.Publication.{tooLong, pressed, afterClosed, beforeAppend};
 ghost use Rattle.model.proofs.Sound.{Bounds};
+use logbuffer::data_frame_header::HEADER_LENGTH;
+use logbuffer::frame_descriptor::MAX_MESSAGE_LENGTH;
 use logbuffer::log_buffer_descriptor;
 use model::Error;
 use model::Reading;
@@ -16,25 +19,34 @@ fn too_long(v: Reading, m: usize) -> bool
 {
     let term = v.term;
     let mtu = v.mtu;
-    if m <= mtu - 32 {
+    if m <= mtu - HEADER_LENGTH {
         return false;
     }
-    if term / 8 <= 16777216 {
+    if term / 8 <= MAX_MESSAGE_LENGTH {
         return m > term / 8;
     }
-    m > 16777216
+    m > MAX_MESSAGE_LENGTH
 }
 
-// Not below the limit: 7, 8 or 9.
-fn back_pressure(v: Reading, m: usize) -> Error
-    requires { ⌜ Bounds v × (m ≤ 2147483647) ⌝ }
+// The position at which the active term begins: its count, by the bits to shift.
+pub fn begin_position(v: Reading) -> usize
+    requires { ⌜ Bounds v × (ones (v .term) ≡ 1) ⌝ }
+    ensures { λ r. ⌜ r ≡ v .count * v .term ⌝ }
+{
+    let count = v.count;
+    let bits = log_buffer_descriptor::position_bits_to_shift(v.term as u32);
+    count << bits
+}
+
+// Not below the limit: 7, 8 or 9. The active term begins at `begin`.
+fn back_pressure(v: Reading, begin: usize, m: usize) -> Error
+    requires { ⌜ Bounds v × ((begin ≡ v .count * v .term) × (m ≤ 2147483647)) ⌝ }
     ensures { λ r. ⌜ r ≡ pressed v m ⌝ }
 {
     let term = v.term;
-    let count = v.count;
     let offset = v.offset;
     let connected = v.connected;
-    if count * term + offset + m >= term * 2147483648 {
+    if begin + offset + m >= term * 2147483648 {
         return Error::MaxPositionExceeded;
     }
     if connected == 1 {
@@ -45,20 +57,20 @@ fn back_pressure(v: Reading, m: usize) -> Error
 
 // What both ask once they are not closed: 6 (count), 7/8/9.
 pub fn after_closed(v: Reading, m: usize) -> Verdict
-    requires { ⌜ Bounds v × ((v .initial < 4294967296) × (m ≤ 2147483647)) ⌝ }
+    requires { ⌜ Bounds v × ((v .initial < 4294967296) × ((m ≤ 2147483647) × (ones (v .term) ≡ 1))) ⌝ }
     ensures { λ r. ⌜ r ≡ afterClosed v m Pass ⌝ }
 {
     let id = v.id;
     let initial = v.initial;
     let count = v.count;
-    let term = v.term;
     let offset = v.offset;
     let limit = v.limit;
     if id != initial + count {
         return Verdict::Refuse(Error::AdminAction);
     }
-    if limit <= count * term + offset {
-        return Verdict::Refuse(back_pressure(v, m));
+    let begin = begin_position(v);
+    if limit <= begin + offset {
+        return Verdict::Refuse(back_pressure(v, begin, m));
     }
     Verdict::Pass
 }

@@ -3,6 +3,9 @@ ghost use mathlib.Core.Path.{_≡_};
 ghost use Prim.Native.Nat.{_<_};
 ghost use Rattle.model.specs.Publication.{claimVerdict};
 use crate::judge;
+use logbuffer::data_frame_header::HEADER_LENGTH;
+use logbuffer::frame_descriptor::ALIGNMENT_MASK;
+use logbuffer::frame_descriptor::FRAME_ALIGNMENT;
 use logbuffer::log_buffer_descriptor;
 use model::Error;
 use model::Reading;
@@ -19,7 +22,7 @@ pub fn before_claim(v: Reading, n: usize, m: usize) -> Verdict
         return Verdict::Refuse(Error::IllegalRecord);
     }
     let mtu = v.mtu;
-    let payload = mtu - 32;
+    let payload = mtu - HEADER_LENGTH;
     let closed = v.closed;
     if m > payload {
         return Verdict::Refuse(Error::ExceedsMaxPayloadLength);
@@ -32,7 +35,9 @@ pub fn before_claim(v: Reading, n: usize, m: usize) -> Verdict
         return rest;
     };
     let offset = v.offset;
-    if offset + (m + 32 + 31) / 32 * 32 > 2147483647 {
+    if offset + (m + HEADER_LENGTH + ALIGNMENT_MASK) / FRAME_ALIGNMENT * FRAME_ALIGNMENT
+        > 2147483647
+    {
         return Verdict::Refuse(Error::TailOverflow);
     }
     Verdict::Pass

@@ -1,6 +1,6 @@
 // The publication above the leaf library, of which it knows only the promises: offers and claims. Read judge next.
 ghost use mathlib.Core.Path.{_≡_};
-ghost use Prim.Native.Nat.{_+_, _%_, _≤_, _<_};
+ghost use Prim.Native.Nat.{_+_, _*_, _%_, _≤_, _<_};
 ghost use lib.ListN.{length as lengthOf};
 ghost use Rattle.model.specs.declared.Verdict.the-variants.{Pass};
 ghost use Rattle.model.specs.Bytes.{word, long};
@@ -11,6 +11,7 @@ ghost use Rattle.model.proofs.Sound.{Bounds};
 ghost use Rattle.model.proofs.Append.{appendReply, appendBytes, claimingReply, claimingBytes};
 ghost use Rattle.model.proofs.OfferLaws.{Turns};
 use logbuffer::cast;
+use logbuffer::data_frame_header::HEADER_LENGTH;
 use logbuffer::log_buffer_descriptor;
 use logbuffer::term_appender;
 use logbuffer::way;
@@ -47,16 +48,17 @@ fn own_term_id(rec: LogRecord, k: usize) -> i32
     log_buffer_descriptor::term_id(rec.tails[k])
 }
 
-// After a trip: 7, 12, or rotated and 6. `next` is the record with the tail moved; its count and term id are handed to the rotation.
-fn after_trip(next: LogRecord, v: Reading, count: i32, term_id: i32) -> Trip
-    requires { ⌜ Bounds v × Turns next v count «term_id» ⌝ }
+// After a trip: 7, 12, or rotated and 6. `next` is the record with the tail moved; its count and term id are handed to the rotation. The
+// active term begins at `begin`.
+fn after_trip(next: LogRecord, v: Reading, begin: usize, count: i32, term_id: i32) -> Trip
+    requires { ⌜ Bounds v × ((begin ≡ v .count * v .term) × Turns next v count «term_id») ⌝ }
     ensures { λ r. ⌜ (r .next ≡ tripNext next v) × (r .error ≡ tripError v) ⌝ }
 {
     let term = v.term;
     let active = v.count;
     let offset = v.offset;
     let id = v.id;
-    if active * term + offset + offset > term * 2147483648 {
+    if begin + offset + offset > term * 2147483648 {
         return Trip {
             next: next,
             error: Error::MaxPositionExceeded,
@@ -110,14 +112,22 @@ fn offer_on(rec: LogRecord, log: &mut [u8], v: Reading, message: &[u8], reserved
 {
     let mtu = v.mtu;
     let count = v.count;
-    let term = v.term;
-    let a = append_message(rec, log, v, count % 3, mtu - 32, message, reserved);
+    let begin = judge::begin_position(v);
+    let a = append_message(
+        rec,
+        log,
+        v,
+        count % 3,
+        mtu - HEADER_LENGTH,
+        message,
+        reserved,
+    );
     let answer = a.answer;
     let next = a.next;
     let Appended::Offset(end) = answer else {
         let Appended::Refused(e) = answer else {
             let term_id = own_term_id(rec, count % 3);
-            let t = after_trip(next, v, rec.active_term_count, term_id);
+            let t = after_trip(next, v, begin, rec.active_term_count, term_id);
             let last = t.next;
             let error = t.error;
             return OfferReply {
@@ -132,7 +142,7 @@ fn offer_on(rec: LogRecord, log: &mut [u8], v: Reading, message: &[u8], reserved
     };
     OfferReply {
         next: next,
-        answer: Offered::Position((count * term + end) as i64),
+        answer: Offered::Position((begin + end) as i64),
     }
 }
 
@@ -170,7 +180,7 @@ fn claiming(
     let claim = Claim {
         partition: k as i32,
         offset: v.offset as i32,
-        length: (n + 32) as i32,
+        length: (n + HEADER_LENGTH) as i32,
         term_id: term_id,
     };
     way::claim_reply(rec, k, way, claim)
@@ -183,7 +193,7 @@ fn claim_on(rec: LogRecord, log: &mut [u8], v: Reading, length: i32) -> ClaimRep
     ensures { λ _. ⌜ now (log .exit) ≡ claimBytes rec (now (log .entry)) length ⌝ }
 {
     let count = v.count;
-    let term = v.term;
+    let begin = judge::begin_position(v);
     let k = count % 3;
     let term_id = own_term_id(rec, k);
     let a = claiming(rec, log, v, k, cast::word(length), term_id);
@@ -191,7 +201,7 @@ fn claim_on(rec: LogRecord, log: &mut [u8], v: Reading, length: i32) -> ClaimRep
     let next = a.next;
     let AppendedClaim::Claimed(end, claim) = answer else {
         let AppendedClaim::Refused(e) = answer else {
-            let t = after_trip(next, v, rec.active_term_count, term_id);
+            let t = after_trip(next, v, begin, rec.active_term_count, term_id);
             let last = t.next;
             let error = t.error;
             return ClaimReply {
@@ -206,7 +216,7 @@ fn claim_on(rec: LogRecord, log: &mut [u8], v: Reading, length: i32) -> ClaimRep
     };
     ClaimReply {
         next: next,
-        answer: Claimed::Position((count * term + end) as i64, claim),
+        answer: Claimed::Position((begin + end) as i64, claim),
     }
 }
 

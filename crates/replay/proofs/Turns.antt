@@ -10,6 +10,10 @@ use lib.IntN.{ℤ, pos}
 use Rattle.model.specs.declared.LogRecord.{LogRecord}
 use Rattle.model.specs.declared.Polled.{Polled}
 use Rattle.model.specs.declared.Polled.the-variants.{Fragments, Refused}
+use Rattle.model.specs.declared.Error.{Error}
+use Rattle.model.specs.declared.Error.the-variants.{IllegalArgument, IllegalRecord}
+use Rattle.model.specs.declared.ReadVerdict.{ReadVerdict}
+use Rattle.model.specs.declared.ReadVerdict.the-variants.{Refuse as NoRead}
 use Rattle.model.specs.declared.Joining.{Joining}
 use Rattle.model.specs.declared.Joining.the-variants.{Through, Ignore, Full, TooLong, Join, Complete}
 use Rattle.model.specs.declared.Verdict.{Verdict}
@@ -19,13 +23,14 @@ use Rattle.model.specs.declared.Assembled.the-variants.{Nothing, Fragment, Mess
 use Rattle.model.specs.declared.Replayed.the-variants.{End}
 use Rattle.model.specs.Bytes.{word, long, u32, i32}
 use Rattle.model.specs.FrameDescriptor.{flagsAt}
-use Rattle.model.specs.LogBufferDescriptor.{readingOf, reading, partitionOf}
-use Rattle.model.specs.TermReader.{natural}
-use Rattle.model.specs.Image.{Image, newImage}
+use Rattle.model.specs.LogBufferDescriptor.{readingOf, reading, sound, partitionOf}
+use Rattle.model.specs.TermReader.{Walked, natural, goodEntries}
+use Rattle.model.specs.Image.{Image, newImage, polledBy, pollVerdict, pollOf}
 use Rattle.model.specs.FragmentAssembler.{Sessions, fresh, assembleVerdict, assembleBy, assembleOf, assembledBy, joining}
 use Rattle.model.specs.Replay.{ReplayState, NextReply, giving, givenBy, assembledTo, pollOne, assembleOne, turnBy, nextFrom, nextOf}
 use Rattle.model.proofs.Choice.{cond-true, cond-false, le-yes, le-no, eq-yes, eq-no}
 use Rattle.logbuffer.proofs.Assembly.{verdict-passed}
+use Rattle.image.proofs.Rungs.{not-good, not-sound}
 use Rattle.image.specs.Images.{stateOf as imageState}
 use Rattle.logbuffer.specs.Assembler.{sessionsOf}
 use Rattle.replay.specs.declared.Replay.{Replay}
@@ -41,6 +46,20 @@ turned-as t b a p buffer e = ap (λ (x : Bool). like x (t .answer) (t .next)) (e
   where
     like : Bool → Replayed → Replay → Turned
     like x y z = record { on = x; answer = y; next = stateOf z buffer }
+
+-- ---- a poll that answers fragments judged the record
+
+refused-none : (w : Walked) (x : ReadVerdict) (e : Error) (n m : ℕ) → NoRead e ≡ x → polledBy w x ≡ Fragments n m → ⊥
+refused-none w x e n m q h = let k : Refused e ≡ Fragments n m = ap (polledBy w) q ∙ h in let z : _≡_ {A = ℕ} 0 1 = cc in omega arith
+
+pub polled-sound : (r : LogRecord) (log : List ℕ) (i : Image) (n m : ℕ) → pollOne r log i .answer ≡ Fragments n m → sound (reading r) (length log) ≡ true
+unfolding pollOf pollVerdict
+polled-sound r log i n m h = go (goodEntries 2 1) (sound (reading r) (length log)) refl refl
+  where
+    go : (g b : Bool) → goodEntries 2 1 ≡ g → sound (reading r) (length log) ≡ b → sound (reading r) (length log) ≡ true
+    go g true eg eb = eb
+    go true false eg eb = absurd (refused-none _ _ IllegalRecord n m (not-sound (goodEntries 2 1) (reading r) (length log) i eg eb _) h)
+    go false false eg eb = absurd (refused-none _ _ IllegalArgument n m (not-good (goodEntries 2 1) (reading r) (length log) i eg _) h)
 
 -- ---- the assembler's answer
 

@@ -1,7 +1,7 @@
 -- A replay of the code with its lent buffer, as the definitions have it; and one turn of it, told without what follows it.
 use Prim.Native.Nat.{ℕ, zero, suc, _+_, _-_, _*_, min}
 use mathlib.Core.Bool.{Bool, true, false, cond}
-use mathlib.Core.List.{List}
+use mathlib.Core.List.{List, [], _∷_}
 use lib.Dec.{eqb, leb}
 use lib.IntN.{ℤ, pos}
 use Rattle.model.specs.declared.LogRecord.{LogRecord}
@@ -12,6 +12,7 @@ use Rattle.model.specs.declared.Assembled.the-variants.{Nothing, Fragment, Mess
 use Rattle.model.specs.declared.Replayed.{Replayed}
 use Rattle.model.specs.declared.Replayed.the-variants.{InLog, InBuffer, End, Refused as ReplayRefused}
 use Rattle.model.specs.Bytes.{long}
+use Rattle.model.specs.Answers.{Told, answered, refused}
 use Rattle.model.specs.LogBufferDescriptor.{reading, partitionOf}
 use Rattle.model.specs.TermReader.{natural}
 use Rattle.model.specs.Image.{Image as ImageState, newImage}
@@ -129,3 +130,8 @@ countFrom (suc left) r log s messages bytes =
 abbrev pub countOf : LogRecord → List ℕ → ℤ → List ℕ → Tally
 countOf r log session buffer =
     countFrom (3 * reading r .term + 1) r log (record { image = newImage (pos 0) session; sessions = fresh; buffer = buffer }) 0 0
+
+-- document 01's number and values: messages, bytes
+abbrev pub countedTold : Counted → Told
+countedTold (Counts messages bytes) = answered (pos messages ∷ pos bytes ∷ [])
+countedTold (CountRefused e) = refused e

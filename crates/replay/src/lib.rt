@@ -16,6 +16,7 @@ use image::Image;
 use image::PollReply;
 use logbuffer::argument;
 use logbuffer::cast;
+use logbuffer::data_frame_header::HEADER_LENGTH;
 use logbuffer::fragment_assembler::FragmentAssembler;
 use logbuffer::log_buffer_descriptor;
 use model::Assembled;
@@ -70,7 +71,11 @@ fn frame_offset(entry: i32) -> usize
     ensures { λ r. ⌜ (r ≡ natural entry - 32) × (r < 2147483648) ⌝ }
 {
     let body = argument::natural(entry);
-    if body < 32 { 0 } else { body - 32 }
+    if body < HEADER_LENGTH {
+        0
+    } else {
+        body - HEADER_LENGTH
+    }
 }
 
 // The replay stays where it is, and this is its answer.
@@ -161,7 +166,9 @@ fn turn(replay: Replay, rec: LogRecord, log: &[u8], buffer: &mut [u8]) -> TurnRe
         return stopped(replay, Replayed::End);
     }
     if m != 0 {
-        return give(next, assembler, rec, log, buffer, p / term % 3, one.entry);
+        let bits = log_buffer_descriptor::position_bits_to_shift(term as u32);
+        let k = log_buffer_descriptor::index_by_position(p as u64, bits);
+        return give(next, assembler, rec, log, buffer, k, one.entry);
     }
     if cast::long(next.position) == p {
         return stopped(replay, Replayed::End);
@@ -189,25 +196,28 @@ impl Replay {
 
     // The next message: where it lies in the log or in the lent buffer; or that there is none. Each turn that goes on moves the image, so
     // three terms bound the turns.
-    pub fn next(self, rec: LogRecord, log: &[u8], buffer: &mut [u8]) -> NextReply
+    pub fn next(mut self, rec: LogRecord, log: &[u8], buffer: &mut [u8]) -> NextReply
         ensures { λ r. ⌜ nextReplyOf r (now (buffer .exit)) ≡ nextOf rec (now (log .entry)) (stateOf self (now (buffer .entry))) ⌝ }
     {
-        let mut replay = self;
         let mut left = 3 * cast::word(rec.term_length) + 1;
         while left > 0 {
-            let t = turn(replay, rec, log, buffer);
+            let t = turn(self, rec, log, buffer);
             let answer = t.answer;
-            replay = t.next;
+            let next = t.next;
+            let image = next.image;
+            let assembler = next.assembler;
+            self.image = image;
+            self.assembler = assembler;
             if !t.on {
                 return NextReply {
-                    next: replay,
+                    next: self,
                     answer: answer,
                 };
             }
             left = left - 1;
         }
         NextReply {
-            next: replay,
+            next: self,
             answer: Replayed::End,
         }
     }

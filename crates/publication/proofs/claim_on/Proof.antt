@@ -5,7 +5,7 @@ use mathlib.Core.Logic.{⊎-elim}
 use mathlib.Core.List.{[], _∷_}
 use Prim.Native.Nat.{ℕ, _+_, _*_, _%_, _≤_, _<_}
 use lib.ListN.{length}
-use lib.IntN.{ℤ}
+use lib.IntN.{ℤ, pos}
 use mir.Syntax.{w32, w64}
 use mir.Val.{toZ, ofZ, SFits}
 use mir.Facts.{toZ-ofZ, toZ-pos}
@@ -48,17 +48,17 @@ part : (s : tie.Start) → s .args .v .count % 3 ≡ active (s .args .rec)
 part s = active-by (s .args .rec) (s .args .v) (s .pre .0)
 
 -- the term id that is handed over is that of the tail
-given-is : (c : tie.After-own-term-id) → (let s = c .before .before in biased (word (toZ w32 (ofZ w32 (c .own-term-id .result)))) ≡ s .args .v .id)
-given-is c = let s = c .before .before in
+given-is : (c : tie.After-own-term-id) → (let s = c .before .before .before in biased (word (toZ w32 (ofZ w32 (c .own-term-id .result)))) ≡ s .args .v .id)
+given-is c = let s = c .before .before .before in
     ap (λ (z : ℤ). biased (word z)) (toZ-ofZ {w = w32} {z = c .own-term-id .result} (search needs)) ∙ c .own-term-id .ensures
     ∙ ap (λ (n : ℕ). readingOf (s .args .rec) n .id) (part s) ∙ sym (ap (λ (x : Reading). x .id) (s .pre .0))
 
-asked : (c : tie.After-word) → c .word .result ≡ word (c .before .before .before .before .args .length)
-asked c = c .word .ensures .0 ∙ ap (ofZ w32) (toZ-ofZ (c .before .before .before .before .fits .length))
+asked : (c : tie.After-word) → c .word .result ≡ word (c .before .before .before .before .before .args .length)
+asked c = c .word .ensures .0 ∙ ap (ofZ w32) (toZ-ofZ (c .before .before .before .before .before .fits .length))
 
 module _ (c : tie.After-claiming) where
   abbrev start : tie.Start
-  start = c .before .before .before .before .before
+  start = c .before .before .before .before .before .before
 
   abbrev k· : ℕ
   k· = start .args .v .count % 3
@@ -84,7 +84,7 @@ module _ (c : tie.After-claiming) where
       omega (arith, claim-end (a .rec) (a .log .now) (a .v) k· (word (a .length)) (a .v .id) (c .claiming .result) (part start) (start .pre .0) refl (does .0) end x h, begin-most (a .v) (bounds _ _ (so start)), so start)
 
 claiming-requires : tie.Need-claiming-requires
-claiming-requires c κs = let s = c .before .before .before .before in (
+claiming-requires c κs = let s = c .before .before .before .before .before in (
   s .pre .0 ∙ ap (readingOf (s .args .rec)) (sym (part s)),
   (omega arith, (subst (λ (n : ℕ). s .args .v .offset + space n ≤ 2147483647) (sym (asked c)) (pass s .room), given-is (c .before .before))),
 )
@@ -92,20 +92,23 @@ claiming-requires c κs = let s = c .before .before .before .before in (
 after-trip-requires : tie.Need-after-trip-requires
 after-trip-requires c κs =
     let d = c .before .before .before .before .before .before in
-    let s = c .before .before .before .before .before .before .before .before .before .before .before in
+    let s = c .before .before .before .before .before .before .before .before .before .before .before .before in
     let a = s .args in
     let e = neither (d .claiming .result .answer) (c .before .before .match .keys2) (c .before .match2 .keys2) in
     let three : length (a .rec .tails) ≡ 3 = search needs in
     let active-fits : SFits w32 (a .rec .«active_term_count») = search needs in (
       bounds _ _ (so s),
-      claim-turns (a .rec) (a .log .now) (a .v) (a .v .count % 3) (word (a .length)) (a .v .id) (d .claiming .result) (part s) (s .pre .0) refl (does d .0)
-          (toZ w32 (ofZ w32 (a .rec .«active_term_count»))) (toZ w32 (ofZ w32 (d .before .before .before .own-term-id .result))) (toZ-ofZ active-fits) (given-is (d .before .before .before)) three e,
+      (
+        c .before .before .before .before .before .before .before .before .before .before .begin-position .ensures,
+        claim-turns (a .rec) (a .log .now) (a .v) (a .v .count % 3) (word (a .length)) (a .v .id) (d .claiming .result) (part s) (s .pre .0) refl (does d .0)
+            (toZ w32 (ofZ w32 (a .rec .«active_term_count»))) (toZ w32 (ofZ w32 (d .before .before .before .own-term-id .result))) (toZ-ofZ active-fits) (given-is (d .before .before .before)) three e,
+      ),
     )
 
 returns : tie.Need-returns
 returns c =
     let d = c .before .before .before .before .before .before .before .before in
-    let a = c .before .before .before .before .before .before .before .before .before .before .before .before .before .args in
+    let a = c .before .before .before .before .before .before .before .before .before .before .before .before .before .before .args in
     let e = neither (d .claiming .result .answer) (c .before .before .before .before .match .keys2) (c .before .before .before .match2 .keys2) in (
       ap₂ (λ (n : LogRecord) (x : Error). record { next = n; answer = Declined x }) (c .before .after-trip .ensures .0) (c .before .after-trip .ensures .1)
           ∙ sym (ap (afterBy (a .v) (d .claiming .result .next)) e) ∙ law d .0,
@@ -115,23 +118,25 @@ returns c =
 returns-2 : tie.Need-returns-2
 returns-2 c =
     let d = c .before .before .before .before .before .before .before in
-    let a = c .before .before .before .before .before .before .before .before .before .before .before .before .args in
+    let a = c .before .before .before .before .before .before .before .before .before .before .before .before .before .args in
     (sym (ap (afterBy (a .v) (d .claiming .result .next)) (c .before .answer2 .given .1)) ∙ law d .0, law d .1)
 
-mul-t20 : tie.Need-mul-t20
-mul-t20 c = omega (arith, ends (c .before .before .before .before .before .before) _ _ (c .before .answer .given .1))
+begin-position-requires : tie.Need-begin-position-requires
+begin-position-requires c κs = let s = c .before in (bounds _ _ (so s), so s .one-bit)
 
-add-t23 : tie.Need-add-t23
-add-t23 c = omega (arith, ends (c .before .before .before .before .before .before) _ _ (c .before .answer .given .1))
+add-t20 : tie.Need-add-t20
+add-t20 c = omega (arith, ends (c .before .before .before .before .before .before) _ _ (c .before .answer .given .1), c .before .before .before .before .before .before .before .before .before .before .begin-position .ensures)
 
-cast-t24 : tie.Need-cast-t24
-cast-t24 c = record { sfits = ends (c .before .before .before .before .before .before) _ _ (c .before .answer .given .1) }
+cast-t23 : tie.Need-cast-t23
+cast-t23 c = record { sfits = omega (arith, ends (c .before .before .before .before .before .before) _ _ (c .before .answer .given .1), c .before .before .before .before .before .before .before .before .before .before .begin-position .ensures) }
 
 returns-3 : tie.Need-returns-3
 returns-3 c =
     let d = c .before .before .before .before .before .before in
-    let a = c .before .before .before .before .before .before .before .before .before .before .before .args in (
-      ap {B = ClaimReply} (λ (z : ℤ). record { next = d .claiming .result .next; answer = Position z (c .before .answer .given .0 .1 .0) }) (toZ-pos w64 (ends d _ _ (c .before .answer .given .1)))
+    let a = c .before .before .before .before .before .before .before .before .before .before .before .before .args in
+    let begin = c .before .before .before .before .before .before .before .before .before .before .begin-position .ensures in
+    let end = c .before .answer .given .0 .0 in (
+      ap {B = ClaimReply} (λ (z : ℤ). record { next = d .claiming .result .next; answer = Position z (c .before .answer .given .0 .1 .0) }) (toZ-pos w64 (omega (arith, ends d _ _ (c .before .answer .given .1), begin)) ∙ ap (λ (x : ℕ). pos (x + end)) begin)
           ∙ sym (ap (afterBy (a .v) (d .claiming .result .next)) (c .before .answer .given .1)) ∙ law d .0,
       law d .1,
     )
@@ -140,6 +145,7 @@ pub claim-on-spec : {M : Type 1} → statement M
 claim-on-spec =
     tie.close
     (tie.spec
+    begin-position-requires
     (search needs)
     (search needs)
     claiming-requires
@@ -150,8 +156,7 @@ claim-on-spec =
     returns
     (search needs)
     returns-2
-    mul-t20
-    add-t23
-    cast-t24
+    add-t20
+    cast-t23
     (search needs)
     returns-3)

@@ -5,7 +5,7 @@ use mathlib.Core.Logic.{⊎-elim}
 use mathlib.Core.List.{[], _∷_}
 use Prim.Native.Nat.{ℕ, _+_, _*_, _%_, _<_}
 use lib.ListN.{length}
-use lib.IntN.{ℤ}
+use lib.IntN.{ℤ, pos}
 use mir.Syntax.{w32, w64}
 use mir.Val.{toZ, ofZ, SFits}
 use mir.Facts.{toZ-ofZ, toZ-pos}
@@ -47,7 +47,7 @@ part s = active-by (s .args .rec) (s .args .v) (s .pre .0)
 -- what the append leads to
 module _ (c : tie.After-append-message) where
   abbrev start : tie.Start
-  start = c .before .before .before .before
+  start = c .before .before .before .before .before
 
   law : (after (start .args .v) (c .append-message .result) ≡ offerOf (start .args .rec) (start .args .log .now) (start .args .message .now))
       × (c .append-message .last .1 .0 ≡ offerBytes (start .args .rec) (start .args .log .now) (start .args .message .now) (start .args .reserved))
@@ -67,34 +67,37 @@ module _ (c : tie.After-append-message) where
       )
 
 sub-append-message : tie.Need-sub-append-message
-sub-append-message c = omega (arith, so (c .before .before .before) .mtu-low)
+sub-append-message c = omega (arith, so (c .before .before .before .before) .mtu-low)
 
 append-message-requires : tie.Need-append-message-requires
-append-message-requires c κs = let s = c .before .before .before in (s .pre .0 ∙ ap (readingOf (s .args .rec)) (sym (part s)), (omega arith, (omega (arith, so s .mtu-low), (omega (arith, so s .mtu-high), (omega (arith, so s .mtu-32, so s .mtu-low), pass s .short)))))
+append-message-requires c κs = let s = c .before .before .before .before in (s .pre .0 ∙ ap (readingOf (s .args .rec)) (sym (part s)), (omega arith, (omega (arith, so s .mtu-low), (omega (arith, so s .mtu-high), (omega (arith, so s .mtu-32, so s .mtu-low), pass s .short)))))
 
 -- the term id that is handed over is that of the tail
-given-is : (c : tie.After-own-term-id) → (let s = c .before .before .before .before .before .before .before .before .before .before in biased (word (toZ w32 (ofZ w32 (c .own-term-id .result)))) ≡ s .args .v .id)
-given-is c = let s = c .before .before .before .before .before .before .before .before .before .before in
+given-is : (c : tie.After-own-term-id) → (let s = c .before .before .before .before .before .before .before .before .before .before .before in biased (word (toZ w32 (ofZ w32 (c .own-term-id .result)))) ≡ s .args .v .id)
+given-is c = let s = c .before .before .before .before .before .before .before .before .before .before .before in
     ap (λ (z : ℤ). biased (word z)) (toZ-ofZ {w = w32} {z = c .own-term-id .result} (search needs)) ∙ c .own-term-id .ensures
     ∙ ap (λ (n : ℕ). readingOf (s .args .rec) n .id) (part s) ∙ sym (ap (λ (x : Reading). x .id) (s .pre .0))
 
 after-trip-requires : tie.Need-after-trip-requires
 after-trip-requires c κs =
     let d = c .before .before .before .before .before .before .before in
-    let s = c .before .before .before .before .before .before .before .before .before .before .before in
+    let s = c .before .before .before .before .before .before .before .before .before .before .before .before in
     let a = s .args in
     let e = neither (d .append-message .result .answer) (c .before .before .before .match .keys2) (c .before .before .match2 .keys2) in
     let three : length (a .rec .tails) ≡ 3 = search needs in
     let active-fits : SFits w32 (a .rec .«active_term_count») = search needs in (
       bounds _ _ (so s),
-      turns-by (a .rec) (a .log .now) (a .message .now) (a .v) (a .v .count % 3) (a .v .id) (d .append-message .result) (part s) (s .pre .0) refl (d .append-message .ensures .0)
-          (toZ w32 (ofZ w32 (a .rec .«active_term_count»))) (toZ w32 (ofZ w32 (c .before .own-term-id .result))) (toZ-ofZ active-fits) (given-is (c .before)) three (omega (arith, so s .mtu-32, so s .mtu-low)) e,
+      (
+        c .before .before .before .before .before .before .before .before .before .begin-position .ensures,
+        turns-by (a .rec) (a .log .now) (a .message .now) (a .v) (a .v .count % 3) (a .v .id) (d .append-message .result) (part s) (s .pre .0) refl (d .append-message .ensures .0)
+            (toZ w32 (ofZ w32 (a .rec .«active_term_count»))) (toZ w32 (ofZ w32 (c .before .own-term-id .result))) (toZ-ofZ active-fits) (given-is (c .before)) three (omega (arith, so s .mtu-32, so s .mtu-low)) e,
+      ),
     )
 
 returns : tie.Need-returns
 returns c =
     let d = c .before .before .before .before .before .before .before .before .before in
-    let a = c .before .before .before .before .before .before .before .before .before .before .before .before .before .args in
+    let a = c .before .before .before .before .before .before .before .before .before .before .before .before .before .before .args in
     let e = neither (d .append-message .result .answer) (c .before .before .before .before .before .match .keys2) (c .before .before .before .before .match2 .keys2) in (
       ap₂ (λ (n : LogRecord) (x : Error). record { next = n; answer = Declined x }) (c .before .after-trip .ensures .0) (c .before .after-trip .ensures .1)
           ∙ sym (ap (afterBy (a .v) (d .append-message .result .next)) e) ∙ law d .0,
@@ -104,23 +107,25 @@ returns c =
 returns-2 : tie.Need-returns-2
 returns-2 c =
     let d = c .before .before .before .before .before .before .before in
-    let a = c .before .before .before .before .before .before .before .before .before .before .before .args in
+    let a = c .before .before .before .before .before .before .before .before .before .before .before .before .args in
     (sym (ap (afterBy (a .v) (d .append-message .result .next)) (c .before .answer2 .given .1)) ∙ law d .0, law d .1)
 
-mul-t20 : tie.Need-mul-t20
-mul-t20 c = omega (arith, ends (c .before .before .before .before .before .before) _ (c .before .answer .given .1))
+begin-position-requires : tie.Need-begin-position-requires
+begin-position-requires c κs = let s = c .before .before in (bounds _ _ (so s), so s .one-bit)
 
-add-t21 : tie.Need-add-t21
-add-t21 c = omega (arith, ends (c .before .before .before .before .before .before) _ (c .before .answer .given .1))
+add-t20 : tie.Need-add-t20
+add-t20 c = omega (arith, ends (c .before .before .before .before .before .before) _ (c .before .answer .given .1), c .before .before .before .before .before .before .before .before .begin-position .ensures)
 
 cast-t25 : tie.Need-cast-t25
-cast-t25 c = record { sfits = ends (c .before .before .before .before .before .before) _ (c .before .answer .given .1) }
+cast-t25 c = record { sfits = omega (arith, ends (c .before .before .before .before .before .before) _ (c .before .answer .given .1), c .before .before .before .before .before .before .before .before .begin-position .ensures) }
 
 returns-3 : tie.Need-returns-3
 returns-3 c =
     let d = c .before .before .before .before .before .before in
-    let a = c .before .before .before .before .before .before .before .before .before .before .args in (
-      ap {B = OfferReply} (λ (z : ℤ). record { next = d .append-message .result .next; answer = Position z }) (toZ-pos w64 (ends d _ (c .before .answer .given .1)))
+    let a = c .before .before .before .before .before .before .before .before .before .before .before .args in
+    let begin = c .before .before .before .before .before .before .before .before .begin-position .ensures in
+    let end = c .before .answer .given .0 .0 in (
+      ap {B = OfferReply} (λ (z : ℤ). record { next = d .append-message .result .next; answer = Position z }) (toZ-pos w64 (omega (arith, ends d _ (c .before .answer .given .1), begin)) ∙ ap (λ (x : ℕ). pos (x + end)) begin)
           ∙ sym (ap (afterBy (a .v) (d .append-message .result .next)) (c .before .answer .given .1)) ∙ law d .0,
       law d .1,
     )
@@ -129,6 +134,7 @@ pub offer-on-spec : {M : Type 1} → statement M
 offer-on-spec =
     tie.close
     (tie.spec
+    begin-position-requires
     sub-append-message
     append-message-requires
     (search needs)
@@ -139,8 +145,7 @@ offer-on-spec =
     returns
     (search needs)
     returns-2
-    mul-t20
-    add-t21
+    add-t20
     cast-t25
     (search needs)
     returns-3)

@@ -2,7 +2,9 @@
 use mathlib.Core.Path.{_≡_, sym, ap, ap₂, _∙_}
 use mathlib.Core.Bool.{false}
 use mathlib.Core.List.{List}
-use Prim.Native.Nat.{ℕ, _/_, _%_}
+use Prim.Native.Nat.{ℕ, _≤_}
+use lib.Count.{ones}
+use lib.ListN.{length}
 use mir.Syntax.{w32}
 use mir.Facts.{toZ-ofZ}
 use native.Mathlib.Omega.{arith}
@@ -10,14 +12,16 @@ use Rattle.model.specs.declared.Reading.{Reading}
 use Rattle.model.specs.declared.Polled.{Polled}
 use Rattle.model.specs.declared.Polled.the-variants.{Fragments, Refused}
 use Rattle.model.specs.Bytes.{long}
-use Rattle.model.specs.LogBufferDescriptor.{reading}
+use Rattle.model.specs.LogBufferDescriptor.{reading, Sound, partitionOf, indexByPosition}
 use Rattle.model.specs.Image.{Image}
 use Rattle.model.specs.Replay.{ReplayState, pollOne}
 use Rattle.image.specs.Images.{stateOf as imageState, pollReplyOf}
 use Rattle.image.specs.declared.PollReply.{PollReply}
+use Rattle.model.proofs.Sound.{sound-true}
 use Rattle.logbuffer.proofs.Signed.{long-by}
+use Rattle.logbuffer.proofs.Shifts.{partition-by}
 use Rattle.replay.specs.Replays.{stateOf, refusalBy, stops, goesOn, turnSaid, turnOf}
-use Rattle.replay.proofs.Turns.{turned-as, fragment-one, turn-end, turn-fragment, turn-quiet, turn-padding}
+use Rattle.replay.proofs.Turns.{polled-sound, turned-as, fragment-one, turn-end, turn-fragment, turn-quiet, turn-padding}
 use borrow.Author.Needs.{needs}
 use Rattle.replay.proofs.turn.Statement.{statement}
 use Rattle.replay.proofs.turn.Tie as tie
@@ -59,13 +63,33 @@ returns-2 c =
     turned-as (c .stopped2 .result) false _ _ (st (c .before .before .before .before .before .before .before) .args .buffer .now) (c .stopped2 .ensures)
     ∙ turn-end (st (c .before .before .before .before .before .before .before) .args .rec) (log (c .before .before .before .before .before .before .before)) (S (c .before .before .before .before .before .before .before)) (c .before .before .before .answer .given .0 .0) (c .before .before .before .answer .given .0 .1 .0) (omega (arith, term-is (c .before .before .before .before .before .before .before), p-is (c .before .before .before .before .before .before .before), c .before .if1)) ∙ answered (c .before .before .before .before .before .before .before) (Fragments (c .before .before .before .answer .given .0 .0) (c .before .before .before .answer .given .0 .1 .0)) (c .before .before .before .answer .given .1)
 
+-- a poll that answers fragments found the record sound
+so : (c : tie.Else1) → Sound (reading (st (c .before .before .before .before .before .before) .args .rec)) (length (log (c .before .before .before .before .before .before)))
+so c = let q = c .before .before .before .before .before .before in sound-true _ _ (polled-sound (st q .args .rec) (log q) (S q .image) _ _ (sym (ap (λ (y : PollReply). y .answer) (polled q)) ∙ c .before .before .answer .given .1))
+
+cast-position-bits-to-shift : tie.Need-cast-position-bits-to-shift
+cast-position-bits-to-shift c = omega (arith, term-is (c .before .before .before .before .before .before .before), so (c .before) .term-high)
+
+part-is : (c : tie.After-index-by-position) → c .index-by-position .result ≡ partitionOf (long (S (c .before .before .before .before .before .before .before .before .before) .image .position)) (reading (st (c .before .before .before .before .before .before .before .before .before) .args .rec) .term)
+part-is c =
+    let q = c .before .before .before .before .before .before .before .before .before in
+    let k = so (c .before .before .before) in
+    let term = q .before .before .before .before .before .read-active .result .term in
+    let high : term ≤ 1073741824 = omega (arith, term-is q, k .term-high) in
+    let one : ones term ≡ 1 = ap ones (term-is q) ∙ k .one-bit in
+    c .index-by-position .ensures ∙ ap (indexByPosition (q .before .long .result)) (c .before .position-bits-to-shift .ensures) ∙ partition-by term high one (q .before .long .result)
+    ∙ ap₂ partitionOf (p-is q) (term-is q)
+
+give-requires : tie.Need-give-requires
+give-requires c κs = omega (arith, c .before .before .index-by-position .ensures)
+
 returns-3 : tie.Need-returns-3
 returns-3 c =
     c .before .before .give .ensures
-    ∙ fragment-one (st (c .before .before .before .before .before .before .before .before .before .before .before .before) .args .rec) (log (c .before .before .before .before .before .before .before .before .before .before .before .before)) (S (c .before .before .before .before .before .before .before .before .before .before .before .before)) (c .before .before .before .before .before .before .before .before .answer .given .0 .0) (c .before .before .before .before .before .before .before .before .answer .given .0 .1 .0) _ _ _ (next-is (c .before .before .before .before .before .before .before .before .before .before .before .before))
-    (ap₂ (λ (x y : ℕ). x / y % 3) (p-is (c .before .before .before .before .before .before .before .before .before .before .before .before)) (term-is (c .before .before .before .before .before .before .before .before .before .before .before .before))) (toZ-ofZ {w = w32} {z = c .before .before .before .before .before .before .before .before .before .before .before .before .poll-one .result .entry} (search needs) ∙ c .before .before .before .before .before .before .before .before .before .before .before .before .poll-one .ensures .1)
-    ∙ turn-fragment (st (c .before .before .before .before .before .before .before .before .before .before .before .before) .args .rec) (log (c .before .before .before .before .before .before .before .before .before .before .before .before)) (S (c .before .before .before .before .before .before .before .before .before .before .before .before)) (c .before .before .before .before .before .before .before .before .answer .given .0 .0) (c .before .before .before .before .before .before .before .before .answer .given .0 .1 .0) (omega (arith, term-is (c .before .before .before .before .before .before .before .before .before .before .before .before), p-is (c .before .before .before .before .before .before .before .before .before .before .before .before), c .before .before .before .before .before .before .if1 .left)) (c .before .before .before .before .before .if2 .taken)
-    ∙ answered (c .before .before .before .before .before .before .before .before .before .before .before .before) (Fragments (c .before .before .before .before .before .before .before .before .answer .given .0 .0) (c .before .before .before .before .before .before .before .before .answer .given .0 .1 .0)) (c .before .before .before .before .before .before .before .before .answer .given .1)
+    ∙ fragment-one (st (c .before .before .before .before .before .before .before .before .before .before .before .before .before .before) .args .rec) (log (c .before .before .before .before .before .before .before .before .before .before .before .before .before .before)) (S (c .before .before .before .before .before .before .before .before .before .before .before .before .before .before)) (c .before .before .before .before .before .before .before .before .before .before .answer .given .0 .0) (c .before .before .before .before .before .before .before .before .before .before .answer .given .0 .1 .0) _ _ _ (next-is (c .before .before .before .before .before .before .before .before .before .before .before .before .before .before))
+    (part-is (c .before .before .before .before .before)) (toZ-ofZ {w = w32} {z = c .before .before .before .before .before .before .before .before .before .before .before .before .before .before .poll-one .result .entry} (search needs) ∙ c .before .before .before .before .before .before .before .before .before .before .before .before .before .before .poll-one .ensures .1)
+    ∙ turn-fragment (st (c .before .before .before .before .before .before .before .before .before .before .before .before .before .before) .args .rec) (log (c .before .before .before .before .before .before .before .before .before .before .before .before .before .before)) (S (c .before .before .before .before .before .before .before .before .before .before .before .before .before .before)) (c .before .before .before .before .before .before .before .before .before .before .answer .given .0 .0) (c .before .before .before .before .before .before .before .before .before .before .answer .given .0 .1 .0) (omega (arith, term-is (c .before .before .before .before .before .before .before .before .before .before .before .before .before .before), p-is (c .before .before .before .before .before .before .before .before .before .before .before .before .before .before), c .before .before .before .before .before .before .before .before .if1 .left)) (c .before .before .before .before .before .before .before .if2 .taken)
+    ∙ answered (c .before .before .before .before .before .before .before .before .before .before .before .before .before .before) (Fragments (c .before .before .before .before .before .before .before .before .before .before .answer .given .0 .0) (c .before .before .before .before .before .before .before .before .before .before .answer .given .0 .1 .0)) (c .before .before .before .before .before .before .before .before .before .before .answer .given .1)
 
 returns-4 : tie.Need-returns-4
 returns-4 c =
@@ -92,8 +116,10 @@ turn-spec =
     returns
     (search needs)
     returns-2
+    cast-position-bits-to-shift
     (search needs)
     (search needs)
+    give-requires
     (search needs)
     returns-3
     (search needs)

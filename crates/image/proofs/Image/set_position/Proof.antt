@@ -6,7 +6,6 @@ use Rattle.model.specs.Image.{movedTo}
 use Rattle.model.specs.Bytes.{long}
 use Rattle.model.specs.declared.Outcome.the-variants.{Done}
 use Rattle.logbuffer.proofs.Signed.{long-by}
-use Rattle.image.specs.declared.Image.{Image}
 use Rattle.image.specs.declared.ImageReply.{ImageReply}
 use Rattle.image.specs.Images.{stateOf, imageOf, imageReplyOf}
 use Rattle.image.proofs.Settings.{as-set}
@@ -25,16 +24,16 @@ returns-2 c = let a = c .before .before .before .before .before .before .args in
 
 returns-3 : tie.Need-returns-3
 returns-3 c =
-    let a = c .before .before .before .before .before .before .before .args in
-    let made : Image → ImageReply = λ (z : Image). record { next = z; answer = Done } in
-    let next : c .moved-to .result ≡ imageOf (movedTo (stateOf (a .self)) (a .new-position)) = c .moved-to .ensures ∙ ap (λ (z : ℤ). imageOf (movedTo (stateOf (a .self)) z)) (toZ-ofZ (c .before .before .before .before .before .before .before .fits .new-position)) in
-    ap made next ∙ ap imageReplyOf (as-set (a .rec) (a .log .now) (stateOf (a .self)) _ (c .before .before .before .before .before .read-active .ensures) (a .new-position) _ _ (p-is (c .before .before .before .before)) (sym (c .before .enum-told2 .given .1) ∙ c .before .before .before .reach .ensures))
+    let s = c .before .before .before .before .before .before in
+    let a = s .args in
+    let made : ℤ → ImageReply = λ (z : ℤ). record { next = imageOf (movedTo (stateOf (a .self)) z); answer = Done } in
+    ap made (toZ-ofZ (s .fits .new-position))
+    ∙ ap imageReplyOf (as-set (a .rec) (a .log .now) (stateOf (a .self)) _ (c .before .before .before .before .read-active .ensures) (a .new-position) _ _ (p-is (c .before .before .before)) (sym (c .enum-told2 .given .1) ∙ c .before .before .reach .ensures))
 
 pub set-position-spec : {M : Type 1} → statement M
 set-position-spec =
     tie.close
     (tie.spec
-    (search needs)
     (search needs)
     (search needs)
     (search needs)

@@ -6,20 +6,19 @@ use Prim.Native.Nat.{ℕ, _+_, _-_, _%_, _≤_}
 use lib.ListN.{length}
 use lib.IntN.{ℤ, pos}
 use mir.Syntax.{w64, w32}
-use mir.Val.{SFits}
-use mir.Facts.{toZ-ofZ}
+use mir.Val.{SFits, toZ, ofZ}
+use mir.Facts.{toZ-ofZ, toZ-pos}
 use Rattle.model.specs.declared.BlockPolled.{BlockPolled}
-use Rattle.model.specs.declared.BlockPolled.the-variants.{Block}
+use Rattle.model.specs.declared.BlockPolled.the-variants.{Block, Refused}
 use Rattle.model.specs.declared.ReadVerdict.{ReadVerdict}
 use Rattle.model.specs.declared.ReadVerdict.the-variants.{Read}
 use Rattle.model.specs.declared.Error.the-variants.{UnsoundFrame}
 use Rattle.model.specs.Bytes.{long}
-use Rattle.model.specs.Image.{movedTo, refuseIf, unsoundAt, blockEnd, blockLength}
+use Rattle.model.specs.Image.{refuseIf, unsoundAt, blockEnd, blockLength}
 use Rattle.logbuffer.proofs.Signed.{long-by}
-use Rattle.image.specs.declared.Image.{Image}
-use Rattle.image.specs.declared.BlockReply.{BlockReply}
-use Rattle.image.specs.Images.{stateOf, imageOf, blockReplyOf, blockSaid}
-use Rattle.image.proofs.Places.{At, at-place}
+use Rattle.image.specs.declared.block.BlockTo.{BlockTo}
+use Rattle.image.specs.Images.{stateOf, blockTo, blockSaid}
+use Rattle.image.proofs.Places.{At, at-place, term-length}
 use Rattle.image.proofs.Blocks.{block-unsound, block-sound, block-size, block-in, block-empty, block-some}
 use borrow.Author.Needs.{needs}
 use Rattle.image.proofs.block.block_at.Statement.{statement}
@@ -56,14 +55,15 @@ to c = c .before .before .before .before .before .long .result + (c .before .sto
 to-high : (c : tie.After-known-told) → to c ≤ 4611686018427387904
 to-high c = omega (arith, p-high (c .before .before .before .before .before), stop-in c .1, place (c .before .before .before .before .before) .term-high)
 
-next-is : (c : tie.After-moved-to) → c .moved-to .result ≡ imageOf (movedTo (stateOf (c .before .before .before .before .before .before .before .before .before .args .image)) (pos (long (c .before .before .before .before .before .before .before .before .before .args .image .position) + blockLength (c .before .before .before .before .before .before .before .before .before .args .v) (c .before .before .before .before .before .before .before .before .before .args .log .now) (long (c .before .before .before .before .before .before .before .before .before .args .image .position)) (c .before .before .before .before .before .before .before .before .before .args .limit))))
-next-is c =
-    let i = stateOf (c .before .before .before .before .before .before .before .before .before .args .image) in
-    let h : SFits w64 (pos (to (c .before))) = record { sfits = omega (arith, to-high (c .before)) } in
-    c .moved-to .ensures ∙ ap (λ (z : ℤ). imageOf (movedTo i z)) (toZ-ofZ h) ∙ ap₂ (λ (x y : ℕ). imageOf (movedTo i (pos (x + y)))) (p-is (c .before .before .before .before .before .before)) (size-is (c .before))
+-- the same by the offset as the code has it
+size-at : (c : tie.After-offset-of) → c .before .before .stop .given .0 .0 - c .offset-of .result ≡ blockLength (c .before .before .before .before .before .before .before .before .before .args .v) (c .before .before .before .before .before .before .before .before .before .args .log .now) (long (c .before .before .before .before .before .before .before .before .before .args .image .position)) (c .before .before .before .before .before .before .before .before .before .args .limit)
+size-at c = ap (λ (x : ℕ). c .before .before .stop .given .0 .0 - x) (c .offset-of .ensures) ∙ size-is (c .before)
 
-abbrev said : (s : tie.Start) → ReadVerdict → BlockReply
-said s x = blockReplyOf (blockSaid (s .args .v) (s .args .log .now) (stateOf (s .args .image)) (s .args .limit) x)
+position-is : (c : tie.After-offset-of) → toZ w64 (c .before .before .before .before .before .before .long .result + (c .before .before .stop .given .0 .0 - c .offset-of .result)) ≡ pos (long (c .before .before .before .before .before .before .before .before .before .args .image .position) + blockLength (c .before .before .before .before .before .before .before .before .before .args .v) (c .before .before .before .before .before .before .before .before .before .args .log .now) (long (c .before .before .before .before .before .before .before .before .before .args .image .position)) (c .before .before .before .before .before .before .before .before .before .args .limit))
+position-is c = toZ-pos w64 (omega (arith, to-high (c .before), c .offset-of .ensures)) ∙ ap₂ (λ (x y : ℕ). pos (x + y)) (p-is (c .before .before .before .before .before .before)) (size-at c)
+
+abbrev said : (s : tie.Start) → ReadVerdict → BlockTo
+said s x = blockTo (blockSaid (s .args .v) (s .args .log .now) (stateOf (s .args .image)) (s .args .limit) x)
 
 abbrev judged : Bool → ReadVerdict
 judged b = refuseIf b UnsoundFrame Read
@@ -74,32 +74,37 @@ sound-is c = let a = c .before .before .before .before .before .before .before .
 add-end-offset : tie.Need-add-end-offset
 add-end-offset c = omega (arith, p-high c, c .before .before .before .pre .1 .1 .1 .1)
 
+end-offset-requires : tie.Need-end-offset-requires
+end-offset-requires c κs = term-length _ _ (c .before .before .before .pre .1 .0)
+
 scan-at-requires : tie.Need-scan-at-requires
 scan-at-requires c κs = let s = c .before .before .before .before in (s .pre .0, (s .pre .1 .0, (p-32 (c .before), omega (arith, c .end-offset .ensures))))
 
 returns : tie.Need-returns
 returns c =
-    let a = c .before .before .before .before .before .before .before .args in
-    let u = block-unsound (a .v) (a .log .now) (a .limit) _ _ _ (p-is (c .before .before .before .before)) (c .before .before .before .end-offset .ensures) _ (c .before .before .scan-at .ensures) _ (c .enum-told .given .1) in
-    ap (λ (b : Bool). said (c .before .before .before .before .before .before .before) (judged b)) (sym u)
+    let s = c .before .before .before .before .before .before .before .before in
+    let a = s .args in
+    let f : SFits w64 (a .image .position) = search needs in
+    let u = block-unsound (a .v) (a .log .now) (a .limit) _ _ _ (p-is (c .before .before .before .before .before)) (c .before .before .before .before .end-offset .ensures) _ (c .before .before .before .scan-at .ensures) _ (c .before .enum-told .given .1) in
+    ap {B = BlockTo} (λ (z : ℤ). record { position = z; answer = Refused UnsoundFrame }) (toZ-ofZ f) ∙ ap (λ (b : Bool). said s (judged b)) (sym u)
 
-rem-at : tie.Need-rem-at
-rem-at c = omega (arith, place (c .before .before .before .before .before) .some)
+offset-of-requires : tie.Need-offset-of-requires
+offset-of-requires c κs = term-length _ _ (c .before .before .before .before .before .before .before .before .pre .1 .0)
 
 sub-n : tie.Need-sub-n
-sub-n c = stop-in c .0
+sub-n c = omega (arith, c .offset-of .ensures, stop-in (c .before) .0)
 
-add-moved-to : tie.Need-add-moved-to
-add-moved-to c = record { fits = omega (arith, to-high c) }
+add-position : tie.Need-add-position
+add-position c = record { fits = omega (arith, c .offset-of .ensures, to-high (c .before)) }
 
-cast-moved-to : tie.Need-cast-moved-to
-cast-moved-to c = record { sfits = omega (arith, to-high c) }
+cast-position : tie.Need-cast-position
+cast-position c = record { sfits = omega (arith, c .offset-of .ensures, to-high (c .before)) }
 
 returns-2 : tie.Need-returns-2
 returns-2 c =
     let s = c .before .before .before .before .before .before .before .before .before .before in
-    let made : Image → BlockPolled → BlockReply = λ (z : Image) (b : BlockPolled). record { next = z; answer = b } in
-    ap₂ made (next-is (c .before)) (block-empty (s .args .v) (s .args .log .now) (stateOf (s .args .image)) (s .args .limit) _ (size-is (c .before .before)) (c .if1 .taken)) ∙ ap (said s) (sound-is (c .before .before))
+    let made : ℤ → BlockPolled → BlockTo = λ (z : ℤ) (b : BlockPolled). record { position = z; answer = b } in
+    ap₂ made (position-is (c .before)) (block-empty (s .args .v) (s .args .log .now) (stateOf (s .args .image)) (s .args .limit) _ (size-at (c .before)) (c .if1 .taken)) ∙ ap (said s) (sound-is (c .before .before))
 
 term-id-at-requires : tie.Need-term-id-at-requires
 term-id-at-requires c κs = let s = c .before .before .before .before .before .before .before .before .before .before in (s .pre .0, (s .pre .1 .0, p-32 (c .before .before .before .before .before .before .before)))
@@ -107,14 +112,16 @@ term-id-at-requires c κs = let s = c .before .before .before .before .before .b
 returns-3 : tie.Need-returns-3
 returns-3 c =
     let s = c .before .before .before .before .before .before .before .before .before .before .before .before in
-    let made : Image → BlockPolled → BlockReply = λ (z : Image) (b : BlockPolled). record { next = z; answer = b } in
-    let at = c .before .before .before .before .before .before .before .before .before .long .result % s .args .v .term in
-    let told : ℤ → ℤ → BlockPolled = λ (y z : ℤ). Block at (c .before .before .before .before .before .stop .given .0 .0 - at) y z in
+    let q = c .before .before .before in
+    let made : ℤ → BlockPolled → BlockTo = λ (z : ℤ) (b : BlockPolled). record { position = z; answer = b } in
+    let n = q .before .before .stop .given .0 .0 - q .offset-of .result in
+    let told : ℕ → ℤ → ℤ → BlockPolled = λ (x : ℕ) (y z : ℤ). Block x n y z in
+    let at = q .before .before .before .before .before .before .long .result % s .args .v .term in
     let f : SFits w32 (s .args .image .«session_id») = search needs in
     let g : SFits w32 (c .before .term-id-at .result) = search needs in
-    ap₂ made (next-is (c .before .before .before))
-    (ap₂ told (toZ-ofZ f) (toZ-ofZ g) ∙ block-some (s .args .v) (s .args .log .now) (stateOf (s .args .image)) (s .args .limit) _ (size-is (c .before .before .before .before)) _ _ (c .before .before .if1 .left) (p-is (c .before .before .before .before .before .before .before .before .before)) (c .before .term-id-at .ensures))
-    ∙ ap (said s) (sound-is (c .before .before .before .before))
+    ap₂ made (position-is q)
+    (ap (λ (x : ℕ). told x (toZ w32 (ofZ w32 (s .args .image .«session_id»))) (toZ w32 (ofZ w32 (c .before .term-id-at .result)))) (q .offset-of .ensures) ∙ ap₂ (told at) (toZ-ofZ f) (toZ-ofZ g) ∙ block-some (s .args .v) (s .args .log .now) (stateOf (s .args .image)) (s .args .limit) _ (size-at q) _ _ (c .before .before .if1 .left) (p-is (q .before .before .before .before .before .before)) (c .before .term-id-at .ensures))
+    ∙ ap (said s) (sound-is (q .before))
 
 pub block-at-spec : {M : Type 1} → statement M
 block-at-spec =
@@ -122,16 +129,15 @@ block-at-spec =
     (tie.spec
     (search needs)
     add-end-offset
-    (search needs)
+    end-offset-requires
     scan-at-requires
     (search needs)
     (search needs)
     returns
-    rem-at
+    offset-of-requires
     sub-n
-    add-moved-to
-    cast-moved-to
-    (search needs)
+    add-position
+    cast-position
     returns-2
     term-id-at-requires
     returns-3)

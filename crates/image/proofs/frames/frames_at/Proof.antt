@@ -1,10 +1,20 @@
 -- The place of the position, and the leaf library's walk from it.
-use mathlib.Core.Path.{sym, _∙_}
+use mathlib.Core.Path.{sym, ap₂, subst, _∙_}
+use mathlib.Core.Bool.{cond}
+use mathlib.Core.List.{List}
 use native.Mathlib.Omega.{arith}
-use Prim.Native.Nat.{_*_, _/_, _%_}
+use Prim.Native.Nat.{ℕ, _*_}
 use lib.ListN.{length}
+use lib.IntN.{ℤ}
+use mir.Syntax.{w64}
+use mir.Val.{Fits}
+use Rattle.model.specs.declared.Error.the-variants.{UnsoundFrame}
+use Rattle.model.specs.declared.Verdict.the-variants.{Pass, Refuse}
+use Rattle.model.specs.declared.FramesRead.{FramesRead}
+use Rattle.model.specs.TermReader.{walk, firstUnsound, framesBy, entriesBy, goodWalk}
 use Rattle.model.proofs.ReaderLaws.{frames-by}
-use Rattle.image.proofs.Places.{At, at-place, walk-good}
+use Rattle.image.specs.Images.{TermLength}
+use Rattle.image.proofs.Places.{At, at-place, term-length, walk-good}
 use borrow.Author.Needs.{needs}
 use Rattle.image.proofs.frames.frames_at.Statement.{statement}
 use Rattle.image.proofs.frames.frames_at.Tie as tie
@@ -12,30 +22,40 @@ use Rattle.image.proofs.frames.frames_at.Tie as tie
 place : (c : tie.Start) → At (c .args .v) (length (c .args .log .now)) (c .args .p)
 place c = at-place _ _ _ (c .pre .0) (c .pre .1 .0)
 
-div-read-frames : tie.Need-div-read-frames
-div-read-frames c = omega (arith, place (c .before .before) .some)
+one-bit : (c : tie.Start) → TermLength (c .args .v .term)
+one-bit c = term-length _ _ (c .pre .0)
+
+partition-of-requires : tie.Need-partition-of-requires
+partition-of-requires c κs = one-bit (c .before .before)
 
 mul-read-frames : tie.Need-mul-read-frames
-mul-read-frames c = record { fits = omega (arith, place (c .before .before) .inside, c .before .before .good) }
+mul-read-frames c =
+    let s = c .before .before .before in
+    subst (λ (x : ℕ). Fits w64 (x * s .args .v .term)) (sym (c .partition-of .ensures .0)) (record { fits = omega (arith, place s .inside, s .good) })
 
-rem-read-frames : tie.Need-rem-read-frames
-rem-read-frames c = omega (arith, place (c .before .before) .some)
+offset-of-requires : tie.Need-offset-of-requires
+offset-of-requires c κs = one-bit (c .before .before .before)
 
 returns : tie.Need-returns
 returns c =
-    let s = c .before .before .before .before .before in
+    let s = c .before .before .before .before .before .before .before in
     let a = s .args in
-    let g = walk-good (a .v) (length (a .log .now)) (a .p) (a .end) (a .limit) (length (a .entries .now)) (s .pre .0) (s .pre .1 .0) (s .pre .1 .1 .0) (s .pre .1 .1 .1) in
-    let k = frames-by (a .log .now) (a .p / a .v .term % 3 * a .v .term) (a .v .term) (a .end) (a .p % a .v .term) (a .limit) (a .actions .now) (a .entries .now) g in
-    (c .before .read-frames .ensures .0 ∙ sym (k .0), c .before .read-frames .ensures .1 ∙ sym (k .1))
+    let k = c .before .before .before .before .partition-of .ensures .0 in
+    let at = c .before .before .before .offset-of .ensures in
+    let g = walk-good (a .v) (length (a .log .now)) (a .p) (a .end) (a .limit) (length (a .entries .now)) (s .pre .0) (s .pre .1 .0) (s .pre .1 .1 .0) (s .pre .1 .1 .1 .0) in
+    let h = ap₂ (λ (x y : ℕ). goodWalk (length (a .log .now)) (x * a .v .term) (a .v .term) (a .end) y (a .limit) (length (a .entries .now))) k at ∙ g in
+    let l = frames-by (a .log .now) (c .before .before .before .before .partition-of .result * a .v .term) (a .v .term) (a .end) (c .before .before .before .offset-of .result) (a .limit) (a .actions .now) (a .entries .now) h (s .pre .1 .1 .1 .1) in
+    let said : ℕ → ℕ → FramesRead = λ (x y : ℕ). framesBy (walk (a .v .term) (a .log .now) (x * a .v .term) (a .v .term) (a .end) y (a .limit) (a .actions .now)) (cond (firstUnsound (a .log .now) (x * a .v .term) (a .v .term) (a .end) y (a .limit)) (Refuse UnsoundFrame) Pass) in
+    let wrote : ℕ → ℕ → List ℤ = λ (x y : ℕ). entriesBy (a .entries .now) (walk (a .v .term) (a .log .now) (x * a .v .term) (a .v .term) (a .end) y (a .limit) (a .actions .now)) (cond (firstUnsound (a .log .now) (x * a .v .term) (a .v .term) (a .end) y (a .limit)) (Refuse UnsoundFrame) Pass) in
+    (c .before .read-frames .ensures .0 ∙ sym (l .0) ∙ ap₂ said k at, c .before .read-frames .ensures .1 ∙ sym (l .1) ∙ ap₂ wrote k at)
 
 pub frames-at-spec : {M : Type 1} → statement M
 frames-at-spec =
     tie.close
     (tie.spec
-    div-read-frames
+    partition-of-requires
     mul-read-frames
-    rem-read-frames
+    offset-of-requires
     (search needs)
     (search needs)
     returns)

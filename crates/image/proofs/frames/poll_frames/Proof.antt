@@ -7,20 +7,22 @@ use mathlib.Core.List.{List}
 use lib.ListN.{length}
 use lib.IntN.{ℤ, pos}
 use mir.Syntax.{w64}
-use mir.Val.{SFits}
-use mir.Facts.{toZ-ofZ}
+use mir.Val.{SFits, toZ, ofZ}
+use mir.Facts.{toZ-ofZ, toZ-pos}
 use Rattle.model.specs.declared.Walk.{Walk}
 use Rattle.model.specs.declared.FramesRead.the-variants.{Walked as AllWalked}
-use Rattle.model.specs.declared.Polled.the-variants.{Fragments}
+use Rattle.model.specs.declared.Polled.the-variants.{Fragments, Refused}
+use Rattle.model.specs.declared.Error.the-variants.{UnsoundFrame}
 use Rattle.model.specs.declared.ReadVerdict.{ReadVerdict}
 use Rattle.model.specs.declared.ReadVerdict.the-variants.{Read}
 use Rattle.model.specs.Bytes.{long}
-use Rattle.model.specs.Image.{movedTo, readable, walkAt, pollReply, slotsBy}
+use Rattle.model.specs.Image.{readable, endOffset, walkAt, pollReply, pollVerdict, slotsBy}
 use Rattle.model.proofs.Sound.{sound-true}
 use Rattle.logbuffer.proofs.Signed.{long-by}
-use Rattle.image.specs.declared.Image.{Image}
-use Rattle.image.specs.declared.PollReply.{PollReply}
-use Rattle.image.specs.Images.{stateOf, imageOf, pollReplyOf}
+use Rattle.model.specs.declared.Polled.{Polled}
+use Rattle.image.specs.declared.frames.PolledTo.{PolledTo}
+use Rattle.image.specs.Images.{stateOf, polledTo}
+use Rattle.image.proofs.Places.{term-length}
 use Rattle.image.proofs.Rungs.{Readable, readable-read, poll-after, poll-by}
 use Rattle.image.proofs.Polls.{frames-unsound, frames-walked, frames-moved}
 use borrow.Author.Needs.{needs}
@@ -43,65 +45,90 @@ p-is c =
 p-high : (c : tie.After-long) → c .long .result ≤ 2305843009213693952
 p-high c = let k = passed c in omega (arith, p-is c, k .high, sound-true _ _ (k .sound) .term-high)
 
--- what the walk left, and what the definitions say of it
-abbrev said : (s : tie.Start) → ReadVerdict → PollReply
-said s x =
+-- what the walk left, and what the definitions say of it, by where it ends
+abbrev said : (s : tie.Start) → ℕ → ReadVerdict → PolledTo
+said s e x =
     let a = s .args in
-    pollReplyOf (pollReply (stateOf (a .image)) (a .entries .now) (walkAt (a .v) (a .log .now) (long (a .image .position)) (a .end) (a .limit) (a .actions .now)) x)
+    polledTo (pollReply (stateOf (a .image)) (a .entries .now) (walkAt (a .v) (a .log .now) (long (a .image .position)) e (a .limit) (a .actions .now)) x)
 
-abbrev wrote : (s : tie.Start) → ReadVerdict → List ℤ
-wrote s x = let a = s .args in slotsBy (a .entries .now) (walkAt (a .v) (a .log .now) (long (a .image .position)) (a .end) (a .limit) (a .actions .now)) x
+abbrev wrote : (s : tie.Start) → ℕ → ReadVerdict → List ℤ
+wrote s e x = let a = s .args in slotsBy (a .entries .now) (walkAt (a .v) (a .log .now) (long (a .image .position)) e (a .limit) (a .actions .now)) x
 
-moved : (c : tie.After-frames-at) (w : Walk) → c .frames-at .result ≡ AllWalked w → c .before .before .long .result + w .moved ≤ 4611686018427387904
+abbrev judged : (s : tie.Start) → ℕ → ReadVerdict
+judged s e = let a = s .args in pollVerdict (a .v) (a .log .now) (stateOf (a .image)) (a .good) e (a .limit)
+
+abbrev ending : (s : tie.Start) → ℕ
+ending s = let a = s .args in endOffset (a .v) (long (a .image .position)) (a .bound)
+
+end-is : (c : tie.After-end-offset) → c .end-offset .result ≡ ending (c .before .before .before .before .before .before .before .before)
+end-is c = let a = c .before .before .before .before .before .before .before .before .args in c .end-offset .ensures ∙ ap (λ (q : ℕ). endOffset (a .v) q (a .bound)) (p-is (c .before))
+
+-- the image stays where it is
+stays : (s : tie.Start) (x : Polled) → _≡_ {A = PolledTo} (record { position = toZ w64 (ofZ w64 (s .args .image .position)); answer = x }) (record { position = s .args .image .position; answer = x })
+stays s x =
+    let f : SFits w64 (s .args .image .position) = search needs in
+    ap {B = PolledTo} (λ (z : ℤ). record { position = z; answer = x }) (toZ-ofZ f)
+
+moved : (c : tie.After-frames-at) (w : Walk) → c .frames-at .result ≡ AllWalked w → c .before .before .before .long .result + w .moved ≤ 4611686018427387904
 moved c w h =
-    let a = c .before .before .before .before .before .before .before .before .before .args in
-    let m = frames-moved (a .v) (a .log .now) (a .entries .now) (a .end) (a .limit) (a .actions .now) (c .before .before .long .result) _ (p-is (c .before .before)) (c .frames-at .result) _ (c .frames-at .ensures .0) (c .frames-at .ensures .1) w h in
-    omega (arith, p-high (c .before .before), sound-true _ _ (passed (c .before .before) .sound) .term-high)
+    let a = c .before .before .before .before .before .before .before .before .before .before .args in
+    let m = frames-moved (a .v) (a .log .now) (a .entries .now) (c .before .before .end-offset .result) (a .limit) (a .actions .now) (c .before .before .before .long .result) _ (p-is (c .before .before .before)) (c .frames-at .result) _ (c .frames-at .ensures .0) (c .frames-at .ensures .1) w h in
+    omega (arith, p-high (c .before .before .before), sound-true _ _ (passed (c .before .before .before) .sound) .term-high)
+
+end-offset-requires : tie.Need-end-offset-requires
+end-offset-requires c κs = term-length _ _ (passed c .sound)
 
 frames-at-requires : tie.Need-frames-at-requires
 frames-at-requires c κs =
-    let k = passed (c .before) in
-    let s = c .before .before .before .before .before .before .before .before in
-    (k .sound, (ap (λ (x : ℕ). x % 32) (p-is (c .before)) ∙ k .p-32, (s .pre .0, s .pre .1 (k .good))))
+    let k = passed (c .before .before) in
+    (k .sound, (ap (λ (x : ℕ). x % 32) (p-is (c .before .before)) ∙ k .p-32, (omega (arith, c .before .end-offset .ensures), c .before .before .before .before .before .before .before .before .before .pre (k .good))))
 
 returns : tie.Need-returns
 returns c =
-    let f = c .before .before .before in
-    let a = c .before .before .before .before .before .before .before .before .before .before .before .before .args in
-    let u = frames-unsound (a .v) (a .log .now) (a .entries .now) (a .end) (a .limit) (a .actions .now) (f .before .before .long .result) _ (p-is (f .before .before)) (f .frames-at .result) _ (f .frames-at .ensures .0) (f .frames-at .ensures .1) _ (c .enum-told3 .given .1) in
-    let x = poll-by (a .v) (a .log .now) (stateOf (a .image)) (a .good) (a .end) (a .limit) true (u .0) (told (f .before .before)) in
-    (ap (said (c .before .before .before .before .before .before .before .before .before .before .before .before)) x, u .1 ∙ ap (wrote (c .before .before .before .before .before .before .before .before .before .before .before .before)) x)
+    let f = c .before .before .before .before in
+    let s = c .before .before .before .before .before .before .before .before .before .before .before .before .before .before in
+    let a = s .args in
+    let e = f .before .before .end-offset .result in
+    let u = frames-unsound (a .v) (a .log .now) (a .entries .now) e (a .limit) (a .actions .now) (f .before .before .before .long .result) _ (p-is (f .before .before .before)) (f .frames-at .result) _ (f .frames-at .ensures .0) (f .frames-at .ensures .1) _ (c .before .enum-told3 .given .1) in
+    let x = poll-by (a .v) (a .log .now) (stateOf (a .image)) (a .good) e (a .limit) true (u .0) (told (f .before .before .before)) in (
+      stays s (Refused UnsoundFrame) ∙ ap (said s e) x ∙ ap (λ (n : ℕ). said s n (judged s n)) (end-is (f .before .before)),
+      u .1 ∙ ap (wrote s e) x ∙ ap (λ (n : ℕ). wrote s n (judged s n)) (end-is (f .before .before)),
+    )
 
-add-moved-to : tie.Need-add-moved-to
-add-moved-to c = record { fits = omega (arith, moved (c .before .before .before .before .before) _ (c .before .before .walked .given .1)) }
+add-t23 : tie.Need-add-t23
+add-t23 c = record { fits = omega (arith, moved (c .before .before .before .before .before) _ (c .before .before .walked .given .1)) }
 
-cast-moved-to : tie.Need-cast-moved-to
-cast-moved-to c = record { sfits = omega (arith, moved (c .before .before .before .before .before) _ (c .before .before .walked .given .1)) }
+cast-t24 : tie.Need-cast-t24
+cast-t24 c = record { sfits = omega (arith, moved (c .before .before .before .before .before) _ (c .before .before .walked .given .1)) }
 
 returns-2 : tie.Need-returns-2
 returns-2 c =
-    let a = c .before .before .before .before .before .before .args in
-    let x = poll-after (a .v) (a .log .now) (stateOf (a .image)) (a .good) (a .end) (a .limit) _ (sym (c .before .e .given .1) ∙ c .before .before .before .readable .ensures) in
-    (ap (said (c .before .before .before .before .before .before)) x, ap (wrote (c .before .before .before .before .before .before)) x)
+    let s = c .before .before .before .before .before .before .before in
+    let a = s .args in
+    let x = poll-after (a .v) (a .log .now) (stateOf (a .image)) (a .good) (ending s) (a .limit) _ (sym (c .before .before .e .given .1) ∙ c .before .before .before .before .readable .ensures) in
+    (stays s _ ∙ ap (said s (ending s)) x, ap (wrote s (ending s)) x)
 
 returns-3 : tie.Need-returns-3
 returns-3 c =
-    let a = c .before .before .before .before .before .args in
-    let x = poll-after (a .v) (a .log .now) (stateOf (a .image)) (a .good) (a .end) (a .limit) _ (sym (c .enum-told .given .1) ∙ c .before .before .readable .ensures) in
-    (ap (said (c .before .before .before .before .before)) x, ap (wrote (c .before .before .before .before .before)) x)
+    let s = c .before .before .before .before .before .before in
+    let a = s .args in
+    let x = poll-after (a .v) (a .log .now) (stateOf (a .image)) (a .good) (ending s) (a .limit) _ (sym (c .before .enum-told .given .1) ∙ c .before .before .before .readable .ensures) in
+    (stays s (Fragments 0 0) ∙ ap (said s (ending s)) x, ap (wrote s (ending s)) x)
 
 returns-4 : tie.Need-returns-4
 returns-4 c =
-    let f = c .before .before .before .before .before .before in
-    let a = c .before .before .before .before .before .before .before .before .before .before .before .before .before .before .before .args in
-    let w = c .before .before .before .walked .given .0 .0 in
-    let u = frames-walked (a .v) (a .log .now) (a .entries .now) (a .end) (a .limit) (a .actions .now) (f .before .before .long .result) _ (p-is (f .before .before)) (f .frames-at .result) _ (f .frames-at .ensures .0) (f .frames-at .ensures .1) w (c .before .before .before .walked .given .1) in
-    let x = poll-by (a .v) (a .log .now) (stateOf (a .image)) (a .good) (a .end) (a .limit) false (u .0) (told (f .before .before)) in
-    let h : SFits w64 (pos (f .before .before .long .result + w .moved)) = record { sfits = omega (arith, moved f w (c .before .before .before .walked .given .1)) } in
-    let to : ℕ → Walk → PollReply = λ (q : ℕ) (y : Walk). record { next = imageOf (movedTo (stateOf (a .image)) (pos (q + y .moved))); answer = Fragments (y .fragments) (y .entries) } in
-    let next : c .moved-to .result ≡ imageOf (movedTo (stateOf (a .image)) (pos (f .before .before .long .result + w .moved))) = c .moved-to .ensures ∙ ap (λ (z : ℤ). imageOf (movedTo (stateOf (a .image)) z)) (toZ-ofZ h) in
-    let made : Image → PollReply = λ (z : Image). record { next = z; answer = Fragments (w .fragments) (w .entries) } in
-    (ap made next ∙ ap₂ to (p-is (f .before .before)) (sym (u .1 .0)) ∙ ap (said (c .before .before .before .before .before .before .before .before .before .before .before .before .before .before .before)) x, u .1 .1 ∙ ap (wrote (c .before .before .before .before .before .before .before .before .before .before .before .before .before .before .before)) x)
+    let f = c .before .before .before .before .before in
+    let s = c .before .before .before .before .before .before .before .before .before .before .before .before .before .before .before in
+    let a = s .args in
+    let e = f .before .before .end-offset .result in
+    let w = c .before .before .walked .given .0 .0 in
+    let u = frames-walked (a .v) (a .log .now) (a .entries .now) e (a .limit) (a .actions .now) (f .before .before .before .long .result) _ (p-is (f .before .before .before)) (f .frames-at .result) _ (f .frames-at .ensures .0) (f .frames-at .ensures .1) w (c .before .before .walked .given .1) in
+    let x = poll-by (a .v) (a .log .now) (stateOf (a .image)) (a .good) e (a .limit) false (u .0) (told (f .before .before .before)) in
+    let made : ℤ → PolledTo = λ (z : ℤ). record { position = z; answer = Fragments (w .fragments) (w .entries) } in
+    let to : ℕ → Walk → PolledTo = λ (q : ℕ) (y : Walk). record { position = pos (q + y .moved); answer = Fragments (y .fragments) (y .entries) } in (
+      ap made (toZ-pos w64 (omega (arith, moved f w (c .before .before .walked .given .1)))) ∙ ap₂ to (p-is (f .before .before .before)) (sym (u .1 .0)) ∙ ap (said s e) x ∙ ap (λ (n : ℕ). said s n (judged s n)) (end-is (f .before .before)),
+      u .1 .1 ∙ ap (wrote s e) x ∙ ap (λ (n : ℕ). wrote s n (judged s n)) (end-is (f .before .before)),
+    )
 
 pub poll-frames-spec : {M : Type 1} → statement M
 poll-frames-spec =
@@ -112,14 +139,14 @@ poll-frames-spec =
     (search needs)
     (search needs)
     (search needs)
+    end-offset-requires
     frames-at-requires
     (search needs)
     (search needs)
     (search needs)
     returns
-    add-moved-to
-    cast-moved-to
-    (search needs)
+    add-t23
+    cast-t24
     returns-2
     returns-3
     (search needs)

@@ -7,9 +7,9 @@ use mir.Val.{SFits}
 use Rattle.model.specs.Bytes.{long}
 use Rattle.model.specs.declared.ReadVerdict.the-variants.{Read}
 use Rattle.model.specs.Image.{reachable}
-use Rattle.model.proofs.Sound.{sound-true}
 use Rattle.logbuffer.proofs.Signed.{long-by}
 use Rattle.image.specs.Images.{stateOf}
+use Rattle.image.proofs.Places.{term-length}
 use Rattle.image.proofs.Rungs.{readable-after, readable-read}
 use borrow.Author.Needs.{needs}
 use Rattle.image.proofs.ladder.reach.Statement.{statement}
@@ -25,8 +25,7 @@ reachable-requires : tie.Need-reachable-requires
 reachable-requires c κs =
     let a = c .before .before .before .before .before .args in
     let k = readable-read (a .good) (a .v) (a .n) (stateOf (a .image)) (sym (c .before .before .enum-told2 .given .1) ∙ c .before .before .before .before .readable .ensures) in
-    let s = sound-true _ _ (k .sound) in
-    (omega (arith, s .term-low), (s .term-high, omega (arith, p-is c, k .high)))
+    (term-length _ _ (k .sound), omega (arith, p-is c, k .high))
 
 returns : tie.Need-returns
 returns c = let a = c .before .before .before .before .args in readable-after (a .good) (a .v) (a .n) (stateOf (a .image)) _ _ (sym (c .before .e .given .1) ∙ c .before .before .before .readable .ensures)

@@ -10,17 +10,32 @@ use Rattle.image.proofs.ladder.reachable.Tie as tie
 returns : tie.Need-returns
 returns c = before-current (c .before .args .v) (c .before .args .current) (c .before .args .new) Read (c .if1 .taken)
 
+offset-of-requires : tie.Need-offset-of-requires
+offset-of-requires c κs = c .before .pre .0
+
 sub-if2 : tie.Need-sub-if2
-sub-if2 c = omega (arith, mod-le (c .before .args .current) (c .before .args .v .term))
+sub-if2 c = let a = c .before .before .args in omega (arith, c .offset-of .ensures, mod-le (a .current) (a .v .term))
+
+add-if2 : tie.Need-add-if2
+add-if2 c = let s = c .before .before in omega (arith, s .pre .1, s .pre .0 .high)
 
 returns-2 : tie.Need-returns-2
-returns-2 c = past-term (c .before .before .args .v) (c .before .before .args .current) (c .before .before .args .new) Read (c .before .if1 .left) (c .if2 .taken)
+returns-2 c = let a = c .before .before .before .args in past-term (a .v) (a .current) (a .new) Read (c .before .before .if1 .left) (omega (arith, c .before .offset-of .ensures, c .if2 .taken))
 
 returns-3 : tie.Need-returns-3
-returns-3 c = no-boundary (c .before .before .before .args .v) (c .before .before .before .args .current) (c .before .before .before .args .new) Read (c .before .before .if1 .left) (c .before .if2 .left) (c .if3 .taken)
+returns-3 c = let a = c .before .before .before .before .args in no-boundary (a .v) (a .current) (a .new) Read (c .before .before .before .if1 .left) (omega (arith, c .before .before .offset-of .ensures, c .before .if2 .left)) (c .if3 .taken)
 
 returns-4 : tie.Need-returns-4
-returns-4 c = reaches (c .before .before .before .args .v) (c .before .before .before .args .current) (c .before .before .before .args .new) Read (c .before .before .if1 .left) (c .before .if2 .left) (c .if3 .left)
+returns-4 c = let a = c .before .before .before .before .args in reaches (a .v) (a .current) (a .new) Read (c .before .before .before .if1 .left) (omega (arith, c .before .before .offset-of .ensures, c .before .if2 .left)) (c .if3 .left)
 
 pub reachable-spec : {M : Type 1} → statement M
-reachable-spec = tie.close (tie.spec returns (search needs) sub-if2 (search needs) returns-2 returns-3 returns-4)
+reachable-spec =
+    tie.close
+    (tie.spec
+    returns
+    offset-of-requires
+    sub-if2
+    add-if2
+    returns-2
+    returns-3
+    returns-4)

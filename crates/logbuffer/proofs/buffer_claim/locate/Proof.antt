@@ -45,7 +45,7 @@ start-requires : tie.Need-start-requires
 start-requires c κs = omega (arith, low c)
 
 shows-requires : tie.Need-shows-requires
-shows-requires c κs = let i = inside c in omega arith
+shows-requires c κs = let i = inside c in omega (arith, good-claim-true _ _ (good (c .before .before .before)) .inside, low (c .before))
 
 returns-3 : tie.Need-returns-3
 returns-3 c = let s = c .before .before .before .before .before .before .before .before .before .args in locate-mismatch (s .rec) (s .log .now) (s .claim) _ (c .before .before .before .before .before .before .before .read-active .ensures) _ (c .before .before .start .ensures) (good (c .before .before .before .before .before)) (is-so (c .before .before .before)) (sym (c .before .shows .ensures) ∙ not-true _ (c .if3 .taken))

@@ -1,14 +1,17 @@
--- The first test that fails decides.
-use mathlib.Core.Path.{sym, ap, _∙_}
-use mathlib.Core.Bool.{_&&_}
-use Prim.Native.Nat.{ℕ}
+-- The first test that fails decides; the length word is judged by its sign.
+use mathlib.Core.Path.{_≡_, ap, _∙_}
 use native.Mathlib.Omega.{arith}
-use borrow.Author.Tests.{lt-ltb}
-use lib.Dec.{ltb}
-use Rattle.logbuffer.proofs.Assembly.{frame-short, frame-long}
 use borrow.Author.Needs.{needs}
+use lib.ListN.{drop}
+use Rattle.model.specs.Bytes.{u32}
+use Rattle.model.specs.FrameDescriptor.{frameLength}
+use Rattle.logbuffer.proofs.Assembly.{frame-short, frame-finished, frame-unfinished}
+use Rattle.logbuffer.proofs.Signs.{back32}
 use Rattle.logbuffer.proofs.fragment_assembler.good_frame.Statement.{statement}
 use Rattle.logbuffer.proofs.fragment_assembler.good_frame.Tie as tie
+
+told : (c : tie.After-frame-length) → (let a = c .before .before .before .before .before .before .args in c .frame-length .result ≡ frameLength (u32 (drop (a .at) (a .log .now))))
+told c = c .frame-length .ensures ∙ ap frameLength (back32 _ _ _ (c .before .to-i32 .ensures) (c .before .before .word4 .ensures .0) (c .before .before .word4 .ensures .1))
 
 returns : tie.Need-returns
 returns c =
@@ -20,16 +23,12 @@ returns-2 c =
 
 returns-3 : tie.Need-returns-3
 returns-3 c =
-    let a = c .before .before .before .before .before .args in
-    let w = c .before .word4 in
-    sym (ap (λ (x : ℕ). ltb 0 x && ltb x 2147483648) (sym (w .ensures .0) ∙ c .if3 .taken)) ∙ frame-long (a .log .now) (a .at) (omega arith)
+    let a = c .before .before .before .before .before .before .before .args in frame-unfinished (a .log .now) (a .at) _ (told (c .before)) (omega arith) (c .match .keys2)
 
 returns-4 : tie.Need-returns-4
 returns-4 c =
-    let a = c .before .before .before .before .before .args in
-    let w = c .before .word4 in
-    sym (ap (λ (x : _). x && ltb (w .result) 2147483648) (lt-ltb 0 (w .result) (omega arith)))
-    ∙ ap (λ (x : ℕ). ltb 0 x && ltb x 2147483648) (w .ensures .0) ∙ frame-long (a .log .now) (a .at) (omega arith)
+    let a = c .before .before .before .before .before .before .before .before .args in frame-finished (a .log .now) (a .at) _ (told (c .before .before)) (omega arith) _ (c .enum-told .given .1)
 
 pub good-frame-spec : {M : Type 1} → statement M
-good-frame-spec = tie.close (tie.spec returns returns-2 (search needs) returns-3 returns-4)
+good-frame-spec =
+    tie.close (tie.spec returns returns-2 (search needs) (search needs) (search needs) (search needs) returns-3 returns-4)

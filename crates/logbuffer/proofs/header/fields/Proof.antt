@@ -4,6 +4,7 @@ use mathlib.Core.Bool.{Bool, _&&_}
 use Prim.Native.Nat.{_+_, _*_, _<_}
 use native.Mathlib.Omega.{arith}
 use borrow.Author.Needs.{needs}
+use lib.Count.{ones}
 use lib.ListN.{length, drop}
 use Rattle.model.specs.declared.Place.{Place}
 use Rattle.model.specs.declared.Verdict.{Verdict}
@@ -13,7 +14,8 @@ use Rattle.model.specs.DataFrameHeader.{headerAt}
 use Rattle.model.specs.LogBufferDescriptor.{sound, goodPartition, goodOffset, active, placeOf, firstRows}
 use Rattle.model.specs.TermReader.{fieldsOf, headerBy, headerCall}
 use Rattle.model.proofs.PlaceLaws.{Placed, passed-place}
-use Rattle.model.proofs.Sound.{initial-small}
+use Rattle.model.proofs.Rows.{rows-pass}
+use Rattle.model.proofs.Sound.{initial-small, sound-true}
 use Rattle.model.proofs.HeaderRows.{header-by}
 use Rattle.logbuffer.proofs.header.fields.Statement.{statement}
 use Rattle.logbuffer.proofs.header.fields.Tie as tie
@@ -33,6 +35,10 @@ rows c = ap (λ (g : Bool). firstRows g (sound (p c .read) (length (st c .args .
 
 place : (c : tie.After-first-rows) → c .first-rows .result ≡ Pass → Placed (p c .read) (length (st c .args .log .now)) (p c .partition) (p c .offset)
 place c h = passed-place (p c) (length (st c .args .log .now)) (rows c ∙ h)
+
+one-bit : (c : tie.After-first-rows) → c .first-rows .result ≡ Pass → ones (p c .read .term) ≡ 1
+one-bit c h =
+    let g = rows-pass (goodPartition (p c .partition) && goodOffset (p c .offset) (p c .read)) (sound (p c .read) (length (st c .args .log .now))) (rows c ∙ h) in sound-true _ _ (g .1) .one-bit
 
 -- a biased id has 32 bits
 initial-in : (c : tie.After-first-rows) → p c .read .initial < 4294967296
@@ -60,7 +66,7 @@ fields-at-requires : tie.Need-fields-at-requires
 fields-at-requires c κs =
     let q = c .before .before .before .before in
     let f = place q (c .before .before .enum-told .given .1) in
-    (omega (arith, f .inside, f .header), (initial-in q, (f .term-high, q .before .before .place .ensures .1 .1)))
+    (omega (arith, f .inside, f .header), (initial-in q, (f .term-high, (q .before .before .place .ensures .1 .1, one-bit q (c .before .before .enum-told .given .1)))))
 
 returns : tie.Need-returns
 returns c = by (c .before .before .before) (Refuse (c .before .e .given .0 .0)) (c .before .e .given .1)

@@ -1,10 +1,12 @@
 -- Each step of the sum fits 64 bits: the difference is near 0, and the shift is at most 30.
-use mathlib.Core.Path.{_≡_, ap, ap₂}
+use mathlib.Core.Path.{_≡_, ap, ap₂, _∙_}
 use Prim.Native.Nat.{_*_, _%_, _^_}
 use native.Mathlib.Nat.{lt-trans}
+use native.Mathlib.Omega.{arith}
 use borrow.Author.Tests.{lt-ltb, le-ltb}
 use borrow.Author.Needs.{needs}
 use lib.Dec.{lit<}
+use lib.Pow.{pow-pos}
 use lib.IntN.{ℤ, pos, _+ℤ_, _-ℤ_, _*ℤ_}
 use mir.Facts.{toZ-ofZ, sfits-widen, toZ-pos}
 use mir.Val.{SFits, toZ, ofZ}
@@ -12,7 +14,8 @@ use mir.Syntax.{w32, w64}
 use Rattle.model.specs.declared.Positioned.the-variants.{Position}
 use Rattle.model.specs.LogBufferDescriptor.{computePosition}
 use Rattle.logbuffer.proofs.Signed.{lands, asks}
-use Rattle.logbuffer.proofs.Exact.{difference-fits, product-fits, position-fits, shifted-one}
+use Rattle.logbuffer.proofs.Exact.{difference-fits, product-near, position-fits}
+use Rattle.logbuffer.proofs.Shifts.{left-by}
 use Rattle.logbuffer.proofs.log_buffer_descriptor.compute_position.Statement.{statement}
 use Rattle.logbuffer.proofs.log_buffer_descriptor.compute_position.Tie as tie
 
@@ -24,12 +27,11 @@ module _ (c : tie.Else1) where
   abbrev difference : toZ w64 (ofZ w64 (toZ w32 (ofZ w32 (s .args .term-id)))) -ℤ toZ w64 (ofZ w64 (toZ w32 (ofZ w32 (s .args .initial)))) ≡ s .args .term-id -ℤ s .args .initial
   difference = ap₂ (λ (a b : ℤ). a -ℤ b) (lands (toZ-ofZ (s .fits .term-id)) (sfits-widen tt (s .fits .term-id))) (lands (toZ-ofZ (s .fits .initial)) (sfits-widen tt (s .fits .initial)))
 
-  abbrev product : toZ w64 (ofZ w64 (toZ w64 (ofZ w64 (toZ w32 (ofZ w32 (s .args .term-id)))) -ℤ toZ w64 (ofZ w64 (toZ w32 (ofZ w32 (s .args .initial))))))
-      *ℤ toZ w64 (1 * 2 ^ s .args .bits % 18446744073709551616) ≡ (s .args .term-id -ℤ s .args .initial) *ℤ pos (2 ^ s .args .bits)
-  product = ap₂ (λ (a b : ℤ). a *ℤ b) (lands difference (difference-fits (s .args .term-id) (s .args .initial) (s .fits .term-id) (s .fits .initial))) (shifted-one (s .args .bits) (c .if1 .left))
-
-  abbrev product-fit : SFits w64 ((s .args .term-id -ℤ s .args .initial) *ℤ pos (2 ^ s .args .bits))
-  product-fit = product-fits (s .args .term-id) (s .args .initial) (s .fits .term-id) (s .fits .initial) (s .args .bits) (c .if1 .left)
+  abbrev product : toZ w64 (ofZ w64 (toZ w64 (ofZ w64 (toZ w32 (ofZ w32 (s .args .term-id)))) -ℤ toZ w64 (ofZ w64 (toZ w32 (ofZ w32 (s .args .initial))))) * 2 ^ s .args .bits % 18446744073709551616)
+      ≡ (s .args .term-id -ℤ s .args .initial) *ℤ pos (2 ^ s .args .bits)
+  product =
+      ap (λ (x : ℤ). toZ w64 (ofZ w64 x * 2 ^ s .args .bits % 18446744073709551616)) difference
+      ∙ left-by (s .args .term-id -ℤ s .args .initial) (2 ^ s .args .bits) (pow-pos (s .args .bits)) (omega (arith, product-near (s .args .term-id) (s .args .initial) (s .fits .term-id) (s .fits .initial) (s .args .bits) (c .if1 .left)))
 
   abbrev sum-fit : SFits w64 ((s .args .term-id -ℤ s .args .initial) *ℤ pos (2 ^ s .args .bits) +ℤ pos (s .args .offset))
   sum-fit = position-fits (s .args .term-id) (s .args .initial) (s .fits .term-id) (s .fits .initial) (s .args .bits) (c .if1 .left) (s .args .offset) (s .fits .offset .fits)
@@ -50,17 +52,23 @@ cast-t8 c = asks (toZ-ofZ (c .before .fits .initial)) (sfits-widen tt (c .before
 sub-t9 : tie.Need-sub-t9
 sub-t9 c = asks (difference c) (difference-fits (c .before .args .term-id) (c .before .args .initial) (c .before .fits .term-id) (c .before .fits .initial))
 
-mul-t12 : tie.Need-mul-t12
-mul-t12 c = asks (product c) (product-fit c)
-
-add-t14 : tie.Need-add-t14
-add-t14 c = asks (ap₂ (λ (a b : ℤ). a +ℤ b) (lands (product c) (product-fit c)) (low c)) (sum-fit c)
+add-t13 : tie.Need-add-t13
+add-t13 c = asks (ap₂ (λ (a b : ℤ). a +ℤ b) (product c) (low c)) (sum-fit c)
 
 returns-2 : tie.Need-returns-2
 unfolding computePosition
-returns-2 c = simp (le-ltb 30 (c .before .args .bits) (c .if1 .left)) (ap Position (lands (ap₂ (λ (a b : ℤ). a +ℤ b) (lands (product c) (product-fit c)) (low c)) (sum-fit c)))
+returns-2 c = simp (le-ltb 30 (c .before .args .bits) (c .if1 .left)) (ap Position (lands (ap₂ (λ (a b : ℤ). a +ℤ b) (product c) (low c)) (sum-fit c)))
 
 pub compute-position-spec : {M : Type 1} → statement M
 compute-position-spec =
     tie.close
-    (tie.spec returns cast-t7 cast-t8 sub-t9 (search needs) (search needs) mul-t12 (search needs) add-t14 returns-2)
+    (tie.spec
+    returns
+    cast-t7
+    cast-t8
+    sub-t9
+    (search needs)
+    (search needs)
+    (search needs)
+    add-t13
+    returns-2)

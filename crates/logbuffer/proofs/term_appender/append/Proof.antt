@@ -23,7 +23,7 @@ mul-write-fragments c = let f = fit (c .before) in omega (arith, f .1)
 
 write-fragments-requires : tie.Need-write-fragments-requires
 write-fragments-requires c κs = let f = fit (c .before) in let s = c .before .before .before .before .before .before .before .before .before in
-    (omega (arith, f .1 .1 .1, ap length (f .0)), (s .pre .1 .0, (omega arith, (s .pre .1 .1 .1 .0, omega (arith, f .1 .1 .0, s .pre .1 .1 .1 .1 .1)))))
+    (omega (arith, f .1 .1 .1, ap length (f .0)), (s .pre .1 .0, (omega arith, (s .pre .1 .1 .1 .0, (omega (arith, f .1 .1 .0, s .pre .1 .1 .1 .1 .1), omega (arith, f .1 .0))))))
 
 returns : tie.Need-returns
 returns c = let s = c .before .before .before .before .before .before .before .before .before .before .before .before .args in

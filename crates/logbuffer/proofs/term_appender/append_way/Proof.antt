@@ -29,13 +29,13 @@ returns c =
     (c .refused .ensures ∙ no .0, no .1)
 
 need-of-requires : tie.Need-need-of-requires
-need-of-requires c κs = let g = good c in (g .low, (g .high, g .whole))
+need-of-requires c κs = let g = good c in (g .low, (g .multiple, (g .high, g .whole)))
 
 append-requires : tie.Need-append-requires
 append-requires c κs = let g = good (c .before .before .before) in
     let a = c .before .before .before .before .before .before .before .args in
     let e = c .before .before .need-of .ensures in
-    (g .part, (g .id-in, (g .low, (g .multiple, (omega (arith, need-small (a .payload) (length (a .message .now)) (g .low), e, g .whole), e)))))
+    (g .part, (g .id-in, (g .low, (g .multiple, (omega (arith, need-small (a .payload) (length (a .message .now)) (g .low) (g .multiple), e, g .whole), e)))))
 
 way-by-requires : tie.Need-way-by-requires
 way-by-requires c κs = let a = c .before .before .before .before .before .before .before .before .before .before .args in

@@ -22,7 +22,7 @@ write-padding-requires : tie.Need-write-padding-requires
 write-padding-requires c κs = let s = c .before .before .before .before .before in
     let w = trips (c .before) in
     let z = term-32 (s .args .v) _ (w .0 .sound-so) in
-    (omega (arith, base-in (s .args .k) (s .args .v .term) (s .pre .0), w .0 .sound-so .three), (s .pre .1 .0, λ h. omega (arith, w .0 .sound-so .offset-32)))
+    (omega (arith, base-in (s .args .k) (s .args .v .term) (s .pre .0), w .0 .sound-so .three), (s .pre .1 .0, (omega (arith, w .0 .sound-so), λ h. omega (arith, w .0 .sound-so .offset-32))))
 
 returns : tie.Need-returns
 returns c = let s = c .before .before .before .before .before .before .before .before .args in

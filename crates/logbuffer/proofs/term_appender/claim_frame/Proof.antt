@@ -24,7 +24,7 @@ mul-write-claim c = let f = fit (c .before) in omega (arith, f .1)
 
 write-claim-requires : tie.Need-write-claim-requires
 write-claim-requires c κs = let f = fit (c .before) in let s = c .before .before .before .before .before .before .before .before in
-    (omega (arith, f .1 .1, ap length (f .0)), (s .pre .1 .0, s .pre .1 .1))
+    (omega (arith, f .1 .1, ap length (f .0)), (s .pre .1 .0, omega (arith, f .1)))
 
 returns : tie.Need-returns
 returns c = let s = c .before .before .before .before .before .before .before .before .before .before .before .args in

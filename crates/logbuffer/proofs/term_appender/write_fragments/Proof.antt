@@ -20,7 +20,7 @@ abbrev μ-loop : tie.MeasureT-loop
 μ-loop log₀ base v payload reserved message offset₀ at₀ flags₀ log offset at flags = length message - at
 
 loop-holds : tie.Need-loop-holds Inv-loop μ-loop
-loop-holds c = let s = c .before .before in (omega arith, (refl, (omega arith, left-all (s .args .v) (s .args .log .now) (s .args .base) (s .args .payload) (s .args .reserved) (s .args .message .now) (omega (arith, s .pre .1 .1 .1 .1, need-is (s .args .payload) (s .args .reserved) (s .args .message .now) (omega arith) (s .pre .1 .1 .1 .0))))))
+loop-holds c = let s = c .before .before in (omega arith, (refl, (omega arith, left-all (s .args .v) (s .args .log .now) (s .args .base) (s .args .payload) (s .args .reserved) (s .args .message .now) (omega (arith, s .pre .1 .1 .1 .1 .0, need-is (s .args .payload) (s .args .reserved) (s .args .message .now))))))
 
 -- what a turn's fragment leaves, and that it has room
 turn : (c : tie.In-loop Inv-loop μ-loop) → (let l = c .before .loop in let s = c .before .before .before .before .args in
@@ -65,7 +65,7 @@ add-write-fragment : tie.Need-add-write-fragment Inv-loop μ-loop
 add-write-fragment c = let r = turn (c .before .before) .1 in omega arith
 
 write-fragment-requires : tie.Need-write-fragment-requires Inv-loop μ-loop
-write-fragment-requires c κs = let r = turn (c .before .before) .1 in let l = c .before .before .before .loop in let s = c .before .before .before .before .before .before in (omega (arith, l .inv .1 .0, part-is (c .before .before) .1), (s .pre .1 .0, omega arith))
+write-fragment-requires c κs = let r = turn (c .before .before) .1 in let l = c .before .before .before .loop in let s = c .before .before .before .before .before .before in (omega (arith, l .inv .1 .0, part-is (c .before .before) .1), (s .pre .1 .0, (omega arith, omega (arith, s .pre .1 .1 .1 .1 .1, part-is (c .before .before) .1))))
 
 add-offset : tie.Need-add-offset Inv-loop μ-loop
 add-offset c = let r = turn (c .before .before .before .before .before) .1 in omega arith
@@ -96,7 +96,7 @@ add-write-fragment-2 : tie.Need-add-write-fragment-2 Inv-loop μ-loop
 add-write-fragment-2 c = let r = ended (c .before .before) .1 in omega arith
 
 write-fragment-requires-2 : tie.Need-write-fragment-requires-2 Inv-loop μ-loop
-write-fragment-requires-2 c κs = let r = ended (c .before .before) .1 in let l = c .before .before .before .loop in let s = c .before .before .before .before .before .before in (omega (arith, l .inv .1 .0, ap length (rest-is (c .before .before))), (s .pre .1 .0, omega arith))
+write-fragment-requires-2 c κs = let r = ended (c .before .before) .1 in let l = c .before .before .before .loop in let s = c .before .before .before .before .before .before in (omega (arith, l .inv .1 .0, ap length (rest-is (c .before .before))), (s .pre .1 .0, (omega arith, omega (arith, s .pre .1 .1 .1 .1 .1, ap length (rest-is (c .before .before))))))
 
 same-length : tie.Need-same-length Inv-loop μ-loop
 same-length c = c .before .before .write-fragment2 .kept .0 ∙ c .before .before .before .before .before .before .loop .inv .1 .0

@@ -1,6 +1,7 @@
 -- Rows 1 and 2 are judged at the place that is read; then `read_frames` walks, and its answer is opened.
-use mathlib.Core.Path.{_≡_, sym, ap, _∙_}
+use mathlib.Core.Path.{_≡_, refl, sym, ap, _∙_}
 use mathlib.Core.Bool.{Bool, true}
+use mathlib.Core.List.{[]}
 use Prim.Native.Nat.{ℕ, _*_}
 use native.Mathlib.Omega.{arith}
 use borrow.Author.Needs.{needs}
@@ -11,8 +12,8 @@ use Rattle.model.specs.declared.Verdict.the-variants.{Pass}
 use Rattle.model.specs.LogBufferDescriptor.{sound, placeOf, firstRows}
 use Rattle.model.specs.TermReader.{natural, goodWalk, readOf, readEntries}
 use Rattle.model.proofs.Rows.{rows-pass}
-use Rattle.model.proofs.PlaceLaws.{Placed, rows-placed}
-use Rattle.model.proofs.ReadLaws.{goodRead, readFrom, read-refused, read-goes, read-walk, frames-refuse, frames-moved}
+use Rattle.model.proofs.PlaceLaws.{Started}
+use Rattle.model.proofs.ReadLaws.{goodRead, readFrom, read-placed, read-refused, read-goes, read-walk, frames-refuse, frames-moved}
 use Rattle.logbuffer.proofs.term_reader.read.Statement.{statement}
 use Rattle.logbuffer.proofs.term_reader.read.Tie as tie
 
@@ -35,8 +36,10 @@ rows : (c : tie.After-first-rows)
     → firstRows (goodRead (p c) (most c) (length (st c .args .entries .now))) (sound (p c .read) (length (st c .args .log .now))) Pass ≡ c .first-rows .result
 rows c = ap (λ (g : Bool). firstRows g (sound (p c .read) (length (st c .args .log .now))) Pass) (sym (c .before .good-read .ensures)) ∙ sym (c .first-rows .ensures)
 
-place : (c : tie.After-first-rows) → c .first-rows .result ≡ Pass → Placed (p c .read) (length (st c .args .log .now)) (p c .partition) (p c .offset)
-place c h = rows-placed (p c) _ _ (rows c ∙ h) .0
+place : (c : tie.After-first-rows) → c .first-rows .result ≡ Pass → Started (p c .read) (length (st c .args .log .now)) (p c .partition) (p c .offset)
+place c h =
+    let g = rows-pass (goodRead (p c) (most c) (length (st c .args .entries .now))) (sound (p c .read) (length (st c .args .log .now))) (rows c ∙ h) in
+    read-placed (p c) (length (st c .args .log .now)) (most c) (length (st c .args .entries .now)) (g .0) (g .1)
 
 -- the walk's answer
 abbrev num : tie.After-read-frames → tie.After-first-rows
@@ -74,13 +77,13 @@ returns-2 : tie.Need-returns-2
 returns-2 c =
     let f = c .before .before .before in
     let told = c .enum-told2 .given .1 in
-    let u = frames-refuse _ _ _ _ _ _ _ _ (walks f) _ (sym (f .read-frames .ensures .0) ∙ told) in
+    let u = frames-refuse _ _ _ _ _ _ [] _ (walks f) refl _ (sym (f .read-frames .ensures .0) ∙ told) in
     (ap Refused (sym u) ∙ ap (readFrom (p (num f) .offset)) (sym told) ∙ goes f .0, goes f .1)
 
 add-t15 : tie.Need-add-t15
 add-t15 c =
     let f = c .before .before .before .before .before in
-    let m = frames-moved _ _ _ _ _ _ _ _ (walks f) _ (sym (f .read-frames .ensures .0) ∙ c .before .before .walked .given .1) in
+    let m = frames-moved _ _ _ _ _ _ [] _ (walks f) refl _ (sym (f .read-frames .ensures .0) ∙ c .before .before .walked .given .1) in
     omega (arith, m, place (num f) (passed f))
 
 returns-3 : tie.Need-returns-3

@@ -26,7 +26,7 @@ returns-3 : tie.Need-returns-3
 returns-3 c = rung-5 _ _ _ (c .before .before .before .if1 .left) (is-so (c .before)) (c .if3 .taken)
 
 after-closed-requires : tie.Need-after-closed-requires
-after-closed-requires c κs = (bounds _ _ (so (c .before)), (c .before .before .before .before .pre, c .before .before .before .if1 .left))
+after-closed-requires c κs = (bounds _ _ (so (c .before)), (c .before .before .before .before .pre, (c .before .before .before .if1 .left, so (c .before) .one-bit)))
 
 returns-4 : tie.Need-returns-4
 returns-4 c = rung-7 _ _ _ (c .before .before .before .before .before .before .if1 .left) (is-so (c .before .before .before .before)) (c .before .before .before .if3 .left) _ _ (c .before .before .after-closed .ensures) (c .enum-told2 .given .1)

@@ -32,7 +32,7 @@ returns-4 : tie.Need-returns-4
 returns-4 c = claim-5 _ _ _ (c .before .before .before .before .if1 .left) (is-so (c .before .before)) (c .before .if3 .left) (c .if4 .taken)
 
 after-closed-requires : tie.Need-after-closed-requires
-after-closed-requires c κs = (bounds _ _ (so (c .before .before)), (c .before .before .before .before .before .pre, c .before .before .before .before .if1 .left))
+after-closed-requires c κs = (bounds _ _ (so (c .before .before)), (c .before .before .before .before .before .pre, (c .before .before .before .before .if1 .left, so (c .before .before) .one-bit)))
 
 returns-5 : tie.Need-returns-5
 returns-5 c = claim-7 _ _ _ (c .before .before .before .before .before .before .before .if1 .left) (is-so (c .before .before .before .before .before)) (c .before .before .before .before .if3 .left) (c .before .before .before .if4 .left) _ _ (c .before .before .after-closed .ensures) (c .enum-told2 .given .1)

@@ -12,11 +12,11 @@ use Rattle.replay.proofs.Replay.next.Statement.{statement}
 use Rattle.replay.proofs.Replay.next.Tie as tie
 
 abbrev Inv-loop : tie.InvT-loop
-Inv-loop rec log buffer₀ replay₀ left₀ buffer replay left =
-    (length buffer ≡ length buffer₀) × (nextFrom left rec log (stateOf replay buffer) ≡ nextOf rec log (stateOf replay₀ buffer₀))
+Inv-loop self₀ rec log buffer₀ left₀ self buffer left =
+    (length buffer ≡ length buffer₀) × (nextFrom left rec log (stateOf self buffer) ≡ nextOf rec log (stateOf self₀ buffer₀))
 
 abbrev μ-loop : tie.MeasureT-loop
-μ-loop rec log buffer₀ replay₀ left₀ buffer replay left = left
+μ-loop self₀ rec log buffer₀ left₀ self buffer left = left
 
 mul-left : tie.Need-mul-left Inv-loop μ-loop
 mul-left c = record { fits = omega (arith, c .word .ensures .1) }
@@ -31,25 +31,25 @@ loop-holds c =
 
 returns : tie.Need-returns Inv-loop μ-loop
 returns c =
-    let a = c .before .before .before .before .before .before .before .before .before .before .before .before .before .args in
-    let l = c .before .before .before .before .before .before .before .before .loop in
-    let t = c .before .before .before .before .before .turn in
-    let w = c .before .before .before .before .before .turn .last .1 .1 .1 .0 in
-    next-stops (a .rec) (a .log .now) (stateOf (l .replay) (l .buffer)) (turned (t .result) w) (t .ensures) (l .left) (omega arith) (not-true _ (c .if1 .taken)) ∙ l .inv .1
+    let a = c .before .before .before .before .before .before .before .before .before .before .before .before .before .before .before .args in
+    let l = c .before .before .before .before .before .before .before .before .before .before .loop in
+    let t = c .before .before .before .before .before .before .before .turn in
+    let w = t .last .1 .1 .1 .0 in
+    next-stops (a .rec) (a .log .now) (stateOf (l .self) (l .buffer)) (turned (t .result) w) (t .ensures) (l .left) (omega arith) (not-true _ (c .if1 .taken)) ∙ l .inv .1
 
 loop-again : tie.Need-loop-again Inv-loop μ-loop
 loop-again c =
-    let a = c .before .before .before .before .before .before .before .before .before .before .before .before .before .args in
-    let l = c .before .before .before .before .before .before .before .before .loop in
-    let t = c .before .before .before .before .before .turn in
-    let w = c .before .before .before .before .before .turn .last .1 .1 .1 .0 in
-    (search needs, next-goes (a .rec) (a .log .now) (stateOf (l .replay) (l .buffer)) (turned (t .result) w) (t .ensures) (l .left) (omega arith) (not-false _ (c .if1 .left)) ∙ l .inv .1)
+    let a = c .before .before .before .before .before .before .before .before .before .before .before .before .before .before .before .args in
+    let l = c .before .before .before .before .before .before .before .before .before .before .loop in
+    let t = c .before .before .before .before .before .before .before .turn in
+    let w = t .last .1 .1 .1 .0 in
+    (search needs, next-goes (a .rec) (a .log .now) (stateOf (l .self) (l .buffer)) (turned (t .result) w) (t .ensures) (l .left) (omega arith) (not-false _ (c .if1 .left)) ∙ l .inv .1)
 
 returns-2 : tie.Need-returns-2 Inv-loop μ-loop
 returns-2 c =
     let a = c .before .before .before .before .before .before .args in
     let l = c .before .loop in
-    next-none (a .rec) (a .log .now) (stateOf (l .replay) (l .buffer)) (l .left) (omega arith) ∙ l .inv .1
+    next-none (a .rec) (a .log .now) (stateOf (l .self) (l .buffer)) (l .left) (omega arith) ∙ l .inv .1
 
 pub next-spec : {M : Type 1} → statement M
 next-spec =

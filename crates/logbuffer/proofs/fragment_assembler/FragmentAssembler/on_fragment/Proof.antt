@@ -1,14 +1,19 @@
 -- The rows are judged at the place that is read; a frame that passes them is joined.
-use mathlib.Core.Path.{_≡_, sym, _∙_}
+use mathlib.Core.Path.{_≡_, sym, ap, _∙_}
 use Prim.Native.Nat.{_+_, _*_}
 use native.Mathlib.Omega.{arith}
 use lib.ListN.{length, drop}
+use lib.IntN.{ℤ}
+use mir.Syntax.{w32}
+use mir.Val.{toZ, ofZ}
+use mir.Facts.{toZ-ofZ}
 use borrow.Author.Needs.{needs}
 use Rattle.model.specs.declared.Place.{Place}
 use Rattle.model.specs.declared.Verdict.{Verdict}
 use Rattle.model.specs.declared.Verdict.the-variants.{Pass, Refuse}
 use Rattle.model.specs.FragmentAssembler.{assembleBy, assembleOf}
-use Rattle.logbuffer.specs.Assembler.{sessionsOf}
+use Rattle.logbuffer.specs.Assembler.{sessionsOf, heldAt}
+use Rattle.logbuffer.proofs.Sessions.{held-by, held-none}
 use Rattle.logbuffer.proofs.Assembly.{three, Framed, verdict-passed, assembles}
 use Rattle.logbuffer.proofs.fragment_assembler.FragmentAssembler.on_fragment.Statement.{
   statement,
@@ -22,11 +27,11 @@ abbrev p : tie.After-assemble-verdict → Place
 p c = c .before .place .result
 
 is : (c : tie.After-assemble-verdict) (x : Verdict) → c .assemble-verdict .result ≡ x
-    → assembleBy (sessionsOf (st c .args .self)) (st c .args .buffer .now) (drop (p c .partition * p c .read .term + p c .offset) (st c .args .log .now)) (p c .offset) x
-    ≡ assembleOf (st c .args .rec) (st c .args .log .now) (sessionsOf (st c .args .self)) (st c .args .buffer .now) (st c .args .partition) (st c .args .offset)
+    → assembleBy (sessionsOf (st c .args .t1)) (st c .args .buffer .now) (drop (p c .partition * p c .read .term + p c .offset) (st c .args .log .now)) (p c .offset) x
+    ≡ assembleOf (st c .args .rec) (st c .args .log .now) (sessionsOf (st c .args .t1)) (st c .args .buffer .now) (st c .args .partition) (st c .args .offset)
 is c x e =
     let a = st c .args in
-    assembles (a .rec) (a .log .now) (sessionsOf (a .self)) (a .buffer .now) (a .partition) (a .offset) (p c) x
+    assembles (a .rec) (a .log .now) (sessionsOf (a .t1)) (a .buffer .now) (a .partition) (a .offset) (p c) x
     (c .before .place .ensures .0 ∙ search needs) (sym e ∙ c .assemble-verdict .ensures)
 
 framed : (c : tie.After-assemble-verdict) → c .assemble-verdict .result ≡ Pass → Framed (st c .args .log .now) (p c .partition * p c .read .term + p c .offset)
@@ -49,11 +54,37 @@ join-frame-requires c κs =
 returns : tie.Need-returns
 returns c = three _ _ (is (c .before .before .before) (Refuse (c .before .e .given .0 .0)) (c .before .e .given .1))
 
+-- what the frame leaves, and that the session comes out as it went in
+module _ (c : tie.After-join-frame) where
+  abbrev a : tie.Start
+  a = c .before .before .before .before .before .before .before .before .before .before
+
+  told : ((c .join-frame .result .answer ≡ assembleOf (a .args .rec) (a .args .log .now) (sessionsOf (a .args .t1)) (a .args .buffer .now) (a .args .partition) (a .args .offset) .answer)
+      × (heldAt (sessionsOf (a .args .t1)) (c .join-frame .result .place) (c .join-frame .result .session) (c .join-frame .result .held) ≡ assembleOf (a .args .rec) (a .args .log .now) (sessionsOf (a .args .t1)) (a .args .buffer .now) (a .args .partition) (a .args .offset) .next))
+      × (c .join-frame .last .1 .1 .0 ≡ assembleOf (a .args .rec) (a .args .log .now) (sessionsOf (a .args .t1)) (a .args .buffer .now) (a .args .partition) (a .args .offset) .buffer)
+  told =
+      let t = three _ _ (is (c .before .before .before .before .before .before) Pass (c .before .before .before .before .enum-told .given .1)) in
+      let j = c .join-frame .ensures in
+      ((j .0 .0 ∙ t .0 .0, j .0 .1 ∙ t .0 .1), j .1 ∙ t .1)
+
+  session-is : toZ w32 (ofZ w32 (c .join-frame .result .session)) ≡ c .join-frame .result .session
+  session-is = toZ-ofZ {w = w32} {z = c .join-frame .result .session} (search needs)
+
 returns-2 : tie.Need-returns-2
 returns-2 c =
-    let t = three _ _ (is (c .before .before .before .before .before .before .before .before) Pass (c .before .before .before .before .before .before .enum-told .given .1)) in
-    let j = c .before .before .join-frame .ensures in
-    ((j .0 .0 ∙ t .0 .0, j .0 .1 ∙ t .0 .1), j .1 ∙ t .1)
+    let q = c .before .before .before .before .before in
+    let t = told q in
+    let s = sessionsOf (a q .args .t1) in
+    let k = q .join-frame .result .place in
+    let n = q .join-frame .result .held in
+    let e = held-by s k (toZ w32 (ofZ w32 (q .join-frame .result .session))) n (c .entered-with .result) (omega arith) (c .entered-with .ensures) in
+    ((t .0 .0, e ∙ ap (λ (z : ℤ). heldAt s k z n) (session-is q) ∙ t .0 .1), t .1)
+
+returns-3 : tie.Need-returns-3
+returns-3 c =
+    let q = c .before .before .before .before in
+    let t = told q in
+    ((t .0 .0, held-none (sessionsOf (a q .args .t1)) (q .join-frame .result .place) (q .join-frame .result .session) (q .join-frame .result .held) (omega arith) ∙ t .0 .1), t .1)
 
 pub on-fragment-spec : {M : Type 1} → statement M
 on-fragment-spec =
@@ -66,6 +97,13 @@ on-fragment-spec =
     mul-index
     add-index
     join-frame-requires
+    (search needs)
+    (search needs)
+    (search needs)
+    (search needs)
+    (search needs)
     returns
     (search needs)
-    returns-2)
+    returns-2
+    (search needs)
+    returns-3)
