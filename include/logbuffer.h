@@ -9,9 +9,9 @@
  * - A slice is a pointer and a count of elements. The pointer must be valid for so many elements, and no slice that is written may
  *   overlap another one of the same call. A bool must hold 0 or 1. Nothing else is asked: any number and any bytes may be handed in.
  * - `code` is 0, or the number of the refusal below. Where it is not 0 the other values of a reply are 0, and `next` is what the call
- *   leaves: what it was given, unless the refusal's line says otherwise.
+ *   leaves: what it was given, unless the refusal's line or the call's says otherwise.
  *
- * Refusals, by number (docs/GUIDE.md says what to do about each)
+ * Refusals, by number (docs/ERRORS.md says what to do about each)
  *    1  an argument is out of its range               10  message longer than payload limit and message limit
  *    2  the record or the log breaks its ranges       11  tail offset and need together over 2147483647
  *    3  the image's position is out of its range      12  tripped in the last term (tail and padding stay)
@@ -22,13 +22,14 @@
  *    7  the greatest position is reached (after a     16  new position not a multiple of 32
  *       trip, tail and padding stay)
  *    8  back pressure: the limit is reached           17  the first frame is unsound
- *    9  the same, and not connected                   18  assembler: a 17th session, or fragments longer than their part
+ *    9  the same, and not connected                   18  assembler: a 17th session; or fragments longer than their part
+ *                                                         (their session stays entered, emptied)
  *
  * An example
  *
  *   static uint8_t bytes[3 * 65536], buffer[16 * 8192];
  *   struct logbuffer_record_reply r = logbuffer_open(bytes, sizeof bytes, 65536, 1408, 7, 11, 22);
- *   r = logbuffer_set_publication_limit(r.next, 1 << 20);
+ *   r = logbuffer_set_publication_limit(r.next, 2 * 65536); // two terms ahead of the slowest reader, here at 0
  *   struct logbuffer_offer_reply o = logbuffer_offer(r.next, bytes, sizeof bytes, (const uint8_t *)"coin", 4, 0);
  *   // o.code is 0, o.position 64; the next call takes o.next
  *   struct logbuffer_replay replay = logbuffer_replay_new(11);
@@ -196,7 +197,9 @@ struct logbuffer_poll_reply {
     size_t entries;
 };
 
+/* The image as it was, the position after the last whole message, and the entries written. */
 struct logbuffer_peek_reply {
+    struct logbuffer_image next;
     int32_t code;
     int64_t position;
     size_t entries;
@@ -254,7 +257,9 @@ struct logbuffer_count_reply {
 struct logbuffer_record_reply logbuffer_open(uint8_t *log, size_t log_length, int32_t term_length, int32_t mtu_length,
                                              int32_t initial_term_id, int32_t session_id, int32_t stream_id);
 
-/* How far offers and claims may go: from 0 to 2^62. Refuses 2. */
+/* Offers and claims that begin below this position are let through: from 0 to 2^62. Keep it at most two terms ahead of the slowest
+ * reader, and raise it as readers move on: only the start is judged, so a message may end past the limit, and what comes to lie three terms
+ * ahead of a reader overwrites, without a word, what it has not read. Refuses 2. */
 struct logbuffer_record_reply logbuffer_set_publication_limit(struct logbuffer_record rec, int64_t limit);
 
 /* Offers, claims and the three numbers below then refuse 5. Refuses 2. */
@@ -303,6 +308,10 @@ struct logbuffer_span_reply logbuffer_claim_body(struct logbuffer_record rec, co
                                                  struct logbuffer_claim claim);
 int32_t logbuffer_claim_body_number(struct logbuffer_record rec, const uint8_t *log, size_t log_length, struct logbuffer_claim claim);
 
+/* Writes bytes over the body of an open claim, from its start on and as far as it goes. The answer is the number: 0, 1, 2, 14. */
+int32_t logbuffer_claim_write(struct logbuffer_record rec, uint8_t *log, size_t log_length, struct logbuffer_claim claim,
+                              const uint8_t *bytes, size_t bytes_length);
+
 /* Makes an open claim a message; or padding, which readers pass. The answer is the number: 0, 1, 2, 14. */
 int32_t logbuffer_commit(struct logbuffer_record rec, uint8_t *log, size_t log_length, struct logbuffer_claim claim);
 int32_t logbuffer_abort(struct logbuffer_record rec, uint8_t *log, size_t log_length, struct logbuffer_claim claim);
@@ -333,8 +342,8 @@ struct logbuffer_span_reply logbuffer_view(struct logbuffer_record rec, const ui
 int32_t logbuffer_view_number(struct logbuffer_record rec, const uint8_t *log, size_t log_length, int32_t partition, int32_t offset,
                               int32_t length);
 
-/* The end of the finished frames up to a limit; the gap in them up to a high mark; the bytes available for sending, and the padding
- * after them. Each refuses 1, 2, 17. */
+/* The end of the finished frames up to a limit, of which padding is taken only as the first, and then alone and even where it ends past
+ * the limit; the gap in them up to a high mark; the bytes available for sending, and the padding after them. Each refuses 1, 2, 17. */
 struct logbuffer_scan_reply logbuffer_scan(struct logbuffer_record rec, const uint8_t *log, size_t log_length, int32_t partition,
                                            int32_t offset, int32_t limit);
 struct logbuffer_gap_reply logbuffer_scan_for_gap(struct logbuffer_record rec, const uint8_t *log, size_t log_length, int32_t partition,
@@ -348,8 +357,8 @@ struct logbuffer_availability_reply logbuffer_scan_for_availability(struct logbu
 struct logbuffer_image logbuffer_image_new(int64_t position, int32_t session_id);
 
 /* Reads fragments up to the end of the term and moves past them; entries as in logbuffer_read, in the term of the position before the
- * call. Refuses 1, 2, 3, 17. The second reads nothing at or past a position. The third takes an answer for each fragment: 1 abort, 2
- * break, 3 commit, 4 continue. */
+ * call. Refuses 1, 2, 3, 17. The second reads no frame that begins at or past a position. The third takes an answer for each fragment: 1
+ * abort, 2 break, 3 commit, 4 continue. */
 struct logbuffer_poll_reply logbuffer_image_poll(struct logbuffer_image image, struct logbuffer_record rec, const uint8_t *log,
                                                  size_t log_length, int32_t *entries, size_t entries_length, int32_t fragment_limit);
 struct logbuffer_poll_reply logbuffer_image_bounded_poll(struct logbuffer_image image, struct logbuffer_record rec, const uint8_t *log,
@@ -360,14 +369,15 @@ struct logbuffer_poll_reply logbuffer_image_controlled_poll(struct logbuffer_ima
                                                             size_t entries_length, const uint8_t *actions, size_t actions_length,
                                                             int32_t fragment_limit);
 
-/* Reads from a start at or after the image's position without moving it, one fragment for each action, and answers the position after
- * the last whole message. Refuses 1, 2, 3, 15, 16, 17. */
+/* Reads from a start at or after the image's position without moving it, at most one fragment for each action, and answers the position
+ * after the last whole message or padding, which counts also between the fragments of a message. Refuses 1, 2, 3, 15, 16, 17. */
 struct logbuffer_peek_reply logbuffer_image_controlled_peek(struct logbuffer_image image, struct logbuffer_record rec,
                                                             const uint8_t *log, size_t log_length, int32_t *entries,
                                                             size_t entries_length, const uint8_t *actions, size_t actions_length,
                                                             int64_t start, int64_t limit_position);
 
-/* Moves past whole frames of at most limit bytes and answers where they lie. Refuses 2, 3, 17. */
+/* Moves past whole frames of together at most limit bytes and answers where they lie. Padding is taken only as the first frame, and then
+ * alone and even where it is longer than the limit. Refuses 2, 3, 17. */
 struct logbuffer_block_reply logbuffer_image_block_poll(struct logbuffer_image image, struct logbuffer_record rec, const uint8_t *log,
                                                         size_t log_length, int32_t limit);
 
@@ -386,11 +396,12 @@ struct logbuffer_image_reply logbuffer_image_close(struct logbuffer_image image,
 /* ---- messages put together again */
 
 /* An assembler that has entered no session. Its buffer is cut into 16 equal parts, one a session: a part must hold the longest message
- * that comes in fragments. */
+ * that comes in fragments. It holds the fragments met so far, so hand the same buffer to each call and leave it alone in between. */
 struct logbuffer_assembler logbuffer_assembler_new(void);
 
-/* Takes the frame at an offset of a partition. An unfragmented message lies in the log, one put together lies in the buffer. Refuses 1,
- * 2, 17, 18. */
+/* Takes the frame at an offset of a partition. An unfragmented message lies in the log, one put together lies in the buffer, until the
+ * next call. Refuses 1, 2, 17, 18. After 18 for fragments longer than their part that session stays entered, emptied, and the rest of the
+ * message is ignored; 18 for a 17th session changes nothing. */
 struct logbuffer_assembly_reply logbuffer_assembler_on_fragment(struct logbuffer_assembler assembler, struct logbuffer_record rec,
                                                                 const uint8_t *log, size_t log_length, uint8_t *buffer,
                                                                 size_t buffer_length, int32_t partition, int32_t offset);
@@ -398,8 +409,10 @@ struct logbuffer_assembly_reply logbuffer_assembler_on_fragment(struct logbuffer
 /* A replay from position 0. */
 struct logbuffer_replay logbuffer_replay_new(int32_t session_id);
 
-/* The next message; LOGBUFFER_NOTHING at the end, which is also before the first claim still open. Refuses as polls and the assembler
- * do: 1, 2, 3, 17, 18. */
+/* The next message; LOGBUFFER_NOTHING at the end, which is also before the first claim still open. It polls a fragment at a time into the
+ * assembler, over the same buffer from call to call, and what it read before a refusal stays read. Refuses 2, 3, 17 as a poll does, and
+ * then stands before the frame that it could not read: called again it refuses again. Refuses 1 (buffer over 2147483647) and 18 as the
+ * assembler does, and then stands behind that frame: called again it goes on with the next message. */
 struct logbuffer_next_reply logbuffer_replay_next(struct logbuffer_replay replay, struct logbuffer_record rec, const uint8_t *log,
                                                   size_t log_length, uint8_t *buffer, size_t buffer_length);
 

@@ -29,10 +29,10 @@ static struct logbuffer_record offer(struct logbuffer_record rec, const char *ca
 static struct logbuffer_record claim(struct logbuffer_record rec, const char *call, const char *text, bool keep) {
     struct logbuffer_claim_reply c = logbuffer_try_claim(rec, log_bytes, sizeof log_bytes, (int32_t)strlen(text));
     told(call, c.code, c.position);
-    struct logbuffer_span_reply body = logbuffer_claim_body(c.next, log_bytes, sizeof log_bytes, c.claim);
-    memcpy(log_bytes + body.start, text, body.length);
-    int32_t code = keep ? logbuffer_commit(c.next, log_bytes, sizeof log_bytes, c.claim)
-                        : logbuffer_abort(c.next, log_bytes, sizeof log_bytes, c.claim);
+    int32_t code = logbuffer_claim_write(c.next, log_bytes, sizeof log_bytes, c.claim, (const uint8_t *)text, strlen(text));
+    printf("  write: %" PRId32 "\n", code);
+    code = keep ? logbuffer_commit(c.next, log_bytes, sizeof log_bytes, c.claim)
+                : logbuffer_abort(c.next, log_bytes, sizeof log_bytes, c.claim);
     printf("  %s: %" PRId32 "\n", keep ? "commit" : "abort", code);
     return c.next;
 }
@@ -57,7 +57,8 @@ int main(void) {
     struct logbuffer_record_reply r = logbuffer_open(log_bytes, sizeof log_bytes, TERM, 96, 7, 11, 22);
     printf("open: %" PRId32 "\n", r.code);
     struct logbuffer_record rec = offer(r.next, "offer before a limit is set", (const uint8_t *)"coin", 4);
-    rec = logbuffer_set_publication_limit(rec, 1 << 20).next;
+    /* two terms ahead of the slowest reader, here at 0: include/logbuffer.h says why */
+    rec = logbuffer_set_publication_limit(rec, 2 * TERM).next;
     rec = offer(rec, "offer of 4 bytes", (const uint8_t *)"coin", 4);
     rec = claim(rec, "claim of 8 bytes", "potsherd", true);
     rec = claim(rec, "claim of 6 bytes", "fibula", false);

@@ -83,9 +83,9 @@ impl State<'_> {
         refuse_if(self.breaks_record(tail) || self.log.len() as i64 != 3 * self.term_length(), 2)
     }
 
-    /// Row 1 of a partition and an offset that is a multiple of 32 below the term length.
-    fn off_range(&self, partition: i32, offset: i32) -> Step {
-        let is_offset = offset >= 0 && offset % 32 == 0 && (offset as i64) < self.term_length();
+    /// Row 1 of a partition and an offset that is a multiple of 32 up to a last one.
+    fn off_range(&self, partition: i32, offset: i32, last: i64) -> Step {
+        let is_offset = offset >= 0 && offset % 32 == 0 && (offset as i64) <= last;
         refuse_if(!(0..=2).contains(&partition) || !is_offset, 1)
     }
 
@@ -331,12 +331,17 @@ fn few(entries: usize, fragment_limit: i32) -> bool {
 
 fn frames(call: &Call, s: &State) -> Step {
     let judged = |partition: &i32, offset: &i32, is_broken: bool| {
-        let step = s.off_range(*partition, *offset).or_else(|| refuse_if(is_broken, 1));
+        let step = s.off_range(*partition, *offset, s.term_length() - 1).or_else(|| refuse_if(is_broken, 1));
+        step.or_else(|| s.breaks(s.active()))
+    };
+    // A read may also start at the term's end.
+    let judged_read = |partition: &i32, offset: &i32, is_broken: bool| {
+        let step = s.off_range(*partition, *offset, s.term_length()).or_else(|| refuse_if(is_broken, 1));
         step.or_else(|| s.breaks(s.active()))
     };
     Some(match call {
         Call::HeaderFields { partition, offset } => judged(partition, offset, false).unwrap_or(Inside),
-        Call::Read { partition, offset, fragment_limit, entries } => judged(partition, offset, few(*entries, *fragment_limit))
+        Call::Read { partition, offset, fragment_limit, entries } => judged_read(partition, offset, few(*entries, *fragment_limit))
             .unwrap_or_else(|| {
                 let (partition, offset) = (*partition as i64, *offset as i64);
                 read(s, &Walk { partition, offset, end: s.term_length(), fragments: *fragment_limit as i64, actions: &[] })
@@ -458,7 +463,7 @@ pub fn judge(call: &Call, s: &State) -> Verdict {
 impl State<'_> {
     /// Rows 1 and 2 of the assembler: a frame of positive length at a multiple of 32 inside the term.
     pub fn fragment(&self, partition: i32, offset: i32) -> Step {
-        let step = self.off_range(partition, offset).or_else(|| {
+        let step = self.off_range(partition, offset, self.term_length() - 1).or_else(|| {
             let index = (partition as i64 * self.term_length() + offset as i64) as usize;
             refuse_if(index + 4 > self.log.len() || self.word(index) <= 0, 1)
         });

@@ -41,7 +41,7 @@ mod c {
     reply!(GapReply { code: i32, is_gap: bool, term_id: i32, offset: usize, length: usize });
     reply!(AvailabilityReply { code: i32, outcome: i64 });
     reply!(PollReply { next: Image, code: i32, fragments: usize, entries: usize });
-    reply!(PeekReply { code: i32, position: i64, entries: usize });
+    reply!(PeekReply { next: Image, code: i32, position: i64, entries: usize });
     reply!(BlockReply { next: Image, code: i32, offset: usize, length: usize, session_id: i32, term_id: i32 });
     reply!(ImageReply { next: Image, code: i32 });
     reply!(EndOfStreamReply { code: i32, is_eos: bool });
@@ -405,13 +405,16 @@ impl Port {
             }
             Call::ControlledPeek { image, entries, actions, start, limit_position } => {
                 let (bytes, a) = (actions.as_ptr(), actions.len());
-                let of = images[*image];
-                self.with_entries(*entries, |lent, m| {
+                let mut next = images[*image];
+                let answer = self.with_entries(*entries, |lent, m| {
                     let reply = unsafe {
-                        c::logbuffer_image_controlled_peek(of, record, log, n, lent, m, bytes, a, *start, *limit_position)
+                        c::logbuffer_image_controlled_peek(next, record, log, n, lent, m, bytes, a, *start, *limit_position)
                     };
+                    next = reply.next;
                     Answer { code: reply.code, ..Answer::of(&[reply.position, reply.entries as i64]) }
-                })
+                });
+                self.images[*image] = next;
+                answer
             }
             _ => return None,
         })

@@ -42,8 +42,8 @@ impl Assembler {
     }
 
     /// Takes the next fragment of a log and answers the message that it ends, if it ends one. Refuses [`Error::AssemblyFull`] for a 17th
-    /// session or a message longer than its part, and for a fragment of another log [`Error::IllegalArgument`] or
-    /// [`Error::UnsoundFrame`] where no such frame lies here.
+    /// session, which changes nothing, or for a message longer than its part, of which nothing is then held; and for a fragment of another
+    /// log [`Error::IllegalArgument`] or [`Error::UnsoundFrame`] where no such frame lies here.
     ///
     /// ```
     /// use logbuffer::{Assembler, Error, Log};

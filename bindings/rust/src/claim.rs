@@ -94,6 +94,22 @@ impl<'a> Claim<'a> {
         self.open.position
     }
 
+    /// Writes bytes over the body, from its start on. Bytes that it has no room for are left out, and what they do not reach stays as
+    /// it was.
+    ///
+    /// ```
+    /// let mut log = logbuffer::Log::builder().open()?;
+    /// let mut claim = log.try_claim(4)?;
+    /// claim.write(b"coins and pins")?;
+    /// claim.write(b"C")?;
+    /// assert_eq!(&claim[..], b"Coin");
+    /// claim.commit()?;
+    /// # Ok::<(), logbuffer::Error>(())
+    /// ```
+    pub fn write(&mut self, bytes: &[u8]) -> Result<(), Error> {
+        Error::check(sys::claim_write(self.log.record, &mut self.log.bytes, self.open.claim, bytes))
+    }
+
     /// Makes the frame a message and answers the position after it. A claim that was not committed before is never refused.
     ///
     /// ```

@@ -99,7 +99,7 @@ refusals! {
         "the log was damaged at the reader's position: what lies before is good, go on in the next term"
     18 AssemblyFull
         "begin frame of a 17th session, or fragments longer together than their part of the buffer"
-        "the session stays entered, emptied: lend a buffer of 16 times the longest message, or a fresh assembler"
+        "a session of too long fragments stays entered, emptied; a 17th changes nothing: lend 16 times the longest message, or a fresh assembler"
 }
 
 impl Error {

@@ -41,7 +41,7 @@ fn replies_have_the_sizes_of_c() {
     assert_eq!(size_of::<GapReply>(), 32);
     assert_eq!(size_of::<AvailabilityReply>(), 16);
     assert_eq!(size_of::<PollReply>(), 40);
-    assert_eq!(size_of::<PeekReply>(), 24);
+    assert_eq!(size_of::<PeekReply>(), 40);
     assert_eq!(size_of::<BlockReply>(), 48);
     assert_eq!(size_of::<ImageReply>(), 24);
     assert_eq!(size_of::<EndOfStreamReply>(), 8);

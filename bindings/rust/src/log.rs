@@ -12,7 +12,7 @@ use std::fmt;
 ///
 /// let mut log = Log::open(65_536, 96, 7, 11, 22)?;
 /// assert_eq!(log.offer(b"coin"), Err(Error::BackPressured)); // a fresh log has limit 0
-/// log.set_publication_limit(1 << 20)?;
+/// log.set_publication_limit(2 * 65_536)?; // two terms ahead of the slowest reader, here at 0
 /// assert_eq!(log.offer(b"coin"), Ok(64));
 /// # Ok::<(), Error>(())
 /// ```
@@ -106,8 +106,11 @@ impl Log {
         &self.bytes
     }
 
-    /// Lets writers go up to a position from 0 to 2^62; any other is refused with [`Error::IllegalRecord`]. A limit may also be set
-    /// lower, and after a close.
+    /// Lets offers and claims through that begin below a position from 0 to 2^62; any other is refused with [`Error::IllegalRecord`]. A
+    /// limit may also be set lower, and after a close.
+    ///
+    /// Keep it at most two terms ahead of the slowest reader: only the start is judged, so a message may end past the limit, and what
+    /// comes to lie three terms ahead of a reader overwrites what it has not read.
     ///
     /// ```
     /// use logbuffer::{Error, Log};
@@ -190,7 +193,7 @@ impl Log {
     }
 
     /// Appends a message, in fragments where it is longer than the payload limit (mtu - 32), and answers the position after it. No two
-    /// accepted calls are answered the same position.
+    /// accepted calls on one log are answered the same position.
     ///
     /// Refuses [`PublicationClosed`](Error::PublicationClosed), [`AdminAction`](Error::AdminAction) where the term was full (make the
     /// call again), [`BackPressured`](Error::BackPressured) or [`NotConnected`](Error::NotConnected) at the limit,

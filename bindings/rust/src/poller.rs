@@ -73,8 +73,8 @@ pub struct Block<'a> {
 
 /// A reader at a position of a log. Made by [`Log::poller`]; it borrows nothing, so each call is handed the log.
 ///
-/// A reader more than two terms behind the publisher may find its place written anew; keep the publication limit at most two terms past
-/// the slowest reader.
+/// A reader three terms behind the publisher finds its place written anew; keep the publication limit at most two terms past the slowest
+/// reader, for a message may end past the limit.
 ///
 /// Its calls refuse a position that is negative, over the greatest, or not a multiple of 32 with [`Error::PositionOutOfRange`], and a
 /// damaged frame at their start with [`Error::UnsoundFrame`].
@@ -185,8 +185,8 @@ impl Poller {
     }
 
     /// Looks from `start`, at or after the reader's position in the same term, at no more than `limit` fragments that begin before
-    /// `limit_position`, and answers the position after the last whole message. The reader stays. Refuses a start elsewhere with
-    /// [`Error::NewPositionOutOfRange`] or [`Error::NewPositionNotAligned`].
+    /// `limit_position`, and answers the position after the last whole message or padding. The reader stays. Refuses a start elsewhere
+    /// with [`Error::NewPositionOutOfRange`] or [`Error::NewPositionNotAligned`].
     ///
     /// ```
     /// use logbuffer::{Action, Log};
@@ -210,17 +210,17 @@ impl Poller {
     ) -> Result<i64, Error> {
         let limit_position = limit_position.min(log.publisher_position());
         let onward = vec![Action::Continue as u8; self.reserve(log, start, limit)];
-        let image = self.image;
-        let peek = |entries: &mut [i32], actions: &[u8]| {
-            let reply = sys::image_controlled_peek(image, log.record, &log.bytes, entries, actions, start, limit_position);
+        let peek = |image: &mut Image, entries: &mut [i32], actions: &[u8]| {
+            let reply = sys::image_controlled_peek(*image, log.record, &log.bytes, entries, actions, start, limit_position);
+            *image = reply.next;
             Error::check(reply.code).map(|()| reply)
         };
-        let first = peek(&mut self.entries, &onward)?;
+        let first = peek(&mut self.image, &mut self.entries, &onward)?;
         let actions = self.ask(log, log.partition_of(start), first.entries, handler)?;
         if !is_stopped(&actions) {
             return Ok(first.position);
         }
-        Ok(peek(&mut self.entries, &actions)?.position)
+        Ok(peek(&mut self.image, &mut self.entries, &actions)?.position)
     }
 
     /// Moves past whole frames of at most `limit` bytes and answers them as they lie; none where there are none. Padding at the front is

@@ -26,7 +26,7 @@ pub struct Record {
     pub stream_id: i32,
     /// 1 is yes, any other number no. No call sets it.
     pub is_connected: i32,
-    /// Nothing is accepted at or past this position.
+    /// Nothing that begins at or past this position is accepted.
     pub publication_limit: i64,
     /// Where the stream ends for readers: 2^63 - 1 unless set by hand.
     pub end_of_stream_position: i64,
@@ -120,7 +120,7 @@ replies! {
     GapReply { code: i32, is_gap: bool, term_id: i32, offset: usize, length: usize }
     AvailabilityReply { code: i32, outcome: i64 }
     PollReply { next: Image, code: i32, fragments: usize, entries: usize }
-    PeekReply { code: i32, position: i64, entries: usize }
+    PeekReply { next: Image, code: i32, position: i64, entries: usize }
     BlockReply { next: Image, code: i32, offset: usize, length: usize, session_id: i32, term_id: i32 }
     ImageReply { next: Image, code: i32 }
     EndOfStreamReply { code: i32, is_eos: bool }
@@ -177,6 +177,9 @@ mod face {
         pub fn logbuffer_try_claim(rec: Record, log: Out, log_length: usize, length: i32) -> ClaimReply;
         pub fn logbuffer_claim_body(rec: Record, log: In, log_length: usize, claim: Claim) -> SpanReply;
         pub fn logbuffer_claim_body_number(rec: Record, log: In, log_length: usize, claim: Claim) -> i32;
+        pub fn logbuffer_claim_write(
+            rec: Record, log: Out, log_length: usize, claim: Claim, bytes: In, bytes_length: usize,
+        ) -> i32;
         pub fn logbuffer_commit(rec: Record, log: Out, log_length: usize, claim: Claim) -> i32;
         pub fn logbuffer_abort(rec: Record, log: Out, log_length: usize, claim: Claim) -> i32;
         pub fn logbuffer_append_unfragmented_message(
@@ -265,6 +268,11 @@ pub fn try_claim(rec: Record, log: &mut [u8], length: i32) -> ClaimReply {
 pub fn claim_body(rec: Record, log: &[u8], claim: Claim) -> SpanReply {
     // SAFETY: pointers and lengths are those of the slices.
     unsafe { face::logbuffer_claim_body(rec, log.as_ptr(), log.len(), claim) }
+}
+
+pub fn claim_write(rec: Record, log: &mut [u8], claim: Claim, bytes: &[u8]) -> i32 {
+    // SAFETY: pointers and lengths are those of the slices.
+    unsafe { face::logbuffer_claim_write(rec, log.as_mut_ptr(), log.len(), claim, bytes.as_ptr(), bytes.len()) }
 }
 
 pub fn commit(rec: Record, log: &mut [u8], claim: Claim) -> i32 {

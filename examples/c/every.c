@@ -1,0 +1,216 @@
+/* Every call of include/logbuffer.h, with numbers that differ from each other, and every number of every reply printed: a parameter or a
+ * field that stood in another place than in the archive would print something else. This is a test; log.c is the example to read. */
+#include <inttypes.h>
+#include <stdio.h>
+#include <string.h>
+
+#include "logbuffer.h"
+
+enum { TERM = 65536 };
+
+static uint8_t log_bytes[3 * TERM], second_log[3 * TERM];
+static uint8_t buffer[16 * 8192];
+static int32_t entries[8];
+
+/* Prints a call, then each number after its name; the names are parted by blanks. */
+static void say(const char *call, const char *names, const int64_t *numbers) {
+    printf("%s:", call);
+    for (const char *end; *names; names = *end ? end + 1 : end) {
+        end = names + strcspn(names, " ");
+        printf(" %.*s %" PRId64, (int)(end - names), names, *numbers++);
+    }
+    printf("\n");
+}
+#define SAY(call, names, ...) say(call, names, (int64_t[]){__VA_ARGS__})
+
+static void say_record(const char *call, struct logbuffer_record r, int32_t code) {
+    SAY(call, "code tail tail tail count initial term mtu session stream connected limit end closed", code, r.tails[0], r.tails[1],
+        r.tails[2], r.active_term_count, r.initial_term_id, r.term_length, r.mtu_length, r.session_id, r.stream_id, r.is_connected,
+        r.publication_limit, r.end_of_stream_position, r.is_closed);
+}
+
+static void say_claim(const char *call, struct logbuffer_claim c) {
+    SAY(call, "partition offset length term_id", c.partition, c.offset, c.length, c.term_id);
+}
+
+static void say_image(const char *call, struct logbuffer_image i) {
+    SAY(call, "position session closed eos", i.position, i.session_id, i.is_closed, i.is_eos);
+}
+
+static void say_assembler(const char *call, struct logbuffer_assembler a) {
+    SAY(call, "count id id id held held held", a.count, a.ids[0], a.ids[1], a.ids[15], a.held[0], a.held[1], a.held[15]);
+}
+
+static void say_poll(const char *call, struct logbuffer_poll_reply p) {
+    SAY(call, "code fragments entries", p.code, p.fragments, p.entries);
+    say_image("  next", p.next);
+    SAY("  entries", "offset length offset length", entries[0], entries[1], entries[2], entries[3]);
+    memset(entries, 0, sizeof entries);
+}
+
+static void numbers(void) {
+    int64_t tail = ((int64_t)7 << 32) + 96;
+    SAY("align", "of_33", logbuffer_align(33));
+    SAY("is_power_of_two", "of_64 of_65", logbuffer_is_power_of_two(64), logbuffer_is_power_of_two(65));
+    SAY("term_id", "id", logbuffer_term_id(tail));
+    SAY("term_offset", "offset", logbuffer_term_offset(tail, TERM));
+    SAY("index_by_term_count", "of_5", logbuffer_index_by_term_count(5));
+    SAY("index_by_position", "index", logbuffer_index_by_position(131136, 16));
+    SAY("position_bits_to_shift", "bits", logbuffer_position_bits_to_shift(TERM));
+    struct logbuffer_position_reply p = logbuffer_compute_position(9, 64, 16, 7);
+    SAY("compute_position", "code position", p.code, p.position);
+}
+
+/* A log with messages at 0 (4 bytes), at 128 (5 bytes) and from 256 to 448 (100 bytes, two fragments), and padding at 64 and 192. */
+static struct logbuffer_record written(void) {
+    struct logbuffer_record_reply r = logbuffer_open(log_bytes, sizeof log_bytes, TERM, 96, 7, 11, 22);
+    say_record("open", r.next, r.code);
+    r = logbuffer_set_publication_limit(r.next, 2 * TERM);
+    say_record("set_publication_limit", r.next, r.code);
+    struct logbuffer_offer_reply o = logbuffer_offer(r.next, log_bytes, sizeof log_bytes, (const uint8_t *)"coin", 4, 77);
+    say_record("offer", o.next, o.code);
+    SAY("  answer", "position", o.position);
+    struct logbuffer_claim_reply c = logbuffer_try_claim(o.next, log_bytes, sizeof log_bytes, 6);
+    say_record("try_claim", c.next, c.code);
+    SAY("  answer", "position", c.position);
+    say_claim("  claim", c.claim);
+    SAY("abort", "code", logbuffer_abort(c.next, log_bytes, sizeof log_bytes, c.claim));
+    c = logbuffer_try_claim(c.next, log_bytes, sizeof log_bytes, 5);
+    struct logbuffer_span_reply s = logbuffer_claim_body(c.next, log_bytes, sizeof log_bytes, c.claim);
+    SAY("claim_body", "code start length", s.code, s.start, s.length);
+    memcpy(log_bytes + s.start, "shard", s.length);
+    SAY("commit", "code", logbuffer_commit(c.next, log_bytes, sizeof log_bytes, c.claim));
+    SAY("claim_body_number", "code", logbuffer_claim_body_number(c.next, log_bytes, sizeof log_bytes, c.claim));
+    c = logbuffer_try_claim(c.next, log_bytes, sizeof log_bytes, 7);
+    logbuffer_abort(c.next, log_bytes, sizeof log_bytes, c.claim);
+    uint8_t message[100];
+    memset(message, 'x', sizeof message);
+    return logbuffer_offer(c.next, log_bytes, sizeof log_bytes, message, sizeof message, 88).next;
+}
+
+static void positions(struct logbuffer_record rec) {
+    struct logbuffer_position_reply p = logbuffer_position(rec);
+    SAY("position", "code position", p.code, p.position);
+    p = logbuffer_publication_limit(rec);
+    SAY("publication_limit", "code position", p.code, p.position);
+    p = logbuffer_available_window(rec);
+    SAY("available_window", "code position", p.code, p.position);
+    struct logbuffer_record_reply r = logbuffer_rotate_log(rec, 0, 7);
+    say_record("rotate_log", r.next, r.code);
+    r = logbuffer_close(rec);
+    say_record("close", r.next, r.code);
+}
+
+/* A second log, of session 13 and stream 26, whose partitions 1 and 2 are written with term ids 18 and 19. */
+static struct logbuffer_record appended(void) {
+    struct logbuffer_record rec = logbuffer_open(second_log, sizeof second_log, TERM, 96, 20, 13, 26).next;
+    uint8_t message[100];
+    memset(message, 'y', sizeof message);
+    struct logbuffer_append_reply a =
+        logbuffer_append_unfragmented_message(rec, second_log, sizeof second_log, 1, message, 30, 55, 18);
+    say_record("append_unfragmented_message", a.next, a.code);
+    SAY("  answer", "tripped offset", a.is_tripped, a.offset);
+    a = logbuffer_append_fragmented_message(a.next, second_log, sizeof second_log, 2, message, 100, 33, 64, 19);
+    say_record("append_fragmented_message", a.next, a.code);
+    SAY("  answer", "tripped offset", a.is_tripped, a.offset);
+    struct logbuffer_append_claim_reply c = logbuffer_append_claim(a.next, second_log, sizeof second_log, 2, 10, 19);
+    say_record("append_claim", c.next, c.code);
+    SAY("  answer", "tripped offset", c.is_tripped, c.offset);
+    say_claim("  claim", c.claim);
+    struct logbuffer_record full = c.next;
+    full.tails[1] = ((int64_t)18 << 32) + TERM;
+    a = logbuffer_append_unfragmented_message(full, second_log, sizeof second_log, 1, message, 30, 55, 18);
+    SAY("  a message where the term is full", "code tripped offset", a.code, a.is_tripped, a.offset);
+    struct logbuffer_append_claim_reply t = logbuffer_append_claim(full, second_log, sizeof second_log, 1, 10, 18);
+    SAY("  a claim there", "code tripped offset", t.code, t.is_tripped, t.offset);
+    return c.next;
+}
+
+static void frames(struct logbuffer_record rec) {
+    struct logbuffer_header_reply h = logbuffer_header_fields(rec, second_log, sizeof second_log, 2, 96);
+    struct logbuffer_header f = h.fields;
+    SAY("header_fields", "code length version flags type offset session stream term_id reserved position", h.code, f.frame_length,
+        f.version, f.flags, f.frame_type, f.term_offset, f.session_id, f.stream_id, f.term_id, f.reserved_value, f.position);
+    struct logbuffer_read_reply r = logbuffer_read(rec, second_log, sizeof second_log, 2, 0, 3, entries, 8);
+    SAY("read", "code offset fragments", r.code, r.offset, r.fragments);
+    SAY("  entries", "offset length offset length", entries[0], entries[1], entries[2], entries[3]);
+    memset(entries, 0, sizeof entries);
+    struct logbuffer_span_reply v = logbuffer_view(rec, second_log, sizeof second_log, 2, 128, 36);
+    SAY("view", "code start length", v.code, v.start, v.length);
+    /* of offset and length it judges the sum alone, so here an exchange could not show */
+    SAY("view_number", "code", logbuffer_view_number(rec, second_log, sizeof second_log, 2, 65536, 1));
+    SAY("view_number", "code", logbuffer_view_number(rec, second_log, sizeof second_log, 2, 65535, 1));
+    struct logbuffer_scan_reply s = logbuffer_scan(rec, second_log, sizeof second_log, 2, 96, 4000);
+    SAY("scan", "code offset", s.code, s.offset);
+    struct logbuffer_gap_reply g = logbuffer_scan_for_gap(rec, second_log, sizeof second_log, 2, 19, 96, 4096);
+    SAY("scan_for_gap", "code gap term_id offset length", g.code, g.is_gap, g.term_id, g.offset, g.length);
+    struct logbuffer_availability_reply a = logbuffer_scan_for_availability(rec, second_log, sizeof second_log, 2, 96, 128);
+    SAY("scan_for_availability", "code outcome", a.code, a.outcome);
+}
+
+static void images(struct logbuffer_record rec) {
+    static const uint8_t actions[5] = {4, 1, 3, 2, 4};
+    struct logbuffer_image i = logbuffer_image_new(64, 33);
+    say_image("image_new", i);
+    say_poll("image_poll", logbuffer_image_poll(i, rec, log_bytes, sizeof log_bytes, entries, 8, 2));
+    say_poll("image_bounded_poll", logbuffer_image_bounded_poll(i, rec, log_bytes, sizeof log_bytes, entries, 8, 160, 3));
+    say_poll("image_controlled_poll", logbuffer_image_controlled_poll(i, rec, log_bytes, sizeof log_bytes, entries, 8, actions, 5, 3));
+    struct logbuffer_peek_reply p =
+        logbuffer_image_controlled_peek(i, rec, log_bytes, sizeof log_bytes, entries, 8, actions + 2, 2, 128, 400);
+    SAY("image_controlled_peek", "code position entries", p.code, p.position, p.entries);
+    SAY("  entries", "offset length offset length", entries[0], entries[1], entries[2], entries[3]);
+    struct logbuffer_image_reply r = logbuffer_image_set_position(i, rec, log_bytes, sizeof log_bytes, 128);
+    SAY("image_set_position", "code", r.code);
+    say_image("  next", r.next);
+    struct logbuffer_block_reply b = logbuffer_image_block_poll(r.next, rec, log_bytes, sizeof log_bytes, 100);
+    SAY("image_block_poll", "code offset length session term_id", b.code, b.offset, b.length, b.session_id, b.term_id);
+    say_image("  next", b.next);
+    rec.end_of_stream_position = 192;
+    struct logbuffer_end_of_stream_reply e = logbuffer_image_is_end_of_stream(b.next, rec, log_bytes, sizeof log_bytes);
+    SAY("image_is_end_of_stream", "code eos", e.code, e.is_eos);
+    rec.end_of_stream_position = 193;
+    r = logbuffer_image_close(b.next, rec, log_bytes, sizeof log_bytes);
+    SAY("image_close", "code", r.code);
+    say_image("  next", r.next);
+}
+
+static void assemblies(struct logbuffer_record rec) {
+    struct logbuffer_assembler a = logbuffer_assembler_new();
+    say_assembler("assembler_new", a);
+    static const int32_t places[3][2] = {{1, 0}, {2, 0}, {2, 96}};
+    for (int k = 0; k < 3; k++) {
+        struct logbuffer_assembly_reply r = logbuffer_assembler_on_fragment(a, rec, second_log, sizeof second_log, buffer, sizeof buffer,
+                                                                            places[k][0], places[k][1]);
+        SAY("assembler_on_fragment", "code place start length", r.code, r.place, r.start, r.length);
+        say_assembler("  next", r.next);
+        a = r.next;
+    }
+}
+
+static void replays(struct logbuffer_record rec) {
+    struct logbuffer_replay replay = logbuffer_replay_new(44);
+    say_image("replay_new", replay.image);
+    say_assembler("  assembler", replay.assembler);
+    replay.assembler.count = 1; /* a session entered before, so that the message lies in the second part */
+    replay.assembler.ids[0] = 9;
+    for (int k = 0; k < 4; k++) {
+        struct logbuffer_next_reply n = logbuffer_replay_next(replay, rec, log_bytes, sizeof log_bytes, buffer, sizeof buffer);
+        SAY("replay_next", "code place start length", n.code, n.place, n.start, n.length);
+        say_image("  image", n.next.image);
+        say_assembler("  assembler", n.next.assembler);
+        replay = n.next;
+    }
+    struct logbuffer_count_reply c = logbuffer_replay_count(rec, log_bytes, sizeof log_bytes, buffer, sizeof buffer, 55);
+    SAY("replay_count", "code messages bytes", c.code, c.messages, c.bytes);
+}
+
+int main(void) {
+    numbers();
+    struct logbuffer_record rec = written(), second = appended();
+    positions(rec);
+    frames(second);
+    images(rec);
+    assemblies(second);
+    replays(rec);
+    return 0;
+}

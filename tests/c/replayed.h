@@ -1,0 +1,47 @@
+/* What the test programs share: a log of three terms, a replay of it held to the messages that should come back, and a way out. */
+#ifndef REPLAYED_H
+#define REPLAYED_H
+
+#include <inttypes.h>
+#include <stdio.h>
+#include <stdlib.h>
+#include <string.h>
+
+#include "logbuffer.h"
+
+enum { TERM = 65536, LOG = 3 * TERM, MTU = 1408, SESSION = 11 };
+
+static uint8_t log_bytes[LOG];
+static uint8_t buffer[16 * (TERM / 8)]; /* a part holds the longest message: an eighth of a term */
+
+struct message {
+    const uint8_t *bytes;
+    size_t length;
+};
+
+static void expect(int holds, const char *what, size_t where) {
+    if (!holds) {
+        printf("\nwrong at %zu: %s\n", where, what);
+        exit(1);
+    }
+}
+
+/* Replays a log up to its end or a refusal, holds each message to the list, and answers the refusal's number. */
+static int32_t replayed(struct logbuffer_record rec, const uint8_t *log, const struct message *list, size_t count, size_t where) {
+    struct logbuffer_replay at = logbuffer_replay_new(SESSION);
+    for (size_t i = 0;; i++) {
+        struct logbuffer_next_reply n = logbuffer_replay_next(at, rec, log, LOG, buffer, sizeof buffer);
+        if (n.code != 0 || n.place == LOGBUFFER_NOTHING) {
+            expect(i == count, "not as many messages as there should be", where);
+            struct logbuffer_count_reply c = logbuffer_replay_count(rec, log, LOG, buffer, sizeof buffer, SESSION);
+            expect(c.code == n.code && (c.code != 0 || c.messages == count), "the count is another", where);
+            return n.code;
+        }
+        const uint8_t *bytes = (n.place == LOGBUFFER_IN_LOG ? log : buffer) + n.start;
+        expect(i < count, "a message that should not be", where);
+        expect(n.length == list[i].length && memcmp(bytes, list[i].bytes, n.length) == 0, "another message", where);
+        at = n.next;
+    }
+}
+
+#endif

@@ -1,0 +1,14 @@
+#!/bin/sh
+# Compiles each test program against the header and the archive, runs it, and holds what it prints to the text beside it.
+set -eu
+here=$(cd "$(dirname "$0")" && pwd)
+root=$here/../..
+archive=${ARCHIVE:-$root/target/staticlib/libcapi.a}
+[ -f "$archive" ] || (cd "$root" && rt staticlib capi >/dev/null)
+out=$(mktemp -d)
+trap 'rm -rf "$out"' EXIT
+for name in broken_off cut; do
+    cc -std=c11 -Wall -Wextra -Werror -O2 -I "$root/include" "$here/$name.c" "$archive" -o "$out/$name"
+    "$out/$name" | tee "$out/printed"
+    diff "$here/$name.txt" "$out/printed"
+done
