@@ -8,10 +8,12 @@ use model::Claimed;
 use model::LogRecord;
 use replay::Replay;
 
+// The limit stands two terms ahead of the slowest reader, here at 0. A message may end past the limit, for its start is judged, and one
+// that came to lie three terms ahead would overwrite what was not read yet.
 fn first_calls(rec: LogRecord, log: &mut [u8]) -> LogRecord {
     tell::heading(b"Nothing is accepted before a limit is set:");
     let a = writers::offer(b'A', rec, log, b"coin, bronze, trench A");
-    writers::set_limit(a, 1048576)
+    writers::set_limit(a, 131072)
 }
 
 fn short_offers(rec: LogRecord, log: &mut [u8]) -> LogRecord {

@@ -3,6 +3,7 @@
 use image::BlockReply;
 use image::Image;
 use image::ImageReply;
+use image::PeekReply;
 use image::PollReply;
 use logbuffer::cast;
 use logbuffer::errors;
@@ -56,8 +57,9 @@ fn show_poll(name: &[u8], r: PollReply, entries: &[i32]) {
     show_entries(entries);
 }
 
-fn show_peek(name: &[u8], answer: Peeked, entries: &[i32]) {
+fn show_peek(name: &[u8], r: PeekReply, entries: &[i32]) {
     io::write_all(1, name);
+    let answer = r.answer;
     match answer {
         Peeked::Refused(e) => {
             refused(e);

@@ -51,10 +51,8 @@ fn done(name: &[u8], answer: Outcome) {
 
 // The claim's body begins with 7, where there is one.
 fn fill(rec: LogRecord, log: &mut [u8], claim: Claim) {
-    let body = buffer_claim::body(rec, log, claim);
-    if body.len() > 0 {
-        body[0] = 7;
-    }
+    let bytes = [7u8];
+    buffer_claim::write(rec, log, claim, &bytes);
 }
 
 fn claim(name: &[u8], rec: LogRecord, log: &mut [u8], n: i32) -> ClaimReply {

@@ -8,6 +8,7 @@ use crate::values::Values;
 use image::BlockReply;
 use image::Image;
 use image::ImageReply;
+use image::PeekReply;
 use image::PollReply;
 use model::BlockPolled;
 use model::EndOfStream;
@@ -51,7 +52,8 @@ fn polled(reply: PollReply) -> Values {
     }
 }
 
-fn peeked(answer: Peeked) -> Values {
+fn peeked(reply: PeekReply) -> Values {
+    let answer = reply.answer;
     match answer {
         Peeked::Position(p, m) => values::three(0, p, values::count(m)),
         Peeked::Refused(e) => values::refused(e),
