@@ -64,7 +64,13 @@ fn term_id_at(rec: LogRecord, v: Reading, log: &[u8], p: usize) -> i32
 }
 
 // A block of at most so many bytes, for an image that may read.
-pub fn block_at(image: Image, rec: LogRecord, v: Reading, log: &[u8], limit: usize) -> BlockTo
+pub(crate) fn block_at(
+    image: Image,
+    rec: LogRecord,
+    v: Reading,
+    log: &[u8],
+    limit: usize,
+) -> BlockTo
     requires { ⌜ (v ≡ reading rec) × ((sound v (length (now log)) ≡ true) × ((long (image .position) ≤ greatest v) × ((long (image .position) % 32 ≡ 0) × (limit < 2147483648)))) ⌝ }
     ensures { λ r. ⌜ r ≡ blockTo (blockRead v (now (log .entry)) (stateOf image) limit) ⌝ }
 {

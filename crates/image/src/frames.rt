@@ -28,7 +28,7 @@ pub struct PolledTo {
 }
 
 // The walk from a position of a sound log up to an offset of its term.
-pub fn frames_at(
+pub(crate) fn frames_at(
     v: Reading,
     log: &[u8],
     entries: &mut [i32],
@@ -55,7 +55,7 @@ pub fn frames_at(
 }
 
 // A poll: its limit position, its fragment limit, its actions, and whether its arguments are as row 1 asks.
-pub fn poll_frames(
+pub(crate) fn poll_frames(
     image: Image,
     v: Reading,
     log: &[u8],

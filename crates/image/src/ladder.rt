@@ -18,7 +18,7 @@ use model::ReadVerdict;
 use model::Reading;
 
 // Lent entries: not fewer than the fragment limit, two numbers an entry.
-pub fn good_entries(slots: usize, limit: usize) -> bool
+pub(crate) fn good_entries(slots: usize, limit: usize) -> bool
     ensures { λ r. ⌜ r ≡ goodEntries slots limit ⌝ }
 {
     if slots > 2147483647 {
@@ -28,7 +28,7 @@ pub fn good_entries(slots: usize, limit: usize) -> bool
 }
 
 // Row 1 of a controlled call: entries and actions, neither fewer than the fragment limit.
-pub fn good_control(slots: usize, limit: usize, actions: &[u8]) -> bool
+pub(crate) fn good_control(slots: usize, limit: usize, actions: &[u8]) -> bool
     ensures { λ r. ⌜ r ≡ (goodEntries slots limit && goodControl (now (actions .entry)) limit) ⌝ }
 {
     if !good_entries(slots, limit) {
@@ -38,7 +38,7 @@ pub fn good_control(slots: usize, limit: usize, actions: &[u8]) -> bool
 }
 
 // In order: 1, 2, closed, 3.
-pub fn readable(good: bool, v: Reading, n: usize, image: Image) -> ReadVerdict
+pub(crate) fn readable(good: bool, v: Reading, n: usize, image: Image) -> ReadVerdict
     ensures { λ r. ⌜ r ≡ readableOf good v n (stateOf image) Read ⌝ }
 {
     if !good {
@@ -79,7 +79,7 @@ fn reachable(v: Reading, current: usize, new: usize) -> ReadVerdict
 }
 
 // In order: 1, 2, closed, 3, 15, 16.
-pub fn reach(good: bool, v: Reading, n: usize, image: Image, new: usize) -> ReadVerdict
+pub(crate) fn reach(good: bool, v: Reading, n: usize, image: Image, new: usize) -> ReadVerdict
     ensures { λ r. ⌜ r ≡ readableOf good v n (stateOf image) (reachableOf v (long (image .position)) new Read) ⌝ }
 {
     match readable(good, v, n, image) {

@@ -11,7 +11,7 @@ use logbuffer::log_buffer_descriptor;
 pub const NO_LIMIT: usize = 9223372036854775807;
 
 // A limit position; one below 0 is 0.
-pub fn natural_position(limit: i64) -> usize
+pub(crate) fn natural_position(limit: i64) -> usize
     ensures { λ r. ⌜ r ≡ natural limit ⌝ }
 {
     let bits = cast::long(limit);
@@ -19,7 +19,7 @@ pub fn natural_position(limit: i64) -> usize
 }
 
 // The offset of a position in its term: the bits below the term length.
-pub fn offset_of(term: usize, p: usize) -> usize
+pub(crate) fn offset_of(term: usize, p: usize) -> usize
     requires { ⌜ TermLength term ⌝ }
     ensures { λ r. ⌜ r ≡ p % term ⌝ }
 {
@@ -27,7 +27,7 @@ pub fn offset_of(term: usize, p: usize) -> usize
 }
 
 // The partition of a position: the bits from the term length up are its term count.
-pub fn partition_of(term: usize, p: usize) -> usize
+pub(crate) fn partition_of(term: usize, p: usize) -> usize
     requires { ⌜ TermLength term ⌝ }
     ensures { λ r. ⌜ (r ≡ partitionOf p term) × (r ≤ 2) ⌝ }
 {
@@ -36,7 +36,7 @@ pub fn partition_of(term: usize, p: usize) -> usize
 }
 
 // The offset at which a read from p up to a limit position ends: the term's end, or before it.
-pub fn end_offset(term: usize, p: usize, limit: usize) -> usize
+pub(crate) fn end_offset(term: usize, p: usize, limit: usize) -> usize
     requires { ⌜ TermLength term ⌝ }
     ensures { λ r. ⌜ r ≡ min term (p % term + (limit - p)) ⌝ }
 {

@@ -15,7 +15,7 @@ use model::Peeked;
 use model::ReadVerdict;
 
 // One fragment for each action, from another position up to a limit position.
-pub fn peek_frames(
+pub(crate) fn peek_frames(
     image: Image,
     rec: LogRecord,
     log: &[u8],

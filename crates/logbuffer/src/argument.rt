@@ -23,11 +23,11 @@ pub fn natural(limit: i32) -> usize
 }
 
 // n is at most the term length, and that is none below 0.
-pub fn within_term(n: usize, v: Reading) -> bool
-    ensures { λ r. ⌜ r ≡ withinTerm n v ⌝ }
+pub fn within_term(offset: usize, numbers: Reading) -> bool
+    ensures { λ r. ⌜ r ≡ withinTerm offset numbers ⌝ }
 {
-    let term = v.term;
-    if n > term {
+    let term = numbers.term;
+    if offset > term {
         return false;
     }
     term <= 2147483647

@@ -6,7 +6,7 @@ ghost use Rattle.model.specs.Bytes.{splice};
 use crate::copying;
 
 // The body of n bytes at an index of the log, laid into part k behind `from` bytes. Nothing grows: the caller has seen that it fits.
-pub fn append(
+pub(crate) fn append(
     buffer: &mut [u8],
     k: usize,
     part: usize,

@@ -36,7 +36,7 @@ fn chunk(left: usize) -> usize
 }
 
 // Any number of bytes, a chunk a turn.
-pub fn copy(dst: &mut [u8], b: usize, src: &[u8], a: usize, n: usize)
+pub(crate) fn copy(dst: &mut [u8], b: usize, src: &[u8], a: usize, n: usize)
     requires { ⌜ (b + n ≤ length (now dst)) × (a + n ≤ length (now src)) ⌝ }
     ensures { λ _. ⌜ now (dst .exit) ≡ splice (now (dst .entry)) b (take n (drop a (now (src .entry)))) ⌝ }
 {

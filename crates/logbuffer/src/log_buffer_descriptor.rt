@@ -123,50 +123,50 @@ pub fn read_active(rec: LogRecord) -> Reading
 // ---- row 2
 
 // The record's own ranges.
-pub fn is_sound_record(v: Reading) -> bool
-    ensures { λ r. ⌜ r ≡ soundRecord v ⌝ }
+pub fn is_sound_record(numbers: Reading) -> bool
+    ensures { λ r. ⌜ r ≡ soundRecord numbers ⌝ }
 {
-    if v.term < TERM_MIN_LENGTH {
+    if numbers.term < TERM_MIN_LENGTH {
         return false;
     }
-    if v.term > TERM_MAX_LENGTH {
+    if numbers.term > TERM_MAX_LENGTH {
         return false;
     }
-    if usize::count_ones(v.term) != 1 {
+    if usize::count_ones(numbers.term) != 1 {
         return false;
     }
-    if v.mtu < 64 {
+    if numbers.mtu < 64 {
         return false;
     }
-    if v.mtu > 65504 {
+    if numbers.mtu > 65504 {
         return false;
     }
-    if v.mtu % FRAME_ALIGNMENT != 0 {
+    if numbers.mtu % FRAME_ALIGNMENT != 0 {
         return false;
     }
-    if v.initial < 2 {
+    if numbers.initial < 2 {
         return false;
     }
-    if v.count > 2147483647 {
+    if numbers.count > 2147483647 {
         return false;
     }
-    if v.limit > 4611686018427387904 {
+    if numbers.limit > 4611686018427387904 {
         return false;
     }
-    if v.offset % FRAME_ALIGNMENT != 0 {
+    if numbers.offset % FRAME_ALIGNMENT != 0 {
         return false;
     }
-    v.offset <= 2147483647
+    numbers.offset <= 2147483647
 }
 
 // And those of a lent log of n bytes.
-pub fn is_sound(v: Reading, n: usize) -> bool
-    ensures { λ r. ⌜ r ≡ sound v n ⌝ }
+pub fn is_sound(numbers: Reading, log_length: usize) -> bool
+    ensures { λ r. ⌜ r ≡ sound numbers «log_length» ⌝ }
 {
-    if !is_sound_record(v) {
+    if !is_sound_record(numbers) {
         return false;
     }
-    n == PARTITION_COUNT * v.term
+    log_length == PARTITION_COUNT * numbers.term
 }
 
 // ---- the record, changed

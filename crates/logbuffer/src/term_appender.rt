@@ -187,24 +187,33 @@ fn good_append(v: Reading, k: usize, payload: usize, m: usize) -> bool
 
 // A message at partition k, as one frame or as many, for a caller who has read the record's numbers.
 pub fn append_way(
-    v: Reading,
+    numbers: Reading,
     log: &mut [u8],
-    k: usize,
-    payload: usize,
+    partition: usize,
+    payload_limit: usize,
     message: &[u8],
-    reserved: i64,
-    given: usize,
+    reserved_value: i64,
+    term_id: usize,
 ) -> Way
-    ensures { λ r. ⌜ r ≡ wayBy v (need payload (length (now (message .entry)))) (courseOf v (length (now (log .entry))) k payload (length (now (message .entry))) given) ⌝ }
-    ensures { λ _. ⌜ now (log .exit) ≡ bytesBy v k (now (log .entry)) (written v (now (log .entry)) (k * v .term) (v .offset) (cut payload (long reserved) (now (message .entry)))) (courseOf v (length (now (log .entry))) k payload (length (now (message .entry))) given) ⌝ }
+    ensures { λ r. ⌜ r ≡ wayBy numbers (need «payload_limit» (length (now (message .entry)))) (courseOf numbers (length (now (log .entry))) partition «payload_limit» (length (now (message .entry))) «term_id») ⌝ }
+    ensures { λ _. ⌜ now (log .exit) ≡ bytesBy numbers partition (now (log .entry)) (written numbers (now (log .entry)) (partition * numbers .term) (numbers .offset) (cut «payload_limit» (long «reserved_value») (now (message .entry)))) (courseOf numbers (length (now (log .entry))) partition «payload_limit» (length (now (message .entry))) «term_id») ⌝ }
 {
-    if !good_append(v, k, payload, message.len()) {
+    if !good_append(numbers, partition, payload_limit, message.len()) {
         return way::refused(Error::IllegalArgument);
     }
-    let needed = need_of(payload, message.len());
-    let bits = cast::long(reserved);
-    let course = append(v, log, k, payload, message, bits, needed, given);
-    way::way_by(v, needed, course)
+    let needed = need_of(payload_limit, message.len());
+    let bits = cast::long(reserved_value);
+    let course = append(
+        numbers,
+        log,
+        partition,
+        payload_limit,
+        message,
+        bits,
+        needed,
+        term_id,
+    );
+    way::way_by(numbers, needed, course)
 }
 
 // The same for one who has not.
@@ -232,14 +241,14 @@ pub fn append_unfragmented_message(
     log: &mut [u8],
     partition: i32,
     message: &[u8],
-    reserved: i64,
+    reserved_value: i64,
     term_id: i32,
 ) -> AppendReply
     ensures { λ r. ⌜ r ≡ unfragmentedReply rec (now (log .entry)) partition (now (message .entry)) «term_id» ⌝ }
-    ensures { λ _. ⌜ now (log .exit) ≡ unfragmentedBytes rec (now (log .entry)) partition (now (message .entry)) reserved «term_id» ⌝ }
+    ensures { λ _. ⌜ now (log .exit) ≡ unfragmentedBytes rec (now (log .entry)) partition (now (message .entry)) «reserved_value» «term_id» ⌝ }
 {
     let k = cast::word(partition);
-    append_message(rec, log, k, 2147483648, message, reserved, term_id)
+    append_message(rec, log, k, 2147483648, message, reserved_value, term_id)
 }
 
 // A message as frames of at most the payload limit each.
@@ -248,16 +257,16 @@ pub fn append_fragmented_message(
     log: &mut [u8],
     partition: i32,
     message: &[u8],
-    reserved: i64,
-    payload: i32,
+    reserved_value: i64,
+    payload_limit: i32,
     term_id: i32,
 ) -> AppendReply
-    ensures { λ r. ⌜ r ≡ fragmentedReply rec (now (log .entry)) partition (now (message .entry)) payload «term_id» ⌝ }
-    ensures { λ _. ⌜ now (log .exit) ≡ fragmentedBytes rec (now (log .entry)) partition (now (message .entry)) reserved payload «term_id» ⌝ }
+    ensures { λ r. ⌜ r ≡ fragmentedReply rec (now (log .entry)) partition (now (message .entry)) «payload_limit» «term_id» ⌝ }
+    ensures { λ _. ⌜ now (log .exit) ≡ fragmentedBytes rec (now (log .entry)) partition (now (message .entry)) «reserved_value» «payload_limit» «term_id» ⌝ }
 {
     let k = cast::word(partition);
-    let limit = fragment_limit(message.len(), cast::word(payload));
-    append_message(rec, log, k, limit, message, reserved, term_id)
+    let limit = fragment_limit(message.len(), cast::word(payload_limit));
+    append_message(rec, log, k, limit, message, reserved_value, term_id)
 }
 
 // ---- claims
@@ -305,17 +314,23 @@ fn good_claiming(v: Reading, k: usize, n: usize) -> bool
 }
 
 // A frame of n bytes claimed, for a caller who has read the record's numbers.
-pub fn claim_way(v: Reading, log: &mut [u8], k: usize, n: usize, given: usize) -> Way
-    ensures { λ r. ⌜ r ≡ wayBy v (space n) (claimCourse v (length (now (log .entry))) k n given) ⌝ }
-    ensures { λ _. ⌜ now (log .exit) ≡ bytesBy v k (now (log .entry)) (claimed v (now (log .entry)) (k * v .term) n) (claimCourse v (length (now (log .entry))) k n given) ⌝ }
+pub fn claim_way(
+    numbers: Reading,
+    log: &mut [u8],
+    partition: usize,
+    body_length: usize,
+    term_id: usize,
+) -> Way
+    ensures { λ r. ⌜ r ≡ wayBy numbers (space «body_length») (claimCourse numbers (length (now (log .entry))) partition «body_length» «term_id») ⌝ }
+    ensures { λ _. ⌜ now (log .exit) ≡ bytesBy numbers partition (now (log .entry)) (claimed numbers (now (log .entry)) (partition * numbers .term) «body_length») (claimCourse numbers (length (now (log .entry))) partition «body_length» «term_id») ⌝ }
 {
-    if !good_claiming(v, k, n) {
+    if !good_claiming(numbers, partition, body_length) {
         return way::refused(Error::IllegalArgument);
     }
-    let course = claim_frame(v, log, k, n, given);
+    let course = claim_frame(numbers, log, partition, body_length, term_id);
     way::way_by(
-        v,
-        (n + HEADER_LENGTH + ALIGNMENT_MASK) / FRAME_ALIGNMENT * FRAME_ALIGNMENT,
+        numbers,
+        (body_length + HEADER_LENGTH + ALIGNMENT_MASK) / FRAME_ALIGNMENT * FRAME_ALIGNMENT,
         course,
     )
 }

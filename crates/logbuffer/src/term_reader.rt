@@ -174,20 +174,28 @@ pub fn read_frames(
     term: usize,
     end: usize,
     at: usize,
-    limit: usize,
+    fragment_limit: usize,
     actions: &[u8],
     entries: &mut [i32],
 ) -> FramesRead
-    ensures { λ r. ⌜ r ≡ framesOf (now (log .entry)) base term end at limit (now (actions .entry)) (now (entries .entry)) ⌝ }
-    ensures { λ _. ⌜ now (entries .exit) ≡ framesEntries (now (log .entry)) base term end at limit (now (actions .entry)) (now (entries .entry)) ⌝ }
+    ensures { λ r. ⌜ r ≡ framesOf (now (log .entry)) base term end at «fragment_limit» (now (actions .entry)) (now (entries .entry)) ⌝ }
+    ensures { λ _. ⌜ now (entries .exit) ≡ framesEntries (now (log .entry)) base term end at «fragment_limit» (now (actions .entry)) (now (entries .entry)) ⌝ }
 {
-    if !good_walk(log.len(), base, term, end, at, limit, entries.len()) {
+    if !good_walk(
+        log.len(),
+        base,
+        term,
+        end,
+        at,
+        fragment_limit,
+        entries.len(),
+    ) {
         return FramesRead::Refused(Error::IllegalArgument);
     }
-    if !good_handler(actions, limit) {
+    if !good_handler(actions, fragment_limit) {
         return FramesRead::Refused(Error::IllegalArgument);
     }
-    walk_frames(log, base, term, end, at, limit, actions, entries)
+    walk_frames(log, base, term, end, at, fragment_limit, actions, entries)
 }
 
 // Row 1 of `read`.
@@ -209,14 +217,14 @@ pub fn read(
     log: &[u8],
     partition: i32,
     offset: i32,
-    limit: i32,
+    fragment_limit: i32,
     entries: &mut [i32],
 ) -> TermRead
-    ensures { λ r. ⌜ r ≡ readOf rec (now (log .entry)) partition offset limit (now (entries .entry)) ⌝ }
-    ensures { λ _. ⌜ now (entries .exit) ≡ readEntries rec (now (log .entry)) partition offset limit (now (entries .entry)) ⌝ }
+    ensures { λ r. ⌜ r ≡ readOf rec (now (log .entry)) partition offset «fragment_limit» (now (entries .entry)) ⌝ }
+    ensures { λ _. ⌜ now (entries .exit) ≡ readEntries rec (now (log .entry)) partition offset «fragment_limit» (now (entries .entry)) ⌝ }
 {
     let p = argument::place(rec, partition, offset);
-    let most = argument::natural(limit);
+    let most = argument::natural(fragment_limit);
     let good = good_read(p, most, entries.len());
     if let Verdict::Refuse(e) = argument::first_rows(good, p.read, log.len()) {
         return TermRead::Refused(e);

@@ -119,10 +119,10 @@ fn claimed(way: Way, claim: Claim) -> AppendedClaim
 }
 
 // An append into partition k that went this way.
-pub fn append_reply(rec: LogRecord, k: usize, way: Way) -> AppendReply
-    ensures { λ r. ⌜ r ≡ replyWith rec k way ⌝ }
+pub fn append_reply(rec: LogRecord, partition: usize, way: Way) -> AppendReply
+    ensures { λ r. ⌜ r ≡ replyWith rec partition way ⌝ }
 {
-    let next = moved(rec, k, way);
+    let next = moved(rec, partition, way);
     AppendReply {
         next: next,
         answer: appended(way),
@@ -130,10 +130,10 @@ pub fn append_reply(rec: LogRecord, k: usize, way: Way) -> AppendReply
 }
 
 // A claiming append, with the claim's record, which only a claim that fits answers.
-pub fn claim_reply(rec: LogRecord, k: usize, way: Way, claim: Claim) -> AppendClaimReply
-    ensures { λ r. ⌜ r ≡ claimReplyWith rec k way claim ⌝ }
+pub fn claim_reply(rec: LogRecord, partition: usize, way: Way, claim: Claim) -> AppendClaimReply
+    ensures { λ r. ⌜ r ≡ claimReplyWith rec partition way claim ⌝ }
 {
-    let next = moved(rec, k, way);
+    let next = moved(rec, partition, way);
     AppendClaimReply {
         next: next,
         answer: claimed(way, claim),

@@ -29,7 +29,7 @@ fn too_long(v: Reading, m: usize) -> bool
 }
 
 // The position at which the active term begins: its count, by the bits to shift.
-pub fn begin_position(v: Reading) -> usize
+pub(crate) fn begin_position(v: Reading) -> usize
     requires { ⌜ Bounds v × (ones (v .term) ≡ 1) ⌝ }
     ensures { λ r. ⌜ r ≡ v .count * v .term ⌝ }
 {
@@ -56,7 +56,7 @@ fn back_pressure(v: Reading, begin: usize, m: usize) -> Error
 }
 
 // What both ask once they are not closed: 6 (count), 7/8/9.
-pub fn after_closed(v: Reading, m: usize) -> Verdict
+pub(crate) fn after_closed(v: Reading, m: usize) -> Verdict
     requires { ⌜ Bounds v × ((v .initial < 4294967296) × ((m ≤ 2147483647) × (ones (v .term) ≡ 1))) ⌝ }
     ensures { λ r. ⌜ r ≡ afterClosed v m Pass ⌝ }
 {
@@ -76,7 +76,7 @@ pub fn after_closed(v: Reading, m: usize) -> Verdict
 }
 
 // Of an offer, all but 11, which the appender refuses.
-pub fn before_offer(v: Reading, n: usize, m: usize) -> Verdict
+pub(crate) fn before_offer(v: Reading, n: usize, m: usize) -> Verdict
     requires { ⌜ v .initial < 4294967296 ⌝ }
     ensures { λ r. ⌜ r ≡ beforeAppend v n m Pass ⌝ }
 {

@@ -11,7 +11,7 @@ use model::Error;
 use model::Reading;
 use model::Verdict;
 
-pub fn before_claim(v: Reading, n: usize, m: usize) -> Verdict
+pub(crate) fn before_claim(v: Reading, n: usize, m: usize) -> Verdict
     requires { ⌜ v .initial < 4294967296 ⌝ }
     ensures { λ r. ⌜ r ≡ claimVerdict v n m ⌝ }
 {

@@ -4,10 +4,10 @@ use Rattle.logbuffer.proofs.argument.within_term.Statement.{statement}
 use Rattle.logbuffer.proofs.argument.within_term.Tie as tie
 
 returns : tie.Need-returns
-returns c = let a = c .before .args in rw (lt-leb (a .n) (a .v .term) (c .if1 .taken))
+returns c = let a = c .before .args in rw (lt-leb (a .offset) (a .numbers .term) (c .if1 .taken))
 
 returns-2 : tie.Need-returns-2
-returns-2 c = let a = c .before .args in rw (le-leb (a .n) (a .v .term) (c .if1 .left))
+returns-2 c = let a = c .before .args in rw (le-leb (a .offset) (a .numbers .term) (c .if1 .left))
 
 pub within-term-spec : {M : Type 1} → statement M
 within-term-spec = tie.close (tie.spec returns returns-2)

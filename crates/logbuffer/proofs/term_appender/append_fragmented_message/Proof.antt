@@ -18,12 +18,12 @@ returns c =
     let a = s .args in
     let m = c .before .before .append-message .ensures in
     let k : c .before .before .before .before .before .before .word .result ≡ word (a .partition) = c .before .before .before .before .before .before .word .ensures .0 ∙ search needs in
-    let n : c .before .before .before .before .before .word2 .result ≡ word (a .payload) = c .before .before .before .before .before .word2 .ensures .0 ∙ search needs in
-    let p : c .before .before .before .before .fragment-limit .result ≡ fragmentLimit (length (a .message .now)) (word (a .payload)) =
+    let n : c .before .before .before .before .before .word2 .result ≡ word (a .payload-limit) = c .before .before .before .before .before .word2 .ensures .0 ∙ search needs in
+    let p : c .before .before .before .before .fragment-limit .result ≡ fragmentLimit (length (a .message .now)) (word (a .payload-limit)) =
     c .before .before .before .before .fragment-limit .ensures ∙ ap (fragmentLimit (length (a .message .now))) n in
     let t : toZ w32 (ofZ w32 (a .term-id)) ≡ a .term-id = toZ-ofZ (s .fits .term-id) in
-    let z : toZ w64 (ofZ w64 (a .reserved)) ≡ a .reserved = toZ-ofZ (s .fits .reserved) in
-    let law = fragmented-is (a .rec) (a .log .now) (a .message .now) (word (a .partition)) (word (a .payload)) (long (a .reserved)) (biased (word (a .term-id))) in
+    let z : toZ w64 (ofZ w64 (a .reserved-value)) ≡ a .reserved-value = toZ-ofZ (s .fits .reserved-value) in
+    let law = fragmented-is (a .rec) (a .log .now) (a .message .now) (word (a .partition)) (word (a .payload-limit)) (long (a .reserved-value)) (biased (word (a .term-id))) in
     (m .0 ∙ (cc) ∙ law .0, m .1 ∙ (cc) ∙ law .1)
 
 pub append-fragmented-message-spec : {M : Type 1} → statement M

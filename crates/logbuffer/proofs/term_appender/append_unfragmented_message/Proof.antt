@@ -17,8 +17,8 @@ returns c =
     let m = c .before .before .append-message .ensures in
     let k : c .before .before .before .before .word .result ≡ word (a .partition) = c .before .before .before .before .word .ensures .0 ∙ search needs in
     let t : toZ w32 (ofZ w32 (a .term-id)) ≡ a .term-id = toZ-ofZ (s .fits .term-id) in
-    let z : toZ w64 (ofZ w64 (a .reserved)) ≡ a .reserved = toZ-ofZ (s .fits .reserved) in
-    let law = unfragmented-is (a .rec) (a .log .now) (a .message .now) (word (a .partition)) (long (a .reserved)) (biased (word (a .term-id))) in
+    let z : toZ w64 (ofZ w64 (a .reserved-value)) ≡ a .reserved-value = toZ-ofZ (s .fits .reserved-value) in
+    let law = unfragmented-is (a .rec) (a .log .now) (a .message .now) (word (a .partition)) (long (a .reserved-value)) (biased (word (a .term-id))) in
     (m .0 ∙ (cc) ∙ law .0, m .1 ∙ (cc) ∙ law .1)
 
 pub append-unfragmented-message-spec : {M : Type 1} → statement M

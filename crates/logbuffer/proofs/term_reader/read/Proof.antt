@@ -29,7 +29,7 @@ most c = c .before .before .natural .result
 p-is : (c : tie.After-first-rows) → p c ≡ placeOf (st c .args .rec) (st c .args .partition) (st c .args .offset)
 p-is c = c .before .before .before .place .ensures .0 ∙ search needs
 
-most-is : (c : tie.After-first-rows) → most c ≡ natural (st c .args .limit)
+most-is : (c : tie.After-first-rows) → most c ≡ natural (st c .args .fragment-limit)
 most-is c = c .before .before .natural .ensures .0 ∙ search needs
 
 rows : (c : tie.After-first-rows)
@@ -48,19 +48,19 @@ num c = c .before .before .before .before .before .before
 passed : (c : tie.After-read-frames) → num c .first-rows .result ≡ Pass
 passed c = c .before .before .before .before .enum-told .given .1
 
-goes : (c : tie.After-read-frames) → (readFrom (p (num c) .offset) (c .read-frames .result) ≡ readOf (st (num c) .args .rec) (st (num c) .args .log .now) (st (num c) .args .partition) (st (num c) .args .offset) (st (num c) .args .limit) (st (num c) .args .entries .now))
-    × (c .read-frames .last .1 .1 .1 .1 .1 .1 .1 .0 ≡ readEntries (st (num c) .args .rec) (st (num c) .args .log .now) (st (num c) .args .partition) (st (num c) .args .offset) (st (num c) .args .limit) (st (num c) .args .entries .now))
+goes : (c : tie.After-read-frames) → (readFrom (p (num c) .offset) (c .read-frames .result) ≡ readOf (st (num c) .args .rec) (st (num c) .args .log .now) (st (num c) .args .partition) (st (num c) .args .offset) (st (num c) .args .fragment-limit) (st (num c) .args .entries .now))
+    × (c .read-frames .last .1 .1 .1 .1 .1 .1 .1 .0 ≡ readEntries (st (num c) .args .rec) (st (num c) .args .log .now) (st (num c) .args .partition) (st (num c) .args .offset) (st (num c) .args .fragment-limit) (st (num c) .args .entries .now))
 goes c =
     let q = num c in
     let a = st q .args in
-    let e = read-goes (a .rec) (a .log .now) (a .partition) (a .offset) (a .limit) (a .entries .now) (p q) (most q) (p-is q) (most-is q) (rows q ∙ passed c) in
+    let e = read-goes (a .rec) (a .log .now) (a .partition) (a .offset) (a .fragment-limit) (a .entries .now) (p q) (most q) (p-is q) (most-is q) (rows q ∙ passed c) in
     (ap (readFrom (p q .offset)) (c .read-frames .ensures .0) ∙ e .0, c .read-frames .ensures .1 ∙ e .1)
 
 returns : tie.Need-returns
 returns c =
     let q = c .before .before .before in
     let a = st q .args in
-    read-refused (a .rec) (a .log .now) (a .partition) (a .offset) (a .limit) (a .entries .now) (p q) (most q) (p-is q) (most-is q) (rows q ∙ c .before .e .given .1)
+    read-refused (a .rec) (a .log .now) (a .partition) (a .offset) (a .fragment-limit) (a .entries .now) (p q) (most q) (p-is q) (most-is q) (rows q ∙ c .before .e .given .1)
 
 mul-base : tie.Need-mul-base
 mul-base c =
