@@ -94,6 +94,16 @@ fn begin_append(v: Reading, log: &mut [u8], k: usize, needed: usize, given: usiz
 
 // ---- messages
 
+// The sum of a fragmented append, by arithmetic alone (R-5 of document 02): the length rounded up to 32, and a header for every frame, the
+// frames being the length divided by the payload limit, rounded up.
+fn fragmented_need(payload: usize, m: usize) -> usize
+    requires { ⌜ (32 ≤ payload) × ((payload % 32 ≡ 0) × ((payload ≤ 2147483648) × ((0 < m) × (m ≤ 2147483647)))) ⌝ }
+    ensures { λ r. ⌜ r ≡ need payload m ⌝ }
+{
+    (m + ALIGNMENT_MASK) / FRAME_ALIGNMENT * FRAME_ALIGNMENT
+        + HEADER_LENGTH * ((m + (payload - 1)) / payload)
+}
+
 // What a message of m bytes needs: its aligned length, or the sum over its frames.
 fn need_of(payload: usize, m: usize) -> usize
     requires { ⌜ (32 ≤ payload) × ((payload % 32 ≡ 0) × ((payload ≤ 2147483648) × (m ≤ 2147483647))) ⌝ }
@@ -102,12 +112,7 @@ fn need_of(payload: usize, m: usize) -> usize
     if m <= payload {
         return (m + HEADER_LENGTH + ALIGNMENT_MASK) / FRAME_ALIGNMENT * FRAME_ALIGNMENT;
     }
-    let full = m / payload * (payload + HEADER_LENGTH);
-    let rest = m % payload;
-    if rest == 0 {
-        return full;
-    }
-    full + (rest + HEADER_LENGTH + ALIGNMENT_MASK) / FRAME_ALIGNMENT * FRAME_ALIGNMENT
+    fragmented_need(payload, m)
 }
 
 // The fragments of a message, one after another from the tail's offset on.

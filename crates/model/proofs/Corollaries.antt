@@ -34,7 +34,8 @@ use Rattle.model.specs.Publication.{changeOf, place, fits, onTrip, tripE
 use Rattle.model.specs.TermReader.{Walked, still, over, walk, natural, goodEntries, numbers, laid}
 use Rattle.model.specs.Image.{Image, pollVerdict, pollReply, PollReply, pollOf}
 use Rattle.model.specs.History.{offer, claim, fill, commit, abort, setLimit, close, World, step, isTrip}
-use Rattle.model.specs.Corollaries.{NoTwoAlike, NothingRare, RefusedWith, RefusalsChangeNothing, LieTo, bodiesOf, PollPassed, PollsCountFrames}
+use Rattle.model.specs.Corollaries.{NoTwoAlike, NothingRare, RefusedWith, RefusalsChangeNothing, LieTo, bodiesOf, PollPassed, PollsCountFrames, NeedArithmetic}
+use Rattle.model.proofs.Cut.{need-sum}
 use Rattle.model.proofs.Choice.{le-case}
 use Rattle.model.proofs.Demand as Demand
 use Rattle.model.proofs.Rising.{clash}
@@ -195,3 +196,7 @@ pub polls-count-frames : PollsCountFrames
 unfolding PollsCountFrames pollOf
 polls-count-frames r log i slots limit n m h =
     counts r log i slots limit (pollVerdict (reading r) log i (goodEntries (length slots) (natural limit)) (reading r .term) (natural limit)) n m refl h
+
+pub need-arithmetic : NeedArithmetic
+unfolding NeedArithmetic
+need-arithmetic payload n some small low even = need-sum payload n some low even

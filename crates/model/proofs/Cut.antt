@@ -5,14 +5,15 @@ use Prim.Native.Nat.{ℕ, zero, suc, _+_, _-_, _*_, _/_, _%_, _≤_, _<_}
 use mathlib.Core.List.{List, [], _∷_}
 use native.Mathlib.Omega.{arith}
 use native.Mathlib.Decide.{decLe}
-use native.Mathlib.Nat.{lt-of-not-le, le-of-lt, div-self, mod-self, div-eq-of-lt, mod-eq-of-lt, div-eq-sub-div, mod-eq-sub-mod, div-add-mod', mul-le-mul-left, mod-le}
+use native.Mathlib.Nat.{lt-of-not-le, le-of-lt, div-self, mod-self, div-eq-of-lt, mod-eq-of-lt, div-eq-sub-div, mod-eq-sub-mod, div-add-mod', mul-le-mul-left, mod-le, mod-lt, mul-assoc, mul-add, suc-mul}
 use borrow.Author.Tests.{le-leb, lt-leb, eq-eqb, ne-eqb}
+use lib.Arith.{digits-div}
 use lib.Dec.{eqb}
 use lib.ListN.{length, take, drop, length-drop}
 use lib.Seq.{length-take-le}
 use Rattle.model.specs.declared.Reading.{Reading}
 use Rattle.model.specs.Bytes.{splice, zeros}
-use Rattle.model.specs.FrameDescriptor.{space}
+use Rattle.model.specs.FrameDescriptor.{align, space}
 use Rattle.model.specs.TermAppender.{Fragment, fragment, fragmentBytes, written, cutFrom, cut, sizes, need}
 use Rattle.model.proofs.Splice.{length-zeros}
 
@@ -207,3 +208,40 @@ need-small pay n h d =
     by-rest : pay < n → (r : ℕ) → n % pay ≡ r → need pay n ≤ 3 * n + 96
     by-rest k zero e = omega (arith, need-whole pay n h d k e, parts-small pay n h)
     by-rest k (suc r) e = omega (arith, need-rest pay n h d k (λ z. omega arith), parts-small pay n h, mod-le n pay)
+
+-- ---- by arithmetic alone
+
+pub times-32 : (a b : ℕ) → b % 32 ≡ 0 → a * b % 32 ≡ 0
+times-32 a b h =
+    let e : b ≡ b / 32 * 32 = omega arith in
+    let m : a * (b / 32 * 32) ≡ a * (b / 32) * 32 = sym (mul-assoc a (b / 32) 32) in
+    ap (λ (x : ℕ). a * x % 32) e ∙ ap (λ (x : ℕ). x % 32) m ∙ omega arith
+
+-- the length divided by the payload limit and rounded up, where nothing is left, and where something is
+pub whole-up : (pay n : ℕ) → zero < pay → n % pay ≡ 0 → (n + (pay - 1)) / pay ≡ n / pay
+whole-up pay n z e =
+    let s : n + (pay - 1) ≡ n / pay * pay + (pay - 1) = omega (arith, div-add-mod' n pay) in
+    ap (λ (x : ℕ). x / pay) s ∙ digits-div (n / pay) (omega arith)
+
+pub rest-up : (pay n r : ℕ) → zero < pay → n % pay ≡ suc r → (n + (pay - 1)) / pay ≡ suc (n / pay)
+rest-up pay n r z e =
+    let l : suc r < pay = subst (λ (x : ℕ). x < pay) e (mod-lt n z) in
+    let m : suc (n / pay) * pay ≡ n / pay * pay + pay = suc-mul (n / pay) pay in
+    let s : n + (pay - 1) ≡ suc (n / pay) * pay + r = omega (arith, div-add-mod' n pay) in
+    ap (λ (x : ℕ). x / pay) s ∙ digits-div (suc (n / pay)) (omega arith)
+
+-- the length rounded up to 32, and 32 for every frame
+pub need-sum : (pay n : ℕ) → zero < n → 32 ≤ pay → pay % 32 ≡ 0 → need pay n ≡ align n + 32 * ((n + (pay - 1)) / pay)
+need-sum pay n z l d = by-rest (n % pay) refl
+  where
+    split-up : n / pay * (pay + 32) ≡ n / pay * pay + n / pay * 32
+    split-up = mul-add (n / pay) pay 32
+
+    by-rest : (r : ℕ) → n % pay ≡ r → need pay n ≡ align n + 32 * ((n + (pay - 1)) / pay)
+    by-rest zero e =
+        need-formula pay n (omega arith) d z ∙ simp (eq-eqb _ _ e)
+        (omega (arith, split-up, whole-up pay n (omega arith) e, div-add-mod' n pay, times-32 (n / pay) pay d))
+    by-rest (suc r) e =
+        let f : n % pay ≡ 0 → ⊥ = λ q. omega arith in
+        need-formula pay n (omega arith) d z ∙ simp (ne-eqb _ _ f)
+        (omega (arith, split-up, rest-up pay n r (omega arith) e, div-add-mod' n pay, times-32 (n / pay) pay d))

@@ -2,7 +2,7 @@
 -- proofs/Corollaries.antt.
 use mathlib.Core.Path.{_≡_}
 use mathlib.Core.Logic.{_⊎_}
-use Prim.Native.Nat.{ℕ, _+_, _-_, _*_, _%_, _<_}
+use Prim.Native.Nat.{ℕ, _+_, _-_, _*_, _/_, _%_, _<_, _≤_}
 use mathlib.Core.Bool.{Bool, true, false}
 use mathlib.Core.List.{List, [], _∷_}
 use lib.ListN.{length, drop}
@@ -23,6 +23,7 @@ use Rattle.model.specs.declared.Claimed.the-variants.{Position as ClaimP
 use Rattle.model.specs.Bytes.{long}
 use Rattle.model.specs.FrameDescriptor.{align, frameAt}
 use Rattle.model.specs.LogBufferDescriptor.{partitionOf, reading, publisherPosition}
+use Rattle.model.specs.TermAppender.{need}
 use Rattle.model.specs.Publication.{openOf}
 use Rattle.model.specs.TermReader.{laid}
 use Rattle.model.specs.Image.{Image, movedTo, pollOf}
@@ -159,3 +160,11 @@ unfoldable pub PollsCountFrames : Type 0
 PollsCountFrames =
     (r : LogRecord) (log : List ℕ) (i : Image) (slots : List ℤ) (limit : ℤ) (n m : ℕ) → pollOf r log i slots limit .answer ≡ Fragments n m
     → PollPassed r log i slots limit n m
+
+-- ---- R-5 of document 02: what a fragmented append needs, by arithmetic without a branch
+
+-- `need` is the sum over the frames. For every length and payload limit that row 1 lets through it is the length rounded up to 32, plus 32 for
+-- every frame, the frames being the length divided by the payload limit, rounded up.
+unfoldable pub NeedArithmetic : Type 0
+NeedArithmetic =
+    (payload n : ℕ) → 1 ≤ n → n ≤ 2147483647 → 32 ≤ payload → payload % 32 ≡ 0 → need payload n ≡ align n + 32 * ((n + (payload - 1)) / payload)
