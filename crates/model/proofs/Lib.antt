@@ -29,6 +29,7 @@ pub mod Calls
 pub mod Claims
 pub mod Demand
 pub mod Corollaries
+pub mod OneByteMore
 -- what the code's contracts lean on
 pub mod Append
 pub mod BufferClaim

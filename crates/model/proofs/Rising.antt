@@ -44,7 +44,7 @@ pub record Through (v : Reading) (n needed : ℕ) : Type 0 where
   pub is-sound : Sound v n
   pub room : v .offset + needed ≤ 2147483647
 
-Lets : Reading → ℕ → ℕ → Verdict → Type 0
+pub Lets : Reading → ℕ → ℕ → Verdict → Type 0
 Lets v n needed Pass = Through v n needed
 Lets v n needed (Refuse e) = Unit {0}
 
@@ -56,7 +56,7 @@ lets-pass : (v : Reading) (n needed : ℕ) → Through v n needed → Lets v n n
 unfolding Lets
 lets-pass v n needed t = t
 
-lets-through : (v : Reading) (n needed : ℕ) → Lets v n needed Pass → Through v n needed
+pub lets-through : (v : Reading) (n needed : ℕ) → Lets v n needed Pass → Through v n needed
 unfolding Lets
 lets-through v n needed t = t
 
@@ -72,7 +72,7 @@ room-lets v n needed s =
     cond-case (Lets v n needed) (ltb 2147483647 (v .offset + needed)) (Refuse TailOverflow) Pass (λ e. lets-no v n needed TailOverflow)
     (λ e. lets-pass v n needed (record { is-sound = sound-true v n s; room = ltb-false 2147483647 (v .offset + needed) e }))
 
-offer-lets : (v : Reading) (n m : ℕ) → Lets v n (needOf v m) (offerVerdict v n m)
+pub offer-lets : (v : Reading) (n m : ℕ) → Lets v n (needOf v m) (offerVerdict v n m)
 unfolding beforeAppend
 offer-lets v n m =
     let P = Lets v n (needOf v m) in

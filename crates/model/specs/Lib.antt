@@ -18,3 +18,4 @@ pub mod History
 pub mod Replay
 pub mod Demand
 pub mod Corollaries
+pub mod OneByteMore
