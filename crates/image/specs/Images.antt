@@ -1,15 +1,17 @@
 -- An image of the code and the image of the definitions hold the same; and so do their replies.
 use mathlib.Core.Path.{_≡_}
 use Prim.Native.Nat.{ℕ, _≤_, _<_}
+use mathlib.Core.Bool.{Bool}
 use mathlib.Core.List.{List}
 use lib.Count.{ones}
+use lib.IntN.{ℤ}
 use Rattle.model.specs.declared.Reading.{Reading}
 use Rattle.model.specs.declared.ReadVerdict.{ReadVerdict}
 use Rattle.model.specs.declared.ReadVerdict.the-variants.{Read}
 use Rattle.model.specs.declared.Error.the-variants.{UnsoundFrame}
 use Rattle.model.specs.declared.Peeked.{Peeked}
 use Rattle.model.specs.Bytes.{long}
-use Rattle.model.specs.Image.{Image as State, PollReply as PollSaid, BlockReply as BlockSaid, ImageReply as ImageSaid, refuseIf, unsoundAt, blockEnd, blockLength, blockBy, imageBy}
+use Rattle.model.specs.Image.{Image as State, PollReply as PollSaid, BlockReply as BlockSaid, ImageReply as ImageSaid, refuseIf, unsoundAt, blockEnd, blockLength, blockBy, imageBy, walkAt, endOffset, pollReply, pollVerdict}
 use Rattle.image.specs.declared.Image.{Image}
 use Rattle.image.specs.declared.PollReply.{PollReply}
 use Rattle.image.specs.declared.PeekReply.{PeekReply}
@@ -36,6 +38,12 @@ imageReplyOf x = record { next = imageOf (x .next); answer = x .answer }
 
 abbrev pub blockReplyOf : BlockSaid → BlockReply
 blockReplyOf x = record { next = imageOf (x .next); answer = x .answer }
+
+-- a poll up to a limit position, with what row 1 says of its arguments, its fragment limit and its actions
+abbrev pub pollUpTo : Reading → List ℕ → State → List ℤ → Bool → ℕ → ℕ → List ℕ → PollSaid
+pollUpTo v log i slots good bound limit acts =
+    pollReply i slots (walkAt v log (long (i .position)) (endOffset v (long (i .position)) bound) limit acts)
+    (pollVerdict v log i good (endOffset v (long (i .position)) bound) limit)
 
 -- what of a reply is worked out, before the image takes its position
 abbrev pub polledTo : PollSaid → PolledTo

@@ -5,11 +5,10 @@ ghost use Prim.Native.Nat.{_%_, _≤_};
 ghost use lib.ListN.{length};
 ghost use Rattle.model.specs.declared.Error.the-variants.{UnsoundFrame};
 ghost use Rattle.model.specs.declared.Verdict.the-variants.{Pass, Refuse};
-ghost use Rattle.model.specs.Bytes.{long};
 ghost use Rattle.model.specs.LogBufferDescriptor.{sound};
 ghost use Rattle.model.specs.TermReader.{goodEntries, goodHandler, framesBy, entriesBy};
-ghost use Rattle.model.specs.Image.{walkAt, unsoundAt, endOffset, pollReply, pollVerdict, slotsBy};
-ghost use Rattle.image.specs.Images.{stateOf, polledTo};
+ghost use Rattle.model.specs.Image.{walkAt, unsoundAt};
+ghost use Rattle.image.specs.Images.{stateOf, polledTo, pollUpTo};
 use crate::Image;
 use crate::ladder;
 use crate::limits;
@@ -66,8 +65,8 @@ pub(crate) fn poll_frames(
     actions: &[u8],
 ) -> PolledTo
     requires { ⌜ (good ≡ true → (goodEntries (length (now entries)) limit ≡ true) × (goodHandler (now actions) limit ≡ true)) ⌝ }
-    ensures { λ r. ⌜ r ≡ polledTo (pollReply (stateOf image) (now (entries .entry)) (walkAt v (now (log .entry)) (long (image .position)) (endOffset v (long (image .position)) bound) limit (now (actions .entry))) (pollVerdict v (now (log .entry)) (stateOf image) good (endOffset v (long (image .position)) bound) limit)) ⌝ }
-    ensures { λ _. ⌜ now (entries .exit) ≡ slotsBy (now (entries .entry)) (walkAt v (now (log .entry)) (long (image .position)) (endOffset v (long (image .position)) bound) limit (now (actions .entry))) (pollVerdict v (now (log .entry)) (stateOf image) good (endOffset v (long (image .position)) bound) limit) ⌝ }
+    ensures { λ r. ⌜ r ≡ polledTo (pollUpTo v (now (log .entry)) (stateOf image) (now (entries .entry)) good bound limit (now (actions .entry))) ⌝ }
+    ensures { λ _. ⌜ now (entries .exit) ≡ pollUpTo v (now (log .entry)) (stateOf image) (now (entries .entry)) good bound limit (now (actions .entry)) .slots ⌝ }
 {
     match ladder::readable(good, v, log.len(), image) {
         ReadVerdict::Refuse(e) => PolledTo {

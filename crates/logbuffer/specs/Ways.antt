@@ -24,7 +24,7 @@ use Rattle.model.specs.declared.AppendedClaim.the-variants.{Claimed, Tripped as
 use Rattle.model.specs.declared.AppendClaimReply.{AppendClaimReply}
 use Rattle.model.specs.FrameDescriptor.{space}
 use Rattle.model.specs.LogBufferDescriptor.{biased, readingOf, rawOf, changed}
-use Rattle.model.specs.TermAppender.{cut, need, written, course, bytesBy, replyBy, goodMessage}
+use Rattle.model.specs.TermAppender.{cut, need, written, claimed, course, bytesBy, replyBy, goodMessage}
 use Rattle.logbuffer.specs.declared.way.Way.{Way}
 
 -- on every course but a refusal the tail moves
@@ -54,6 +54,21 @@ goodClaiming v k m = goodMessage k m && ltb (v .id) 4294967296
 
 unfoldable pub claimCourse : Reading → ℕ → ℕ → ℕ → ℕ → Course
 claimCourse v n k m given = cond (goodClaiming v k m) (course v n (space m) given) (Refuse IllegalArgument)
+
+-- ---- what the two calls answer and leave: the record's numbers, log, partition, then the message's or the claim's
+
+abbrev pub appendWay : Reading → List ℕ → ℕ → ℕ → List ℕ → ℕ → Way
+appendWay v log k payload m given = wayBy v (need payload (length m)) (courseOf v (length log) k payload (length m) given)
+
+abbrev pub appendWayBytes : Reading → List ℕ → ℕ → ℕ → List ℕ → ℕ → ℕ → List ℕ
+appendWayBytes v log k payload m reserved given =
+    bytesBy v k log (written v log (k * v .term) (v .offset) (cut payload reserved m)) (courseOf v (length log) k payload (length m) given)
+
+abbrev pub claimWay : Reading → List ℕ → ℕ → ℕ → ℕ → Way
+claimWay v log k n given = wayBy v (space n) (claimCourse v (length log) k n given)
+
+abbrev pub claimWayBytes : Reading → List ℕ → ℕ → ℕ → ℕ → List ℕ
+claimWayBytes v log k n given = bytesBy v k log (claimed v log (k * v .term) n) (claimCourse v (length log) k n given)
 
 -- ---- what a caller makes of it
 

@@ -6,7 +6,7 @@ ghost use Rattle.model.specs.Bytes.{word, long};
 ghost use Rattle.model.specs.FrameDescriptor.{space};
 ghost use Rattle.model.specs.LogBufferDescriptor.{biased};
 ghost use Rattle.model.specs.TermAppender.{cut, need, written, claimed, course, bytesBy, goodMessage, unfragmentedReply, unfragmentedBytes, fragmentedReply, fragmentedBytes, claimAppendReply, claimAppendBytes};
-ghost use Rattle.logbuffer.specs.Ways.{wayBy, goodAppend, courseOf, goodClaiming, claimCourse, messageReply, messageBytes, fragmentLimit, claimBits};
+ghost use Rattle.logbuffer.specs.Ways.{goodAppend, goodClaiming, messageReply, messageBytes, fragmentLimit, claimBits, appendWay, appendWayBytes, claimWay, claimWayBytes};
 use crate::cast;
 use crate::data_frame_header::HEADER_LENGTH;
 use crate::frame_descriptor::ALIGNMENT_MASK;
@@ -200,8 +200,8 @@ pub fn append_way(
     reserved_value: i64,
     term_id: usize,
 ) -> Way
-    ensures { λ r. ⌜ r ≡ wayBy numbers (need «payload_limit» (length (now (message .entry)))) (courseOf numbers (length (now (log .entry))) partition «payload_limit» (length (now (message .entry))) «term_id») ⌝ }
-    ensures { λ _. ⌜ now (log .exit) ≡ bytesBy numbers partition (now (log .entry)) (written numbers (now (log .entry)) (partition * numbers .term) (numbers .offset) (cut «payload_limit» (long «reserved_value») (now (message .entry)))) (courseOf numbers (length (now (log .entry))) partition «payload_limit» (length (now (message .entry))) «term_id») ⌝ }
+    ensures { λ r. ⌜ r ≡ appendWay numbers (now (log .entry)) partition «payload_limit» (now (message .entry)) «term_id» ⌝ }
+    ensures { λ _. ⌜ now (log .exit) ≡ appendWayBytes numbers (now (log .entry)) partition «payload_limit» (now (message .entry)) (long «reserved_value») «term_id» ⌝ }
 {
     if !good_append(numbers, partition, payload_limit, message.len()) {
         return way::refused(Error::IllegalArgument);
@@ -326,8 +326,8 @@ pub fn claim_way(
     body_length: usize,
     term_id: usize,
 ) -> Way
-    ensures { λ r. ⌜ r ≡ wayBy numbers (space «body_length») (claimCourse numbers (length (now (log .entry))) partition «body_length» «term_id») ⌝ }
-    ensures { λ _. ⌜ now (log .exit) ≡ bytesBy numbers partition (now (log .entry)) (claimed numbers (now (log .entry)) (partition * numbers .term) «body_length») (claimCourse numbers (length (now (log .entry))) partition «body_length» «term_id») ⌝ }
+    ensures { λ r. ⌜ r ≡ claimWay numbers (now (log .entry)) partition «body_length» «term_id» ⌝ }
+    ensures { λ _. ⌜ now (log .exit) ≡ claimWayBytes numbers (now (log .entry)) partition «body_length» «term_id» ⌝ }
 {
     if !good_claiming(numbers, partition, body_length) {
         return way::refused(Error::IllegalArgument);
