@@ -1,4 +1,5 @@
-/* The log buffer for C: an excavation's log as Aeron lays it out, each function proved equal to a definition in crates/model/specs.
+/* The log buffer for C: an excavation's log as Aeron lays it out, each function proved equal to a definition in crates/model/specs, or for
+ * find cards in crates/card/specs.
  *
  *   rt staticlib capi                                             builds target/staticlib/libcapi.a (x86-64)
  *   cc -I include program.c target/staticlib/libcapi.a            links it; it needs nothing else
@@ -24,6 +25,7 @@
  *    8  back pressure: the limit is reached           17  the first frame is unsound
  *    9  the same, and not connected                   18  assembler: a 17th session; or fragments longer than their part
  *                                                         (their session stays entered, emptied)
+ *                                                     21  a find card, or bytes, that break its format
  *
  * An example
  *
@@ -105,6 +107,20 @@ struct logbuffer_replay {
     struct logbuffer_image image;
     struct logbuffer_assembler assembler;
 };
+
+/* A find card. The bits say which fields are there: 0 find (always on), 1 trench, 2 context, 3 material, 4 weight, 5 note; bits 6 and 7
+ * are never on. The number of a field whose bit is off is not looked at, and read as 0. The note's bytes stand beside the card. */
+struct logbuffer_card {
+    uint8_t bits;
+    uint32_t find;
+    uint16_t trench;
+    uint16_t context;
+    uint8_t material; /* 1 to 9 */
+    uint32_t weight; /* tenths of a gram */
+};
+
+/* The bytes of the longest card. */
+enum { LOGBUFFER_CARD_MAX_LENGTH = 270 };
 
 /* Where a message lies. */
 enum { LOGBUFFER_NOTHING = 0, LOGBUFFER_IN_LOG = 1, LOGBUFFER_IN_BUFFER = 2 };
@@ -247,6 +263,19 @@ struct logbuffer_count_reply {
     int32_t code;
     size_t messages;
     size_t bytes;
+};
+
+struct logbuffer_card_write_reply {
+    int32_t code;
+    size_t length;
+};
+
+/* The note is bytes[note_start .. note_start + note_length) of what was read; note_length is 0 where there is none. */
+struct logbuffer_card_read_reply {
+    int32_t code;
+    struct logbuffer_card card;
+    size_t note_start;
+    size_t note_length;
 };
 
 /* ---- opening, and calls on the record alone */
@@ -419,6 +448,17 @@ struct logbuffer_next_reply logbuffer_replay_next(struct logbuffer_replay replay
 /* A whole replay: how many messages, and how many bytes they have together. Refuses as logbuffer_replay_next. */
 struct logbuffer_count_reply logbuffer_replay_count(struct logbuffer_record rec, const uint8_t *log, size_t log_length, uint8_t *buffer,
                                                     size_t buffer_length, int32_t session_id);
+
+/* ---- find cards: message bodies that every reader understands alike */
+
+/* Writes a card's only encoding at the start of out and answers its length, 5 to LOGBUFFER_CARD_MAX_LENGTH; what lies behind it in out
+ * stays. The note, of 1 to 255 bytes, is not looked at where bit 5 is off. Refuses 1 (out shorter than the card, or a slice over
+ * 2147483647), 21. A broken card is 21 whatever the length of out. */
+struct logbuffer_card_write_reply logbuffer_card_write(struct logbuffer_card card, const uint8_t *note, size_t note_length, uint8_t *out,
+                                                       size_t out_length);
+
+/* Reads a card: accepts just what logbuffer_card_write makes, to the last byte. Refuses 1 (a slice over 2147483647), 21. */
+struct logbuffer_card_read_reply logbuffer_card_read(const uint8_t *bytes, size_t bytes_length);
 
 #ifdef __cplusplus
 }

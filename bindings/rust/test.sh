@@ -1,12 +1,12 @@
 #!/bin/sh
-# All tests of the Rust crate, without network: its own, those in its documentation, and the example beside its stored output.
+# All tests of the Rust crate, without network: its own, those in its documentation, and each example beside its stored output.
 # The archive is looked for as build.rs says.
 set -eu
 cd "$(dirname "$0")"
 export CARGO_NET_OFFLINE=true CARGO_TARGET_DIR="$PWD/target"
 [ -n "${LOGBUFFER_LIB_DIR:-}" ] || [ -f ../../target/staticlib/libcapi.a ] || (cd ../.. && rt staticlib capi >/dev/null)
 cargo test --quiet
-cargo run --quiet --example sync | diff examples/sync.txt -
+for example in sync cards; do cargo run --quiet --example "$example" | diff "examples/$example.txt" -; done
 # What lints and layout ask changes with the compiler, so they are looked at only on request.
 if [ -n "${LINT:-}" ]; then cargo clippy --quiet --all-targets -- -D warnings && cargo fmt --check; fi
 echo "the Rust crate does as it should"

@@ -204,6 +204,32 @@ static void replays(struct logbuffer_record rec) {
     SAY("replay_count", "code messages bytes", c.code, c.messages, c.bytes);
 }
 
+static void say_card(const char *call, struct logbuffer_card_read_reply r) {
+    SAY(call, "code bits find trench context material weight note_start note_length", r.code, r.card.bits, r.card.find, r.card.trench,
+        r.card.context, r.card.material, r.card.weight, r.note_start, r.note_length);
+}
+
+/* A card of all six fields, one of two, one read with a byte too many, one without room, and a broken one. */
+static void cards(void) {
+    static const uint8_t note[4] = {'r', 'i', 'm', '?'};
+    struct logbuffer_card card = {63, 67305985, 1541, 2055, 3, 202050057};
+    uint8_t out[LOGBUFFER_CARD_MAX_LENGTH];
+    struct logbuffer_card_write_reply w = logbuffer_card_write(card, note, sizeof note, out, sizeof out);
+    SAY("card_write", "code length", w.code, w.length);
+    SAY("  bytes", "0 1 5 7 9 10 14 15 18", out[0], out[1], out[5], out[7], out[9], out[10], out[14], out[15], out[18]);
+    say_card("card_read", logbuffer_card_read(out, w.length));
+    say_card("card_read", logbuffer_card_read(out, w.length + 1));
+    card.bits = 35;
+    w = logbuffer_card_write(card, note, 3, out, sizeof out);
+    SAY("card_write", "code length", w.code, w.length);
+    say_card("card_read", logbuffer_card_read(out, w.length));
+    w = logbuffer_card_write(card, note, 3, out, w.length - 1);
+    SAY("card_write", "code length", w.code, w.length);
+    card.bits = 34;
+    w = logbuffer_card_write(card, note, 3, out, 0);
+    SAY("card_write", "code length", w.code, w.length);
+}
+
 int main(void) {
     numbers();
     struct logbuffer_record rec = written(), second = appended();
@@ -212,5 +238,6 @@ int main(void) {
     images(rec);
     assemblies(second);
     replays(rec);
+    cards();
     return 0;
 }

@@ -1,4 +1,4 @@
-//! The 18 refusals, in the words of docs/ERRORS.md. Read log.rs next.
+//! The refusals, in the words of docs/ERRORS.md. Read log.rs next.
 
 use std::fmt;
 
@@ -21,7 +21,7 @@ macro_rules! refusals {
 
         impl Error {
             /// Every refusal, by number.
-            pub const ALL: [Error; 18] = [$(Error::$name),*];
+            pub const ALL: [Error; 19] = [$(Error::$name),*];
 
             /// What the refusal is given for, in one line.
             ///
@@ -100,10 +100,13 @@ refusals! {
     18 AssemblyFull
         "begin frame of a 17th session, or fragments longer together than their part of the buffer"
         "a session of too long fragments stays entered, emptied; a 17th changes nothing: lend 16 times the longest message, or a fresh assembler"
+    21 BrokenCard
+        "a find card, or bytes, that break its format"
+        "of a card, mend the material (1 to 9) or the note (1 to 255 bytes); of bytes, pass the message over: it is no card"
 }
 
 impl Error {
-    /// The refusal's number, 1 to 18.
+    /// The refusal's number: 1 to 18, or 21 for a card.
     ///
     /// ```
     /// assert_eq!(logbuffer::Error::BackPressured.number(), 8);
@@ -112,7 +115,7 @@ impl Error {
         self as i32
     }
 
-    /// The refusal of a number; none for any but 1 to 18.
+    /// The refusal of a number; none for any but those of [`ALL`](Error::ALL).
     ///
     /// ```
     /// use logbuffer::Error;
@@ -120,15 +123,14 @@ impl Error {
     /// assert_eq!(Error::from_number(0), None);
     /// ```
     pub fn from_number(number: i32) -> Option<Error> {
-        let index = usize::try_from(number).ok()?.checked_sub(1)?;
-        Error::ALL.get(index).copied()
+        Error::ALL.into_iter().find(|error| error.number() == number)
     }
 
     /// The answer to a code of the C face, in which 0 is none.
     pub(crate) fn check(code: i32) -> Result<(), Error> {
         match code {
             0 => Ok(()),
-            _ => Err(Error::from_number(code).expect("the C face answers 0 to 18")),
+            _ => Err(Error::from_number(code).expect("the C face answers 0 or a refusal's number")),
         }
     }
 }

@@ -11,6 +11,7 @@ fn values_have_the_sizes_of_c() {
     assert_eq!(size_of::<Image>(), 16);
     assert_eq!(size_of::<Assembler>(), 200);
     assert_eq!(size_of::<Replay>(), 216);
+    assert_eq!(size_of::<Card>(), 20);
 }
 
 #[test]
@@ -24,6 +25,8 @@ fn fields_of_values_have_the_offsets_of_c() {
     assert_eq!([offset_of!(Header, reserved_value), offset_of!(Header, position)], [24, 32]);
     assert_eq!([offset_of!(Image, session_id), offset_of!(Image, is_closed), offset_of!(Image, is_eos)], [8, 12, 13]);
     assert_eq!([offset_of!(Assembler, ids), offset_of!(Assembler, held), offset_of!(Replay, assembler)], [8, 72, 16]);
+    assert_eq!([offset_of!(Card, find), offset_of!(Card, trench), offset_of!(Card, context)], [4, 8, 10]);
+    assert_eq!([offset_of!(Card, material), offset_of!(Card, weight)], [12, 16]);
 }
 
 #[test]
@@ -48,6 +51,8 @@ fn replies_have_the_sizes_of_c() {
     assert_eq!(size_of::<AssemblyReply>(), 224);
     assert_eq!(size_of::<NextReply>(), 240);
     assert_eq!(size_of::<CountReply>(), 24);
+    assert_eq!(size_of::<CardWriteReply>(), 16);
+    assert_eq!(size_of::<CardReadReply>(), 40);
 }
 
 #[test]
@@ -59,4 +64,5 @@ fn fields_of_replies_have_the_offsets_of_c() {
     assert_eq!([offset_of!(GapReply, is_gap), offset_of!(GapReply, term_id), offset_of!(GapReply, offset)], [4, 8, 16]);
     assert_eq!([offset_of!(BlockReply, offset), offset_of!(BlockReply, session_id)], [24, 40]);
     assert_eq!([offset_of!(NextReply, code), offset_of!(NextReply, place), offset_of!(NextReply, start)], [216, 220, 224]);
+    assert_eq!([offset_of!(CardReadReply, card), offset_of!(CardReadReply, note_start)], [4, 24]);
 }

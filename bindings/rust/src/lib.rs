@@ -21,7 +21,8 @@
 //! - [`Log`]: opening, offers, claims, limit, close, scans, replay.
 //! - [`Claim`] and [`OpenClaim`]: a frame to be written in place.
 //! - [`Poller`]: a reader at a position. [`Assembler`]: messages out of fragments. [`Replay`]: both, from the start.
-//! - [`Error`]: the 18 refusals, with cause and remedy. An offer or claim refused with [`Error::AdminAction`] is to be made again.
+//! - [`Card`]: a find card, a message body of one format.
+//! - [`Error`]: the refusals, with cause and remedy. An offer or claim refused with [`Error::AdminAction`] is to be made again.
 //!
 //! A [`Log`] is `Send` and `Sync`: writing takes `&mut`, so threads that write share it behind a lock.
 //!
@@ -33,6 +34,7 @@
 
 mod assembler;
 mod builder;
+mod card;
 mod claim;
 pub mod descriptor;
 mod error;
@@ -48,6 +50,7 @@ mod layout;
 
 pub use assembler::Assembler;
 pub use builder::Builder;
+pub use card::Card;
 pub use claim::{Claim, OpenClaim};
 pub use error::Error;
 pub use log::Log;

@@ -93,6 +93,17 @@ pub struct Replay {
     pub assembler: Assembler,
 }
 
+#[repr(C)]
+#[derive(Clone, Copy, Debug, PartialEq, Eq)]
+pub struct Card {
+    pub bits: u8,
+    pub find: u32,
+    pub trench: u16,
+    pub context: u16,
+    pub material: u8,
+    pub weight: u32,
+}
+
 pub const IN_LOG: i32 = 1;
 pub const IN_BUFFER: i32 = 2;
 
@@ -127,6 +138,8 @@ replies! {
     AssemblyReply { next: Assembler, code: i32, place: i32, start: usize, length: usize }
     NextReply { next: Replay, code: i32, place: i32, start: usize, length: usize }
     CountReply { code: i32, messages: usize, bytes: usize }
+    CardWriteReply { code: i32, length: usize }
+    CardReadReply { code: i32, card: Card, note_start: usize, note_length: usize }
 }
 
 /// Functions of the face that take no slice.
@@ -238,6 +251,10 @@ mod face {
         pub fn logbuffer_replay_count(
             rec: Record, log: In, log_length: usize, buffer: Out, buffer_length: usize, session_id: i32,
         ) -> CountReply;
+        pub fn logbuffer_card_write(
+            card: Card, note: In, note_length: usize, out: Out, out_length: usize,
+        ) -> CardWriteReply;
+        pub fn logbuffer_card_read(bytes: In, bytes_length: usize) -> CardReadReply;
     }
 }
 
@@ -434,4 +451,14 @@ pub fn replay_next(replay: Replay, rec: Record, log: &[u8], buffer: &mut [u8]) -
 pub fn replay_count(rec: Record, log: &[u8], buffer: &mut [u8], session_id: i32) -> CountReply {
     // SAFETY: pointers and lengths are those of the slices.
     unsafe { face::logbuffer_replay_count(rec, log.as_ptr(), log.len(), buffer.as_mut_ptr(), buffer.len(), session_id) }
+}
+
+pub fn card_write(card: Card, note: &[u8], out: &mut [u8]) -> CardWriteReply {
+    // SAFETY: pointers and lengths are those of the slices.
+    unsafe { face::logbuffer_card_write(card, note.as_ptr(), note.len(), out.as_mut_ptr(), out.len()) }
+}
+
+pub fn card_read(bytes: &[u8]) -> CardReadReply {
+    // SAFETY: pointers and lengths are those of the slices.
+    unsafe { face::logbuffer_card_read(bytes.as_ptr(), bytes.len()) }
 }

@@ -1,2 +1,3 @@
 -- How each answer crosses to C.
 pub mod Replies
+pub mod Cards
