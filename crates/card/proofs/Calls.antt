@@ -1,7 +1,7 @@
 -- What the tests that a call has passed say of its answer.
 use mathlib.Core.Path.{_≡_, refl, sym, ap, ap₂, _∙_, subst}
 use mathlib.Core.Bool.{Bool, true, false, cond, _&&_}
-use mathlib.Core.List.{List, []}
+use mathlib.Core.List.{List, [], _∷_}
 use Prim.Native.Nat.{ℕ, zero, suc, _+_, _-_, _/_, _%_, _^_, _≤_, _<_}
 use native.Mathlib.Omega.{arith}
 use borrow.Author.Tests.{le-leb, lt-leb, leb-true, eq-eqb, ne-eqb, eqb-true}
@@ -28,16 +28,23 @@ pub seven : (x : ℕ) → length (widths x) ≡ 7
 unfolding widths
 seven x = refl
 
-pub narrow : (x i : ℕ) → getD (widths x) i 0 ≤ 4
+-- the most that each can be
+abbrev pub most : List ℕ
+most = 1 ∷ 4 ∷ 2 ∷ 2 ∷ 1 ∷ 4 ∷ 1 ∷ []
+
+pub narrow : (x i : ℕ) → (getD (widths x) i 0 ≤ getD most i 0) × (getD most i 0 ≤ 4)
 unfolding widths
-narrow x zero = omega arith
-narrow x (suc zero) = omega arith
-narrow x (suc (suc zero)) = omega arith
-narrow x (suc (suc (suc zero))) = omega arith
-narrow x (suc (suc (suc (suc zero)))) = omega arith
-narrow x (suc (suc (suc (suc (suc zero))))) = omega arith
-narrow x (suc (suc (suc (suc (suc (suc zero)))))) = omega arith
-narrow x (suc (suc (suc (suc (suc (suc (suc i))))))) = omega arith
+narrow x zero = (omega arith, omega arith)
+narrow x (suc zero) = (omega arith, omega arith)
+narrow x (suc (suc zero)) = (omega arith, omega arith)
+narrow x (suc (suc (suc zero))) = (omega arith, omega arith)
+narrow x (suc (suc (suc (suc zero)))) = (omega arith, omega arith)
+narrow x (suc (suc (suc (suc (suc zero))))) = (omega arith, omega arith)
+narrow x (suc (suc (suc (suc (suc (suc zero)))))) = (omega arith, omega arith)
+narrow x (suc (suc (suc (suc (suc (suc (suc i))))))) = (omega arith, omega arith)
+
+pub four : (x i : ℕ) → getD (widths x) i 0 ≤ 4
+four x i = omega (arith, narrow x i .0, narrow x i .1)
 
 -- ---- writing
 
@@ -127,10 +134,10 @@ fit-at (one h f) (suc k) = fit-at f k
 
 module _ (b ns : List ℕ) (e : ns ≡ shown b) where
   -- a number that was read fits its field
-  pub shown-below : Bytes b → (k m : ℕ) → getD (widths (getD b 0 0)) k 0 ≤ m → getD ns k 0 < 256 ^ m
+  pub shown-below : Bytes b → (k : ℕ) → getD ns k 0 < 256 ^ getD most k 0
   unfolding shown
-  shown-below bytes k m l =
-      fits m (subst (λ (s : List ℕ). getD s k 0 < 256 ^ getD (widths (getD b 0 0)) k 0) (sym e) (fit-at (fit-numbers (widths (getD b 0 0)) b 0 bytes) k)) l
+  shown-below bytes k =
+      fits (getD most k 0) (subst (λ (s : List ℕ). getD s k 0 < 256 ^ getD (widths (getD b 0 0)) k 0) (sym e) (fit-at (fit-numbers (widths (getD b 0 0)) b 0 bytes) k)) (narrow (getD b 0 0) k .0)
 
   module _ (from : ℕ) (f : from ≡ sum (widths (getD b 0 0))) where
     pub decoded : decode b ≡ cond (soundCard (cardOf ns) (getD ns 6 0) && eqb (length b) (from + getD ns 6 0)) (card (cardOf ns) (drop from b)) broken

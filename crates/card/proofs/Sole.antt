@@ -123,8 +123,8 @@ module _ (b : List ℕ) (bytes : Bytes b) where
       let k : length (drop at b) < 256 ^ (c .bits / 32 % 2) = rw (note-length l) (last (c .bits) fit) in
       sym (joined-are l) ∙ rw (whole (c .bits) (drop at b) k, note-length l)
 
-pub read-back : (b : List ℕ) → Bytes b → (c : Card) (note : List ℕ) → decode b ≡ card c note → Canonical c note × (b ≡ encode c note)
-read-back b bytes c note e =
+pub is-encoding : (b : List ℕ) → Bytes b → (c : Card) (note : List ℕ) → decode b ≡ card c note → Canonical c note × (b ≡ encode c note)
+is-encoding b bytes c note e =
     let a = accepted b c note e in
     subst (λ (s : List ℕ). Canonical c s × (b ≡ encode c s)) (a .same-note)
     (subst (λ (d : Card). let s = drop (sum (widths (getD b 0 0))) b in
@@ -169,11 +169,11 @@ module _ (b : List ℕ) (c : Card) (note : List ℕ) (k : Canonical c note) (e :
       ∙ pick (soundCard c (length note)) _ _ (k .sound) (eq-eqb _ _ to-the-end) ∙ ap (card c) (ap (λ (m : ℕ). drop m b) z ∙ numbers-are .1)
 
 pub sole : Sole
-sole b bytes c note = (read-back b bytes c note, λ h. wrote b c note (h .0) (h .1))
+sole b bytes c note = (is-encoding b bytes c note, λ h. wrote b c note (h .0) (h .1))
 
 pub sole-read : SoleRead
 sole-read b bytes c note = (
-  λ h. read-back b bytes c note (found-decoded b c (length b - length note) (length note) (h .0) ∙ ap (card c) (h .1)),
+  λ h. is-encoding b bytes c note (found-decoded b c (length b - length note) (length note) (h .0) ∙ ap (card c) (h .1)),
   λ h. decoded-found b c note (small b c note (h .0) (h .1)) (wrote b c note (h .0) (h .1)),
 )
 
@@ -228,8 +228,8 @@ kept-encoded c note =
     let b = c .bits in
     sym (ap (joined (widths b) (numbersOf (kept c) (length (noteHeld b note)))) (note-twice b note) ∙ simp (length-held, le-held, le-held-one))
 
-pub read-written : ReadBack
-read-written c note t bytes s = wrote (encode c note) (kept c) (noteHeld (c .bits) note) (kept-canonical c note t bytes s) (kept-encoded c note)
+pub read-back : ReadBack
+read-back c note t bytes s = wrote (encode c note) (kept c) (noteHeld (c .bits) note) (kept-canonical c note t bytes s) (kept-encoded c note)
 
 -- ---- the calls
 
@@ -243,16 +243,16 @@ written-read c note out n t bytes e =
     let h = noteHeld (c .bits) note in
     let l : length (encode c note) ≡ n = sized c note ∙ w .size in
     let b : encode c note ≡ take n (writeBytes c note out) = sym (ap (take n) (w .left) ∙ written-alone out (encode c note) n l) in
-    let f = decoded-found (encode c note) (kept c) h (omega (arith, l, w .room, w .small)) (read-written c note t bytes (w .sound)) in
+    let f = decoded-found (encode c note) (kept c) h (omega (arith, l, w .room, w .small)) (read-back c note t bytes (w .sound)) in
     let g : readOf (encode c note) ≡ Found (kept c) (n - length h) (length h) = f .0 ∙ ap (λ (k : ℕ). Found (kept c) (k - length h) (length h)) l in
     (ap readOf (sym b) ∙ g, ap noteOf (sym b) ∙ f .1)
 
-pub read-rewritten : ReadWritten
+pub read-written : ReadWritten
 unfolding splice
-read-rewritten b out bytes c from n e room small =
+read-written b out bytes c from n e room small =
     let note = noteOf b in
     let d = found-decoded b c from n e in
-    let k = read-back b bytes c note d in
+    let k = is-encoding b bytes c note d in
     let l : length b ≡ sizeOf c (length note) = ap length (k .1) ∙ sized c note in
     let z : 0 + length b ≡ length b = omega arith in
     let w = write-done c note out (omega (arith, behind b c note d .0)) small (k .0 .sound) (omega arith) in

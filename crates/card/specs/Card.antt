@@ -9,7 +9,7 @@
 --                                                     of a gram
 --
 -- Only the fields whose bit is on have bytes. Bit 0 is always on, bits 6 and 7 never are. So the shortest card has 5 bytes, the longest
--- 270. A field whose bit is off is taken here as a number of width 0, which reads as 0: no definition asks whether a field is there.
+-- 270. A field whose bit is off is taken here as a number of width 0, which reads as 0: the layout does not ask whether a field is there.
 use Prim.Native.Nat.{ℕ, _+_, _-_, _*_, _/_, _%_}
 use mathlib.Core.Bool.{Bool, true, cond, _&&_}
 use mathlib.Core.List.{List, [], _∷_}

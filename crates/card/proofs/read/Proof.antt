@@ -1,20 +1,20 @@
 -- The numbers that were read are those shown; the tests then pick the answer.
 use mathlib.Core.Path.{_≡_, sym, ap, _∙_}
-use Prim.Native.Nat.{ℕ, _≤_, _<_, _^_}
+use Prim.Native.Nat.{ℕ, _<_, _^_}
 use native.Mathlib.Omega.{arith}
 use borrow.Author.Needs.{needs}
 use borrow.Author.Tests.{not-true, not-false}
 use lib.ListN.{getD}
 use Rattle.card.specs.Bytes.{sum}
 use Rattle.card.specs.Card.{widths, shown, cardOf, soundCard}
-use Rattle.card.proofs.Calls.{seven, narrow, is-shown, shown-below, read-long, read-unsound, read-other-length, read-found}
+use Rattle.card.proofs.Calls.{seven, most, four, is-shown, shown-below, read-long, read-unsound, read-other-length, read-found}
 use Rattle.card.proofs.read.Statement.{statement}
 use Rattle.card.proofs.read.Tie as tie
 
 shown-is : (c : tie.After-split) → c .split .result ≡ shown (c .before .before .before .before .before .before .args .bytes .now)
 shown-is c = is-shown _ _ _ _ (c .before .before .before .byte .ensures .0) (c .before .before .table .ensures) (c .split .ensures)
 
-below : (c : tie.After-split) (k m : ℕ) → getD (widths (getD (c .before .before .before .before .before .before .args .bytes .now) 0 0)) k 0 ≤ m → getD (c .split .result) k 0 < 256 ^ m
+below : (c : tie.After-split) (k : ℕ) → getD (c .split .result) k 0 < 256 ^ getD most k 0
 below c = shown-below _ _ (shown-is c) (λ i. omega (arith, c .before .before .before .before .before .shared-slice-known .given i))
 
 from-is : (c : tie.After-end) → c .end .result ≡ sum (widths (getD (c .before .before .before .before .before .before .before .args .bytes .now) 0 0))
@@ -27,31 +27,7 @@ returns : tie.Need-returns
 returns c = read-long _ (c .if1 .taken)
 
 split-requires : tie.Need-split-requires
-split-requires c κs = rw (c .before .table .ensures) (seven _, narrow _)
-
-cast-bits : tie.Need-cast-t16
-unfolding widths
-cast-bits c = omega (arith, below c 0 1 (omega arith))
-
-cast-find : tie.Need-cast-t20
-unfolding widths
-cast-find c = omega (arith, below c 1 4 (omega arith))
-
-cast-trench : tie.Need-cast-t24
-unfolding widths
-cast-trench c = omega (arith, below c 2 2 (omega arith))
-
-cast-context : tie.Need-cast-t28
-unfolding widths
-cast-context c = omega (arith, below c 3 2 (omega arith))
-
-cast-material : tie.Need-cast-t32
-unfolding widths
-cast-material c = omega (arith, below c 4 1 (omega arith))
-
-cast-weight : tie.Need-cast-t36
-unfolding widths
-cast-weight c = omega (arith, below c 5 4 (omega arith))
+split-requires c κs = rw (c .before .table .ensures) (seven _, four _)
 
 returns-2 : tie.Need-returns-2
 returns-2 c =
@@ -59,8 +35,7 @@ returns-2 c =
     read-unsound _ _ (shown-is (e .before)) _ (from-is e) (e .before .before .before .before .before .if1 .left) (sym (sound-is (c .before)) ∙ not-true _ (c .if2 .taken))
 
 add-if3 : tie.Need-add-if3
-unfolding widths
-add-if3 c = omega (arith, c .before .before .end .ensures .1, below (c .before .before .before) 6 1 (omega arith))
+add-if3 c = omega (arith, c .before .before .end .ensures .1, below (c .before .before .before) 6)
 
 returns-3 : tie.Need-returns-3
 returns-3 c =
@@ -83,17 +58,17 @@ read-spec =
     (search needs)
     split-requires
     (search needs)
-    cast-bits
+    (λ c. omega (arith, below c 0))
     (search needs)
-    cast-find
+    (λ c. omega (arith, below c 1))
     (search needs)
-    cast-trench
+    (λ c. omega (arith, below c 2))
     (search needs)
-    cast-context
+    (λ c. omega (arith, below c 3))
     (search needs)
-    cast-material
+    (λ c. omega (arith, below c 4))
     (search needs)
-    cast-weight
+    (λ c. omega (arith, below c 5))
     (search needs)
     (search needs)
     (search needs)
