@@ -200,9 +200,9 @@ module _ (r : LogRecord) (log : List ℕ) (h : List Extent) (ks : List Claim) (t
       let Q = ClaimPasses m in
       cond-case (Sure Q) (ltb 2147483647 m) (Refuse IllegalArgument) _ (λ e. sure-no Q IllegalArgument (refl, refl))
       (λ l. sound-rung Q _
-      (cond-case (Sure Q) (ltb (payloadLimit v) m) (Refuse ExceedsMaxPayloadLength) _ (λ e. sure-no Q ExceedsMaxPayloadLength (refl, refl))
-      (λ f. cond-case (Sure Q) (v .closed) (Refuse PublicationClosed) _ (λ e. sure-no Q PublicationClosed (refl, refl))
-      (λ e. after-sure Q m _ (ltb-false 2147483647 m l) (room-sure Q (space m) (λ o. (ltb-false (payloadLimit v) m f, o)))))))
+      (cond-case (Sure Q) (v .closed) (Refuse PublicationClosed) _ (λ e. sure-no Q PublicationClosed (refl, refl))
+      (λ e. cond-case (Sure Q) (ltb (payloadLimit v) m) (Refuse ExceedsMaxPayloadLength) _ (λ e. sure-no Q ExceedsMaxPayloadLength (refl, refl))
+      (λ f. after-sure Q m _ (ltb-false 2147483647 m l) (room-sure Q (space m) (λ o. (ltb-false (payloadLimit v) m f, o)))))))
 
   -- ---- what an append that is let through needs
 

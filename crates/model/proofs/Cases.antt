@@ -165,8 +165,8 @@ module _ (log : List ℕ) (full : length log ≡ 196608) where
 
   -- ---- cases of our own
 
-  -- a claim too long on a closed publication: 4 before 5
-  claim-long-closed : claimedTold (claimOf (recordAt (tailsAt 0) (pos 7) 96 0 1000000 true) log (pos 65) .answer) ≡ is (pos 4) []
+  -- a claim too long on a closed publication: 5 before 4 (R-3 of document 02; document 01 had 4)
+  claim-long-closed : claimedTold (claimOf (recordAt (tailsAt 0) (pos 7) 96 0 1000000 true) log (pos 65) .answer) ≡ is (pos 5) []
   unfolding claimOf readingOf soundRecord sound rawOf pressed afterClosed claimVerdict ones onesIn
   claim-long-closed = rw full
 

@@ -49,3 +49,4 @@ pub mod ViewLaws
 pub mod HeaderRows
 -- the publication
 pub mod OfferLaws
+pub mod ClosedFirst

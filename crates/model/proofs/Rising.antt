@@ -89,8 +89,8 @@ claim-lets v n m =
     let no = lets-no v n (space m) in
     cond-case P (ltb 2147483647 m) (Refuse IllegalArgument) _ (λ e. no IllegalArgument)
     (λ e. cond-case P (not (sound v n)) (Refuse IllegalRecord) _ (λ e. no IllegalRecord)
-    (λ s. cond-case P (ltb (payloadLimit v) m) (Refuse ExceedsMaxPayloadLength) _ (λ e. no ExceedsMaxPayloadLength)
-    (λ e. cond-case P (v .closed) (Refuse PublicationClosed) _ (λ e. no PublicationClosed) (λ e. after-lets v n m (space m) _ (room-lets v n (space m) (not-false (sound v n) s))))))
+    (λ s. cond-case P (v .closed) (Refuse PublicationClosed) _ (λ e. no PublicationClosed)
+    (λ e. cond-case P (ltb (payloadLimit v) m) (Refuse ExceedsMaxPayloadLength) _ (λ e. no ExceedsMaxPayloadLength) (λ e. after-lets v n m (space m) _ (room-lets v n (space m) (not-false (sound v n) s))))))
 
 -- ---- the record goes up
 

@@ -10,6 +10,7 @@ pub mod LogBufferDescriptor
 pub mod TermAppender
 pub mod BufferClaim
 pub mod Publication
+pub mod ClosedFirst
 pub mod TermReader
 pub mod TermScan
 pub mod Image

@@ -1,5 +1,5 @@
 -- The publication: opening, limit change, close, position, limit, window, offer and claim. Each refusal stands in document 01's order
--- ("Answers, by number", last paragraph), with what it leaves. Read TermReader next.
+-- ("Answers, by number", last paragraph), as R-3 of document 02 amends it, with what it leaves. Read TermReader next.
 use Prim.Native.Nat.{ℕ, _+_, _-_, _*_}
 use mathlib.Core.Bool.{Bool, false, cond, _&&_, not}
 use mathlib.Core.List.{List, [], _∷_}
@@ -201,13 +201,14 @@ offerBytes r log m reserved =
 
 -- ---- claim
 
--- for a claim of m bytes and a log of n: 1, 2, 4, 5, then as an offer without 10
+-- for a claim of m bytes and a log of n: 1, 2, 5, 4, then as an offer without 10. Document 01 had 4 before 5; R-3 of document 02 lets closed
+-- decide first. ClosedFirst has the ladder as it was, and says what changed.
 unfoldable pub claimVerdict : Reading → ℕ → ℕ → Verdict
 claimVerdict v n m =
     refuseIf (ltb 2147483647 m) IllegalArgument
     (refuseIf (not (sound v n)) IllegalRecord
-    (refuseIf (ltb (payloadLimit v) m) ExceedsMaxPayloadLength
     (refuseIf (v .closed) PublicationClosed
+    (refuseIf (ltb (payloadLimit v) m) ExceedsMaxPayloadLength
     (afterClosed v m
     (tailRoom v (space m))))))
 

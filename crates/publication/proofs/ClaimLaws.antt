@@ -44,19 +44,19 @@ module _ (v : Reading) (n m : ℕ) where
     claim-2 h = simp (le-ltb _ _ h1, h)
 
     module _ (h2 : sound v n ≡ true) where
-      pub claim-4 : payloadLimit v < m → Refuse ExceedsMaxPayloadLength ≡ claimVerdict v n m
+      pub claim-5 : v .closed ≡ true → Refuse PublicationClosed ≡ claimVerdict v n m
       unfolding claimVerdict
-      claim-4 h = simp (le-ltb _ _ h1, h2, lt-ltb _ _ h)
+      claim-5 h = simp (le-ltb _ _ h1, h2, h)
 
-      module _ (h3 : m ≤ payloadLimit v) where
-        pub claim-5 : v .closed ≡ true → Refuse PublicationClosed ≡ claimVerdict v n m
+      module _ (h3 : v .closed ≡ false) where
+        pub claim-4 : payloadLimit v < m → Refuse ExceedsMaxPayloadLength ≡ claimVerdict v n m
         unfolding claimVerdict
-        claim-5 h = simp (le-ltb _ _ h1, h2, le-ltb _ _ h3, h)
+        claim-4 h = simp (le-ltb _ _ h1, h2, h3, lt-ltb _ _ h)
 
-        module _ (h4 : v .closed ≡ false) where
+        module _ (h4 : m ≤ payloadLimit v) where
           claim-on : afterClosed v m (tailRoom v (space m)) ≡ claimVerdict v n m
           unfolding claimVerdict
-          claim-on = simp (le-ltb _ _ h1, h2, le-ltb _ _ h3, h4)
+          claim-on = simp (le-ltb _ _ h1, h2, h3, le-ltb _ _ h4)
 
           pub claim-7 : (x : Verdict) (e : Error) → x ≡ afterClosed v m Pass → x ≡ Refuse e → x ≡ claimVerdict v n m
           claim-7 x e h k = k ∙ sym (closed-refuse v m (tailRoom v (space m)) e (sym h ∙ k)) ∙ claim-on
@@ -83,10 +83,10 @@ module _ (v : Reading) (n m : ℕ) where
 
   pub passed : claimVerdict v n m ≡ Pass → Passed
   unfolding claimVerdict
-  passed h = go (ltb 2147483647 m) (sound v n) (ltb (payloadLimit v) m) (v .closed) refl refl h
+  passed h = go (ltb 2147483647 m) (sound v n) (v .closed) (ltb (payloadLimit v) m) refl refl h
     where
       go : (a b c d : Bool) → ltb 2147483647 m ≡ a → sound v n ≡ b
-          → refuseIf a IllegalArgument (refuseIf (not b) IllegalRecord (refuseIf c ExceedsMaxPayloadLength (refuseIf d PublicationClosed (afterClosed v m (tailRoom v (space m)))))) ≡ Pass → Passed
+          → refuseIf a IllegalArgument (refuseIf (not b) IllegalRecord (refuseIf c PublicationClosed (refuseIf d ExceedsMaxPayloadLength (afterClosed v m (tailRoom v (space m)))))) ≡ Pass → Passed
       go true b c d ea eb h = absurd (let z : _≡_ {A = ℕ} 0 1 = cc in omega arith)
       go false false c d ea eb h = absurd (let z : _≡_ {A = ℕ} 0 1 = cc in omega arith)
       go false true true d ea eb h = absurd (let z : _≡_ {A = ℕ} 0 1 = cc in omega arith)

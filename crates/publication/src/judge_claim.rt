@@ -1,4 +1,4 @@
-// The refusals of a claim that leave everything as it was, in document 01's order: its length (4) before closed (5).
+// The refusals of a claim that leave everything as it was, in document 01's order but for R-3 of document 02: closed (5) before its length (4).
 ghost use mathlib.Core.Path.{_≡_};
 ghost use Prim.Native.Nat.{_<_};
 ghost use Rattle.model.specs.Publication.{claimVerdict};
@@ -24,11 +24,11 @@ pub(crate) fn before_claim(v: Reading, n: usize, m: usize) -> Verdict
     let mtu = v.mtu;
     let payload = mtu - HEADER_LENGTH;
     let closed = v.closed;
-    if m > payload {
-        return Verdict::Refuse(Error::ExceedsMaxPayloadLength);
-    }
     if closed {
         return Verdict::Refuse(Error::PublicationClosed);
+    }
+    if m > payload {
+        return Verdict::Refuse(Error::ExceedsMaxPayloadLength);
     }
     let rest = judge::after_closed(v, m);
     let Verdict::Pass = rest else {

@@ -47,7 +47,7 @@ fn marked() {
     );
 }
 
-// Rows 1, 4, 14: claims.
+// Rows 1, 4 and 14, and 5 before 4: claims.
 fn claims() {
     let mut log = [0u8; 196608];
     let rec = fresh(&mut log);

@@ -26,10 +26,10 @@ sub-payload : tie.Need-sub-payload
 sub-payload c = omega (arith, so c)
 
 returns-3 : tie.Need-returns-3
-returns-3 c = claim-4 _ _ _ (c .before .before .before .if1 .left) (is-so (c .before)) (c .if3 .taken)
+returns-3 c = claim-5 _ _ _ (c .before .before .before .if1 .left) (is-so (c .before)) (c .if3 .taken)
 
 returns-4 : tie.Need-returns-4
-returns-4 c = claim-5 _ _ _ (c .before .before .before .before .if1 .left) (is-so (c .before .before)) (c .before .if3 .left) (c .if4 .taken)
+returns-4 c = claim-4 _ _ _ (c .before .before .before .before .if1 .left) (is-so (c .before .before)) (c .before .if3 .left) (c .if4 .taken)
 
 after-closed-requires : tie.Need-after-closed-requires
 after-closed-requires c κs = (bounds _ _ (so (c .before .before)), (c .before .before .before .before .before .pre, (c .before .before .before .before .if1 .left, so (c .before .before) .one-bit)))
