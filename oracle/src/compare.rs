@@ -52,6 +52,8 @@ impl Table {
         rows.iter().flat_map(|row| &row.1).for_each(|(told, n)| *all.entry(*told).or_insert(0) += n);
         println!("| all | {} |", cells(&all).join(" | "));
         println!("\n{} calls compared", self.compared);
+        let turned = all.get(&Told::ClosedAndLong).unwrap_or(&0);
+        println!("{turned} claims over the payload limit on a closed publication: the port 5, the Rust 4 (R-3)");
     }
 }
 
@@ -66,6 +68,7 @@ fn cells(tolds: &BTreeMap<Told, u64>) -> [String; 5] {
             Told::Refused(number) => texts[2].push(format!("{number}: {n}")),
             Told::Empty => texts[2].push(format!("empty: {n}")),
             Told::Overflowed => texts[3].push(format!("overflow: {n}")),
+            Told::ClosedAndLong => texts[3].push(format!("R-3: {n}")),
             Told::ByHand => texts[3].push(format!("by hand: {n}")),
         }
     }

@@ -1,5 +1,6 @@
-//! The domain of the differential runs, judged from document 01's text alone: whether a call on a state is inside it, and else the
-//! number that 01 gives. Rows 4 to 10, 13, 15 and 16 are inside, so of them only their place in the order matters here.
+//! The domain of the differential runs, judged from the papers' text alone, document 01 as document 02 amends it: whether a call on a
+//! state is inside it, and else the number that they give. Rows 4 to 10, 13, 15 and 16 are inside, so of them only their place in the
+//! order matters here.
 //! `assemblies.rs` has the assembler's rows, `overflows.rs` the sums that overflow; `world.rs` uses the three.
 
 use crate::assemblies;
@@ -27,9 +28,11 @@ pub enum Verdict {
     Overflows,
     /// Stopped by an unsound frame at this index of the log, which is not the first frame met.
     Stopped(usize),
+    /// A claim over the payload limit on a closed publication: by R-3 of document 02 it refuses 5, and in the Rust 4.
+    ClosedAndLong,
 }
 
-use Verdict::{Empty, Inside, Refused, Stopped};
+use Verdict::{ClosedAndLong, Empty, Inside, Refused, Stopped};
 
 const MOST: i64 = 2_147_483_647;
 
@@ -222,7 +225,7 @@ pub fn need(length: i64, payload_limit: i64) -> i64 {
     length / payload_limit * (payload_limit + 32) + if rest > 0 { align(rest + 32) } else { 0 }
 }
 
-/// Offers and claims after rows 1, 2, 4 and 5: only 11, and 12 after a trip, are outside.
+/// Offers and claims after rows 1, 2, 5 and 4: only 11, and 12 after a trip, are outside.
 fn publish(s: &State, length: i64, is_offer: bool) -> Verdict {
     let r = s.record;
     let (id, offset) = s.tail(s.active());
@@ -299,9 +302,12 @@ fn writing(call: &Call, s: &State) -> Step {
             step.unwrap_or_else(|| publish(s, length, true))
         }
         Call::TryClaim { length } => {
-            let is_refused = *length as i64 > s.record.mtu_length as i64 - 32 || s.record.is_closed;
-            let step = refuse_if(*length < 0, 1).or_else(|| broken(s)).or_else(|| is_refused.then_some(Inside));
-            step.unwrap_or_else(|| publish(s, *length as i64, false))
+            let is_long = *length as i64 > s.record.mtu_length as i64 - 32;
+            refuse_if(*length < 0, 1).or_else(|| broken(s)).unwrap_or_else(|| match (s.record.is_closed, is_long) {
+                (true, true) => ClosedAndLong,
+                (true, false) | (false, true) => Inside,
+                (false, false) => publish(s, *length as i64, false),
+            })
         }
         Call::WriteBody { claim, .. } | Call::Commit { claim } | Call::Abort { claim } => open_claim(s, claim),
         Call::AppendUnfragmented { partition, message, .. } => append(s, *partition, message.len() as i64, None),

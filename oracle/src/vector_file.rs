@@ -16,7 +16,7 @@ const APART: usize = 6;
 #[derive(Clone, Copy)]
 pub enum Source {
     Rust = 0,
-    Document01 = 1,
+    Papers = 1,
 }
 
 /// Calls and their names in the report; a kind's number is its place, from 1 on. crates/vectors/src/kinds.rt has the same order.

@@ -34,6 +34,8 @@ pub enum Told {
     Empty,
     /// Left out: a sum of the Rust overflowed, or a number does not fit its i32 or i64.
     Overflowed,
+    /// Left out, by R-3 of document 02: the port refused 5 where the Rust refused 4.
+    ClosedAndLong,
     ByHand,
 }
 
@@ -100,6 +102,7 @@ impl World {
             Verdict::Refused(number) => self.refused(call, &answer, number)?,
             Verdict::Empty => self.empty(call, &answer)?,
             Verdict::Overflows => self.overflows(call)?,
+            Verdict::ClosedAndLong => self.closed_and_long(call, &answer)?,
         };
         self.assembled(call, fragment)?;
         self.same_state(tails, call).map_err(|what| format!("{what}; port answered {answer:?}"))?;
@@ -122,6 +125,15 @@ impl World {
         }
         self.set_original();
         Ok(Told::Overflowed)
+    }
+
+    /// Left out of equality; both run all the same, and each has to refuse with its own number. Neither changes anything.
+    fn closed_and_long(&mut self, call: &Call, answer: &Answer) -> Result<Told, String> {
+        same(answer, &Answer::refusal(5), "R-3 of 02")?;
+        match self.original.call(call) {
+            Outcome::Answered(given) if given == Answer::refusal(4) => Ok(Told::ClosedAndLong),
+            _ => Err("a claim over the payload limit on a closed publication: the Rust does not refuse 4".to_string()),
+        }
     }
 
     /// The Rust is set again from the port.

@@ -10,7 +10,8 @@
 //   4 bytes "LBV1"; how many vectors, 4 bytes; 48 names of kinds, 24 bytes each: the length, then the name; then the vectors.
 // A vector:
 //   0 kind; 1 how many arguments; 2 how many results; 3 how many fields; 4 the payload's length, 2 bytes; 6 how many ranges, 2 bytes;
-//   8 whose answer it is, 0 the Rust's, 1 document 01's where the call lies outside the Rust's domain or has no counterpart there; 9 zero;
+//   8 whose answer it is, 0 the Rust's, 1 the papers' where the call lies outside the Rust's domain, has no counterpart there or is of the
+//     kind that R-3 of document 02 leaves out; 9 zero;
 //   10 the arguments, 8 bytes each; the results, 8 bytes each; the fields: place, 1 byte, and value, 8 bytes; the payload;
 //   the ranges: first index, 4 bytes, length, 2 bytes, and the bytes.
 mod decode;

@@ -1,7 +1,7 @@
 // The lines that the program writes: for each kind how many vectors agreed, or which was the first that did not.
 use crate::decode;
 
-// How many vectors of each kind agreed, and how many of them are document 01's; and so of all.
+// How many vectors of each kind agreed, and how many of them are the papers'; and so of all.
 pub struct Tally {
     pub all: [usize; 48],
     pub given: [usize; 48],
@@ -58,7 +58,7 @@ fn line(input: &[u8], kind: usize, all: usize, given: usize) {
     if given > 0 {
         io::write_all(1, b", ");
         io::print_decimal(1, given as u64);
-        io::write_all(1, b" of them document 01's");
+        io::write_all(1, b" of them the papers'");
     }
     io::write_all(1, b"\n");
 }
@@ -77,7 +77,7 @@ pub fn totals(tally: Tally) {
     io::print_decimal(1, tally.agreed as u64);
     io::write_all(1, b" agree, ");
     io::print_decimal(1, tally.documents as u64);
-    io::write_all(1, b" of them document 01's\n");
+    io::write_all(1, b" of them the papers'\n");
 }
 
 // What differs: 1 the answer, 2 the record, 3 the log.
