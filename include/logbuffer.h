@@ -329,7 +329,7 @@ struct logbuffer_offer_reply logbuffer_offer(struct logbuffer_record rec, uint8_
                                              size_t message_length, int64_t reserved_value);
 
 /* Claims a frame for a body of this length, up to the payload limit. Readers stop before it until it is committed or aborted. Refuses 1,
- * 2, 4, 5, 6, 7, 8, 9, 11, 12. */
+ * 2, 4, 5, 6, 7, 8, 9, 11, 12. On a closed publication a length over the payload limit refuses 5, not 4. */
 struct logbuffer_claim_reply logbuffer_try_claim(struct logbuffer_record rec, uint8_t *log, size_t log_length, int32_t length);
 
 /* Where the body of an open claim lies in the log, to be written by the caller; and the number alone. Each refuses 1, 2, 14. */

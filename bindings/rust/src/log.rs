@@ -237,7 +237,8 @@ impl Log {
     }
 
     /// Claims a frame for a body of this length, to be written in place. Refuses as [`offer`](Log::offer), and a length over the payload
-    /// limit (mtu - 32) with [`Error::ExceedsMaxPayloadLength`]. [`Claim`] says what becomes of it.
+    /// limit (mtu - 32) with [`Error::ExceedsMaxPayloadLength`], but on a closed publication with [`Error::PublicationClosed`]. [`Claim`]
+    /// says what becomes of it.
     ///
     /// ```
     /// let mut log = logbuffer::Log::builder().open()?;

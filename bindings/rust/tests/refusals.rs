@@ -81,7 +81,9 @@ fn exceeds_max_payload_length_4() {
     assert_eq!(log.try_claim(65).err(), Some(Error::ExceedsMaxPayloadLength));
     assert_eq!(log.try_claim(usize::MAX).err(), Some(Error::ExceedsMaxPayloadLength));
     log.close().unwrap();
-    assert_eq!(log.try_claim(65).err(), Some(Error::ExceedsMaxPayloadLength)); // comes before the close
+    // Closed comes before too long.
+    assert_eq!(log.try_claim(65).err(), Some(Error::PublicationClosed));
+    assert_eq!(log.try_claim(usize::MAX).err(), Some(Error::PublicationClosed));
     assert_eq!(log.position(), Err(Error::PublicationClosed));
 }
 
