@@ -125,6 +125,9 @@ enum { LOGBUFFER_CARD_MAX_LENGTH = 270 };
 /* Where a message lies. */
 enum { LOGBUFFER_NOTHING = 0, LOGBUFFER_IN_LOG = 1, LOGBUFFER_IN_BUFFER = 2 };
 
+/* What a frame's length says of its place: nothing is written; a claim, or an offer that broke off, is not finished; a finished frame. */
+enum { LOGBUFFER_FREE = 0, LOGBUFFER_WRITING = 1, LOGBUFFER_FINISHED = 2 };
+
 /* ---- replies */
 
 struct logbuffer_record_reply {
@@ -178,6 +181,14 @@ struct logbuffer_header_reply {
     struct logbuffer_header fields;
 };
 
+/* state is LOGBUFFER_FREE; LOGBUFFER_WRITING, where length is the size of the frame being written, 1 to 2147483648; or LOGBUFFER_FINISHED, where
+ * it is the frame's length. Both count the header's 32 bytes. */
+struct logbuffer_frame_length_reply {
+    int32_t code;
+    int32_t state;
+    size_t length;
+};
+
 /* The offset the read came to, and the fragments read. */
 struct logbuffer_read_reply {
     int32_t code;
@@ -190,10 +201,11 @@ struct logbuffer_scan_reply {
     size_t offset;
 };
 
-/* A gap: the term id given, offset and length; or none, with the offset that the walk came to. */
+/* A gap: whether it starts on a frame being written, the term id given, offset and length; or none, with the offset that the walk came to. */
 struct logbuffer_gap_reply {
     int32_t code;
     bool is_gap;
+    bool is_being_written;
     int32_t term_id;
     size_t offset;
     size_t length;
@@ -360,6 +372,13 @@ struct logbuffer_append_claim_reply logbuffer_append_claim(struct logbuffer_reco
 /* The header at an offset. Refuses 1, 2. */
 struct logbuffer_header_reply logbuffer_header_fields(struct logbuffer_record rec, const uint8_t *log, size_t log_length,
                                                       int32_t partition, int32_t offset);
+
+/* Whether the place at an offset is free, being written or finished, and how long the frame there is; sound or not. Where a reader stops, it
+ * tells an empty place from a claim that nobody has finished: the publisher's side can commit or abort that one, and readers go on. Of a
+ * position p the partition is p / term length % 3 and the offset p % term length; at or past the publisher's position a place may still
+ * hold a frame of an older term. Refuses 1, 2. */
+struct logbuffer_frame_length_reply logbuffer_frame_length(struct logbuffer_record rec, const uint8_t *log, size_t log_length,
+                                                           int32_t partition, int32_t offset);
 
 /* Hands out (offset, length) of each body as two numbers in entries, at most fragment_limit of them. Refuses 1, 2, 17. */
 struct logbuffer_read_reply logbuffer_read(struct logbuffer_record rec, const uint8_t *log, size_t log_length, int32_t partition,

@@ -87,6 +87,7 @@ pub struct ScanReply {
 pub struct GapReply {
     code: i32,
     is_gap: bool,
+    is_being_written: bool,
     term_id: i32,
     offset: usize,
     length: usize,
@@ -197,7 +198,7 @@ impl Log {
 
     pub fn scan_for_gap(&self, high_mark: i32) -> usize {
         let reply = unsafe { logbuffer_scan_for_gap(self.record, self.bytes.as_ptr(), self.bytes.len(), 0, 7, 0, high_mark) };
-        reply.offset + reply.length + reply.code as usize + reply.is_gap as usize + reply.term_id as usize
+        reply.offset + reply.length + reply.code as usize + reply.is_gap as usize + reply.is_being_written as usize + reply.term_id as usize
     }
 
     pub fn scan_for_availability(&self, most: i32) -> i64 {

@@ -131,6 +131,10 @@ static void frames(struct logbuffer_record rec) {
     struct logbuffer_header f = h.fields;
     SAY("header_fields", "code length version flags type offset session stream term_id reserved position", h.code, f.frame_length,
         f.version, f.flags, f.frame_type, f.term_offset, f.session_id, f.stream_id, f.term_id, f.reserved_value, f.position);
+    struct logbuffer_frame_length_reply l = logbuffer_frame_length(rec, second_log, sizeof second_log, 2, 96);
+    SAY("frame_length", "code state length", l.code, l.state, l.length);
+    l = logbuffer_frame_length(rec, second_log, sizeof second_log, 2, 192);
+    SAY("  of an open claim", "code state length", l.code, l.state, l.length);
     struct logbuffer_read_reply r = logbuffer_read(rec, second_log, sizeof second_log, 2, 0, 3, entries, 8);
     SAY("read", "code offset fragments", r.code, r.offset, r.fragments);
     SAY("  entries", "offset length offset length", entries[0], entries[1], entries[2], entries[3]);
@@ -143,7 +147,8 @@ static void frames(struct logbuffer_record rec) {
     struct logbuffer_scan_reply s = logbuffer_scan(rec, second_log, sizeof second_log, 2, 96, 4000);
     SAY("scan", "code offset", s.code, s.offset);
     struct logbuffer_gap_reply g = logbuffer_scan_for_gap(rec, second_log, sizeof second_log, 2, 19, 96, 4096);
-    SAY("scan_for_gap", "code gap term_id offset length", g.code, g.is_gap, g.term_id, g.offset, g.length);
+    SAY("scan_for_gap", "code gap being_written term_id offset length", g.code, g.is_gap, g.is_being_written, g.term_id, g.offset,
+        g.length);
     struct logbuffer_availability_reply a = logbuffer_scan_for_availability(rec, second_log, sizeof second_log, 2, 96, 128);
     SAY("scan_for_availability", "code outcome", a.code, a.outcome);
 }

@@ -1,4 +1,4 @@
-/* A log in memory, used from C: opened, written by offers and claims, refused once, and replayed. Build and run it with run.sh; read
+/* A log in memory, used from C: opened, written by offers and claims, refused once, and replayed, also past a claim that nobody finishes. Build and run it with run.sh; read
  * include/logbuffer.h next. */
 #include <inttypes.h>
 #include <stdio.h>
@@ -37,6 +37,17 @@ static struct logbuffer_record claim(struct logbuffer_record rec, const char *ca
     return c.next;
 }
 
+/* Tells an empty place from a frame that is still being written, where a reader stopped. */
+static void stopped(struct logbuffer_record rec, int64_t position) {
+    struct logbuffer_frame_length_reply f = logbuffer_frame_length(rec, log_bytes, sizeof log_bytes, (int32_t)(position / TERM % 3),
+                                                                   (int32_t)(position % TERM));
+    if (f.state == LOGBUFFER_WRITING) {
+        printf("  a frame of %zu bytes is being written there\n", f.length);
+    } else {
+        printf("  %s there\n", f.state == LOGBUFFER_FREE ? "nothing is written" : "a finished frame stands");
+    }
+}
+
 static void replay(struct logbuffer_record rec) {
     struct logbuffer_replay at = logbuffer_replay_new(rec.session_id);
     for (;;) {
@@ -44,6 +55,7 @@ static void replay(struct logbuffer_record rec) {
             logbuffer_replay_next(at, rec, log_bytes, sizeof log_bytes, buffer, sizeof buffer);
         if (n.code != 0 || n.place == LOGBUFFER_NOTHING) {
             printf("replay ends: code %" PRId32 ", position %" PRId64 "\n", n.code, n.next.image.position);
+            stopped(rec, n.next.image.position);
             return;
         }
         const uint8_t *bytes = n.place == LOGBUFFER_IN_LOG ? log_bytes : buffer;
@@ -65,6 +77,11 @@ int main(void) {
     uint8_t long_message[200];
     memset(long_message, 'x', sizeof long_message);
     rec = offer(rec, "offer of 200 bytes, in fragments", long_message, sizeof long_message);
+    struct logbuffer_claim_reply left = logbuffer_try_claim(rec, log_bytes, sizeof log_bytes, 5);
+    told("claim of 5 bytes, left open", left.code, left.position);
+    rec = offer(left.next, "offer behind it", (const uint8_t *)"pin", 3);
+    replay(rec);
+    printf("abort: %" PRId32 "\n", logbuffer_abort(rec, log_bytes, sizeof log_bytes, left.claim));
     rec = logbuffer_close(rec).next;
     rec = offer(rec, "offer after close", (const uint8_t *)"late", 4);
     replay(rec);

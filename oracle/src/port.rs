@@ -38,7 +38,8 @@ mod c {
     reply!(HeaderReply { code: i32, fields: Header });
     reply!(ReadReply { code: i32, offset: usize, fragments: usize });
     reply!(ScanReply { code: i32, offset: usize });
-    reply!(GapReply { code: i32, is_gap: bool, term_id: i32, offset: usize, length: usize });
+    reply!(FrameLengthReply { code: i32, state: i32, length: usize });
+    reply!(GapReply { code: i32, is_gap: bool, is_being_written: bool, term_id: i32, offset: usize, length: usize });
     reply!(AvailabilityReply { code: i32, outcome: i64 });
     reply!(PollReply { next: Image, code: i32, fragments: usize, entries: usize });
     reply!(PeekReply { next: Image, code: i32, position: i64, entries: usize });
@@ -81,6 +82,7 @@ mod c {
         ) -> AppendReply;
         pub fn logbuffer_append_claim(rec: Record, log: Out, n: usize, partition: i32, length: i32, term_id: i32) -> AppendClaimReply;
         pub fn logbuffer_header_fields(rec: Record, log: In, n: usize, partition: i32, offset: i32) -> HeaderReply;
+        pub fn logbuffer_frame_length(rec: Record, log: In, n: usize, partition: i32, offset: i32) -> FrameLengthReply;
         pub fn logbuffer_read(
             rec: Record, log: In, n: usize, partition: i32, offset: i32, limit: i32, entries: *mut i32, m: usize,
         ) -> ReadReply;
@@ -326,7 +328,10 @@ impl Port {
         let (record, (log, n)) = (self.record, self.log());
         Some(match call {
             Call::HeaderFields { partition, offset } => {
-                header_answer(unsafe { c::logbuffer_header_fields(record, log, n, *partition, *offset) })
+                let told = unsafe { c::logbuffer_frame_length(record, log, n, *partition, *offset) };
+                let header = unsafe { c::logbuffer_header_fields(record, log, n, *partition, *offset) };
+                let code = both(header.code, length_told(told, header.fields.frame_length));
+                Answer { code, ..header_answer(header) }
             }
             Call::Read { partition, offset, fragment_limit, entries } => self.with_entries(*entries, |lent, m| {
                 let reply =
@@ -343,6 +348,20 @@ impl Port {
         })
     }
 
+    /// A gap's number, and -2 where it does not say of its start what the length word there says: the Rust has no such answer.
+    fn gap_told(&self, partition: i32, r: &c::GapReply) -> i32 {
+        let sign = |at: usize| self.log.get()[at + 3] >= 0x80;
+        let is_right = match r.is_gap {
+            true => r.is_being_written == sign(partition as usize * self.record.term_length as usize + r.offset),
+            false => !r.is_being_written,
+        };
+        if is_right {
+            r.code
+        } else {
+            -2
+        }
+    }
+
     fn scans(&mut self, call: &Call) -> Option<Answer> {
         let (record, (log, n)) = (self.record, self.log());
         Some(match call {
@@ -352,7 +371,8 @@ impl Port {
             }
             Call::ScanForGap { partition, term_id, offset, high_mark } => {
                 let r = unsafe { c::logbuffer_scan_for_gap(record, log, n, *partition, *term_id, *offset, *high_mark) };
-                Answer { code: r.code, ..Answer::of(&[r.is_gap as i64, r.term_id as i64, r.offset as i64, r.length as i64]) }
+                let code = both(r.code, self.gap_told(*partition, &r));
+                Answer { code, ..Answer::of(&[r.is_gap as i64, r.term_id as i64, r.offset as i64, r.length as i64]) }
             }
             Call::ScanForAvailability { partition, offset, maximum } => {
                 let reply = unsafe { c::logbuffer_scan_for_availability(record, log, n, *partition, *offset, *maximum) };
@@ -528,6 +548,20 @@ fn claimed(values: &[i64], claim: Claim) -> Answer {
     let mut all = values.to_vec();
     all.extend([claim.partition, claim.offset, claim.length, claim.term_id].map(i64::from));
     Answer::of(&all)
+}
+
+/// The frame length reader's number, and -2 where it does not say what the length word says: the Rust has no such answer.
+fn length_told(reply: c::FrameLengthReply, word: i32) -> i32 {
+    let wanted = match (reply.code, word) {
+        (0, 1..) => (2, word as usize),
+        (0, ..=-1) => (1, word.unsigned_abs() as usize),
+        _ => (0, 0),
+    };
+    if (reply.state, reply.length) == wanted {
+        reply.code
+    } else {
+        -2
+    }
 }
 
 fn header_answer(reply: c::HeaderReply) -> Answer {

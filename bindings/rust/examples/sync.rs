@@ -1,7 +1,7 @@
 //! Two devices of an excavation sync into one log: the trench offers its finds, the tent writes its own in place. A reader follows and
 //! lets them go on, and a replay shows what came in. `cargo run --example sync`; what it prints stands in sync.txt.
 
-use logbuffer::{Assembler, Error, Log, OpenClaim, Poller};
+use logbuffer::{Assembler, Error, FrameLength, Log, OpenClaim, Poller};
 
 /// An offer, made again where the term was full.
 fn append(log: &mut Log, message: &[u8]) -> Result<i64, Error> {
@@ -46,6 +46,29 @@ fn follow(log: &mut Log, poller: &mut Poller, assembler: &mut Assembler) -> Resu
     Ok(messages)
 }
 
+/// Says whether a reader has come to the end or to a claim that nobody has finished.
+fn stopped(log: &Log, poller: &Poller) -> Result<(), Error> {
+    match poller.ahead(log)? {
+        FrameLength::Free => println!("reader: nothing more at {}", poller.position()),
+        FrameLength::Writing(size) => println!("reader: a frame of {size} bytes is being written at {}", poller.position()),
+        FrameLength::Finished(size) => println!("reader: a frame of {size} bytes to read at {}", poller.position()),
+    }
+    Ok(())
+}
+
+/// A device is carried off with its claim open. The reader tells the base, which aborts the claim, and goes on.
+fn rescue(log: &mut Log) -> Result<(), Error> {
+    let mut poller = log.poller(log.position()?);
+    let lost = claim_find(log, "a find that nobody enters")?;
+    append(log, b"behind the lost find")?;
+    poller.poll(log, 10, |_| ())?;
+    stopped(log, &poller)?;
+    log.abort(lost)?;
+    let messages = poller.poll(log, 10, |_| ())?;
+    println!("reader: {messages} more after the abort");
+    stopped(log, &poller)
+}
+
 fn sync(log: &mut Log) -> Result<(), Error> {
     let trench = request_block(log, "trench")?;
     let tent = request_block(log, "tent")?;
@@ -63,6 +86,7 @@ fn sync(log: &mut Log) -> Result<(), Error> {
 fn main() -> Result<(), Error> {
     let mut log = Log::builder().term_length(65_536).mtu_length(96).session_id(11).stream_id(22).open()?;
     sync(&mut log)?;
+    rescue(&mut log)?;
 
     let (mut poller, mut assembler) = (log.poller(0), Assembler::new(&log));
     let mut read = 0;

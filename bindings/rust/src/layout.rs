@@ -39,6 +39,7 @@ fn replies_have_the_sizes_of_c() {
     assert_eq!(size_of::<AppendReply>(), 96);
     assert_eq!(size_of::<AppendClaimReply>(), 112);
     assert_eq!(size_of::<HeaderReply>(), 48);
+    assert_eq!(size_of::<FrameLengthReply>(), 16);
     assert_eq!(size_of::<ReadReply>(), 24);
     assert_eq!(size_of::<ScanReply>(), 16);
     assert_eq!(size_of::<GapReply>(), 32);
@@ -61,7 +62,9 @@ fn fields_of_replies_have_the_offsets_of_c() {
     assert_eq!([offset_of!(ClaimReply, position), offset_of!(ClaimReply, claim)], [88, 96]);
     assert_eq!([offset_of!(AppendClaimReply, is_tripped), offset_of!(AppendClaimReply, offset)], [84, 88]);
     assert_eq!(offset_of!(AppendClaimReply, claim), 96);
-    assert_eq!([offset_of!(GapReply, is_gap), offset_of!(GapReply, term_id), offset_of!(GapReply, offset)], [4, 8, 16]);
+    assert_eq!([offset_of!(FrameLengthReply, state), offset_of!(FrameLengthReply, length)], [4, 8]);
+    assert_eq!([offset_of!(GapReply, is_gap), offset_of!(GapReply, is_being_written)], [4, 5]);
+    assert_eq!([offset_of!(GapReply, term_id), offset_of!(GapReply, offset)], [8, 16]);
     assert_eq!([offset_of!(BlockReply, offset), offset_of!(BlockReply, session_id)], [24, 40]);
     assert_eq!([offset_of!(NextReply, code), offset_of!(NextReply, place), offset_of!(NextReply, start)], [216, 220, 224]);
     assert_eq!([offset_of!(CardReadReply, card), offset_of!(CardReadReply, note_start)], [4, 24]);

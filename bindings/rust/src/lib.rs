@@ -56,5 +56,5 @@ pub use error::Error;
 pub use log::Log;
 pub use poller::{Action, Block, Fragment, Fragments, Poller};
 pub use replay::{Count, Replay};
-pub use scan::{Availability, GapScan};
+pub use scan::{Availability, FrameLength, GapScan};
 pub use sys::{Header, Record};

@@ -4,7 +4,7 @@
 //! So every call here is bounded by the publisher's position: what lies past it is of an older term, or nothing.
 
 use crate::sys::{self, Header, Image};
-use crate::{Error, Log};
+use crate::{Error, FrameLength, Log};
 
 /// A frame's body that a reader came by, and its header. A message longer than the payload limit comes in several:
 /// [`Assembler`](crate::Assembler) puts them together.
@@ -298,6 +298,36 @@ impl Poller {
         Error::check(reply.code)?;
         self.image = reply.next;
         Ok(())
+    }
+
+    /// What stands where the reader is: nothing, a frame that is still being written, or a finished one, which the next poll reads. A reader
+    /// that comes no further can so tell the end of the log from a claim that nobody has finished; that one is the publisher's to commit
+    /// or abort. At and past the publisher's position there is nothing. Refuses a position that is out of range, as a poll does.
+    ///
+    /// ```
+    /// use logbuffer::{FrameLength, Log};
+    ///
+    /// let mut log = Log::builder().open()?;
+    /// let open = log.try_claim(10)?.into_open();
+    /// log.offer(b"behind it")?;
+    /// let mut poller = log.poller(0);
+    /// assert_eq!(poller.poll(&log, 10, |_| ())?, 0);
+    /// assert_eq!(poller.ahead(&log)?, FrameLength::Writing(42));
+    /// log.abort(open)?;
+    /// assert_eq!(poller.poll(&log, 10, |_| ())?, 1);
+    /// assert_eq!(poller.ahead(&log)?, FrameLength::Free);
+    /// # Ok::<(), logbuffer::Error>(())
+    /// ```
+    pub fn ahead(&self, log: &Log) -> Result<FrameLength, Error> {
+        let position = self.image.position;
+        // A poll of nothing, for the refusals of its position.
+        let nothing = sys::image_bounded_poll(self.image, log.record, &log.bytes, &mut [], position, 0);
+        Error::check(nothing.code)?;
+        if position >= log.publisher_position() {
+            return Ok(FrameLength::Free);
+        }
+        let offset = position % i64::from(log.record.term_length);
+        log.frame_length(log.partition_of(position), offset as i32)
     }
 
     /// Whether the reader is closed.

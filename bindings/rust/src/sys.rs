@@ -107,6 +107,10 @@ pub struct Card {
 pub const IN_LOG: i32 = 1;
 pub const IN_BUFFER: i32 = 2;
 
+/// States of a frame length other than 0, free.
+pub const WRITING: i32 = 1;
+pub const FINISHED: i32 = 2;
+
 macro_rules! replies {
     ($($name:ident { $($field:ident: $kind:ty),* })*) => {
         $(
@@ -126,9 +130,10 @@ replies! {
     AppendReply { next: Record, code: i32, is_tripped: bool, offset: usize }
     AppendClaimReply { next: Record, code: i32, is_tripped: bool, offset: usize, claim: Claim }
     HeaderReply { code: i32, fields: Header }
+    FrameLengthReply { code: i32, state: i32, length: usize }
     ReadReply { code: i32, offset: usize, fragments: usize }
     ScanReply { code: i32, offset: usize }
-    GapReply { code: i32, is_gap: bool, term_id: i32, offset: usize, length: usize }
+    GapReply { code: i32, is_gap: bool, is_being_written: bool, term_id: i32, offset: usize, length: usize }
     AvailabilityReply { code: i32, outcome: i64 }
     PollReply { next: Image, code: i32, fragments: usize, entries: usize }
     PeekReply { next: Image, code: i32, position: i64, entries: usize }
@@ -207,6 +212,7 @@ mod face {
             rec: Record, log: Out, log_length: usize, partition: i32, length: i32, term_id: i32,
         ) -> AppendClaimReply;
         pub fn logbuffer_header_fields(rec: Record, log: In, log_length: usize, partition: i32, offset: i32) -> HeaderReply;
+        pub fn logbuffer_frame_length(rec: Record, log: In, log_length: usize, partition: i32, offset: i32) -> FrameLengthReply;
         pub fn logbuffer_read(
             rec: Record, log: In, log_length: usize, partition: i32, offset: i32, fragment_limit: i32, entries: Entries,
             entries_length: usize,
@@ -305,6 +311,11 @@ pub fn abort(rec: Record, log: &mut [u8], claim: Claim) -> i32 {
 pub fn header_fields(rec: Record, log: &[u8], partition: i32, offset: i32) -> HeaderReply {
     // SAFETY: pointers and lengths are those of the slices.
     unsafe { face::logbuffer_header_fields(rec, log.as_ptr(), log.len(), partition, offset) }
+}
+
+pub fn frame_length(rec: Record, log: &[u8], partition: i32, offset: i32) -> FrameLengthReply {
+    // SAFETY: pointers and lengths are those of the slices.
+    unsafe { face::logbuffer_frame_length(rec, log.as_ptr(), log.len(), partition, offset) }
 }
 
 pub fn view(rec: Record, log: &[u8], partition: i32, offset: i32, length: i32) -> SpanReply {

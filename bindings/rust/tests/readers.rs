@@ -3,7 +3,7 @@
 mod common;
 
 use common::{log, made, raw_tail, Random, TERM};
-use logbuffer::{Action, Assembler, Availability, Error, Log};
+use logbuffer::{Action, Assembler, Availability, Error, FrameLength, Log};
 
 /// An offer made again where the term was full.
 fn append(log: &mut Log, message: &[u8]) -> i64 {
@@ -29,6 +29,35 @@ fn a_reader_follows_the_log_round_its_terms() {
         assert_eq!(read, messages);
         assert_eq!(Ok(poller.position()), log.position());
     }
+}
+
+#[test]
+fn a_reader_tells_an_empty_place_from_an_open_claim() {
+    let mut log = log();
+    let mut poller = log.poller(0);
+    assert_eq!(poller.ahead(&log), Ok(FrameLength::Free));
+    log.offer(b"coin").unwrap();
+    let open = log.try_claim(10).unwrap().into_open();
+    log.offer(b"pin").unwrap();
+    assert_eq!(poller.ahead(&log), Ok(FrameLength::Finished(36)));
+    assert_eq!(poller.fragments(&log).count(), 1);
+    assert_eq!(poller.ahead(&log), Ok(FrameLength::Writing(42)));
+    log.abort(open).unwrap();
+    assert_eq!(poller.fragments(&log).count(), 1);
+    assert_eq!((poller.position(), poller.ahead(&log)), (192, Ok(FrameLength::Free)));
+    assert_eq!([-32, 8].map(|at| log.poller(at).ahead(&log)), [Err(Error::PositionOutOfRange); 2]);
+    assert_eq!([(3, 0), (0, 8), (0, TERM)].map(|(k, at)| log.frame_length(k, at)), [Err(Error::IllegalArgument); 3]);
+}
+
+#[test]
+fn nothing_is_ahead_where_an_older_term_left_frames() {
+    let mut log = log();
+    let end = 3 * i64::from(TERM);
+    while log.position().unwrap() < end {
+        log.offer(b"").ok();
+    }
+    assert_eq!(log.frame_length(0, 0), Ok(FrameLength::Finished(32)));
+    assert_eq!(log.poller(end).ahead(&log), Ok(FrameLength::Free));
 }
 
 #[test]

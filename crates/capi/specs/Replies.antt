@@ -4,7 +4,7 @@ use mathlib.Core.Bool.{Bool, true, false}
 use lib.Dec.{ltb}
 use lib.IntN.{ℤ, pos, negsuc}
 use lib.ListN.{getD, length}
-use Rattle.model.specs.Answers.{Told, outcomeTold, positionedTold, offeredTold, claimedTold, locatedTold, appendedTold, appendedClaimTold, headerTold, readTold, scannedTold, gapTold, availabilityTold, polledTold, peekedTold, blockTold, endTold, assembledTold, replayedTold}
+use Rattle.model.specs.Answers.{Told, outcomeTold, positionedTold, offeredTold, claimedTold, locatedTold, appendedTold, appendedClaimTold, headerTold, lengthReadTold, readTold, scannedTold, gapTold, availabilityTold, polledTold, peekedTold, blockTold, endTold, assembledTold, replayedTold}
 use Rattle.model.specs.Errors.{numberOf}
 use Rattle.model.specs.TermReader.{natural}
 use Rattle.model.specs.FragmentAssembler.{Sessions}
@@ -25,9 +25,11 @@ use Rattle.model.specs.declared.Located.{Located}
 use Rattle.model.specs.declared.Appended.{Appended}
 use Rattle.model.specs.declared.AppendedClaim.{AppendedClaim}
 use Rattle.model.specs.declared.HeaderRead.{HeaderRead}
+use Rattle.model.specs.declared.FrameLengthRead.{FrameLengthRead}
 use Rattle.model.specs.declared.TermRead.{TermRead}
 use Rattle.model.specs.declared.Scanned.{Scanned}
 use Rattle.model.specs.declared.GapScanned.{GapScanned}
+use Rattle.model.specs.declared.GapScanned.the-variants.{Gap, NoGap, Refused as GapRefused}
 use Rattle.model.specs.declared.AvailabilityScanned.{AvailabilityScanned}
 use Rattle.model.specs.declared.Polled.{Polled}
 use Rattle.model.specs.declared.Peeked.{Peeked}
@@ -54,6 +56,7 @@ use Rattle.capi.specs.declared.replies.SpanReply.{SpanReply}
 use Rattle.capi.specs.declared.replies.AppendReply.{AppendReply}
 use Rattle.capi.specs.declared.replies.AppendClaimReply.{AppendClaimReply}
 use Rattle.capi.specs.declared.replies.HeaderReply.{HeaderReply}
+use Rattle.capi.specs.declared.replies.FrameLengthReply.{FrameLengthReply}
 use Rattle.capi.specs.declared.replies.ReadReply.{ReadReply}
 use Rattle.capi.specs.declared.replies.ScanReply.{ScanReply}
 use Rattle.capi.specs.declared.replies.GapReply.{GapReply}
@@ -151,6 +154,10 @@ fieldsAt t =
 abbrev pub headerReply : HeaderRead → HeaderReply
 headerReply a = record { code = headerTold a .number; fields = fieldsAt (headerTold a) }
 
+-- 0, 1 or 2: free, being written, finished
+abbrev pub frameLengthReply : FrameLengthRead → FrameLengthReply
+frameLengthReply a = record { code = lengthReadTold a .number; state = value 0 (lengthReadTold a); length = size 1 (lengthReadTold a) }
+
 abbrev pub readReply : TermRead → ReadReply
 readReply a = record { code = readTold a .number; offset = size 0 (readTold a); fragments = size 1 (readTold a) }
 
@@ -158,11 +165,17 @@ abbrev pub scanReply : Scanned → ScanReply
 scanReply a = record { code = scannedTold a .number; offset = size 0 (scannedTold a) }
 
 -- a gap has values of its own behind the offset that the walk came to
+abbrev pub startsWritten : GapScanned → Bool
+startsWritten (Gap id offset n written) = written
+startsWritten (NoGap n) = false
+startsWritten (GapRefused e) = false
+
 abbrev pub gapReply : GapScanned → GapReply
 gapReply a =
     record {
       code = gapTold a .number;
       «is_gap» = ltb 1 (length (gapTold a .values));
+      «is_being_written» = startsWritten a;
       «term_id» = value 1 (gapTold a);
       offset = size 0 (gapTold a);
       length = size 3 (gapTold a);

@@ -1,9 +1,9 @@
-// Header fields, reads, scans, the image's calls, the assembler and the replay under their C names.
+// Header fields, frame lengths, reads, scans, the image's calls, the assembler and the replay under their C names.
 ghost use mathlib.Core.Path.{_≡_};
 ghost use mathlib.Core.List.{[]};
 ghost use lib.IntN.{pos};
 ghost use Rattle.model.specs.Parts.{locatedNumber};
-ghost use Rattle.model.specs.TermReader.{headerCall, readOf, readEntries, viewOf};
+ghost use Rattle.model.specs.TermReader.{headerCall, lengthCall, readOf, readEntries, viewOf};
 ghost use Rattle.model.specs.TermScan.{scanOf, gapOf, availabilityOf};
 ghost use Rattle.model.specs.Image.{newImage, pollOf, boundedPollOf, controlledPollOf, peekOf, peekSlots, blockPollOf, setPositionOf, endOfStreamOf, closeImageOf};
 ghost use Rattle.model.specs.FragmentAssembler.{fresh, assembleOf};
@@ -11,13 +11,14 @@ ghost use Rattle.model.specs.Replay.{nextOf};
 ghost use Rattle.logbuffer.specs.Assembler.{sessionsOf};
 ghost use Rattle.image.specs.Images.{stateOf, imageOf, pollReplyOf, peekReplyOf, blockReplyOf, imageReplyOf};
 ghost use Rattle.replay.specs.Replays.{stateOf as stateOfReplay, countOf};
-ghost use Rattle.capi.specs.Replies.{spanReply, headerReply, readReply, scanReply, gapReply, availabilityReply, pollReply, peekReply, blockReply, imageReply, endOfStreamReply, assemblerOf, assemblyBy, replayOf, nextBy, countReply};
+ghost use Rattle.capi.specs.Replies.{spanReply, headerReply, frameLengthReply, readReply, scanReply, gapReply, availabilityReply, pollReply, peekReply, blockReply, imageReply, endOfStreamReply, assemblerOf, assemblyBy, replayOf, nextBy, countReply};
 use crate::replies;
 use crate::replies::AssemblyReply;
 use crate::replies::AvailabilityReply;
 use crate::replies::BlockReply;
 use crate::replies::CountReply;
 use crate::replies::EndOfStreamReply;
+use crate::replies::FrameLengthReply;
 use crate::replies::GapReply;
 use crate::replies::HeaderReply;
 use crate::replies::ImageReply;
@@ -29,6 +30,7 @@ use crate::replies::ScanReply;
 use crate::replies::SpanReply;
 use image::Image;
 use logbuffer::fragment_assembler::FragmentAssembler;
+use logbuffer::frame_descriptor;
 use logbuffer::header;
 use logbuffer::term_reader;
 use logbuffer::term_scan;
@@ -45,6 +47,18 @@ pub extern "C" fn logbuffer_header_fields(
     ensures { λ r. ⌜ r ≡ headerReply (headerCall rec (now (log .entry)) partition offset) ⌝ }
 {
     replies::header_read(header::fields(rec, log, partition, offset))
+}
+
+#[no_mangle]
+pub extern "C" fn logbuffer_frame_length(
+    rec: LogRecord,
+    log: &[u8],
+    partition: i32,
+    offset: i32,
+) -> FrameLengthReply
+    ensures { λ r. ⌜ r ≡ frameLengthReply (lengthCall rec (now (log .entry)) partition offset) ⌝ }
+{
+    replies::frame_length_read(frame_descriptor::frame_length_at(rec, log, partition, offset))
 }
 
 #[no_mangle]

@@ -4,7 +4,8 @@ ghost use mathlib.Core.Path.{_≡_};
 ghost use Prim.Native.Nat.{_-_};
 ghost use mathlib.Core.List.{[]};
 ghost use Rattle.model.specs.Answers.{answered};
-ghost use Rattle.capi.specs.Replies.{outcomeNumber, positionReply, claimAt, offerBy, claimBy, spanReply, appendBy, appendClaimBy, fieldsAt, headerReply, readReply, scanReply, gapReply, availabilityReply, pollBy, peekBy, blockBy, endOfStreamReply, assemblyBy, nextBy, countReply};
+ghost use Rattle.model.specs.declared.FrameLengthRead.the-variants.{Length};
+ghost use Rattle.capi.specs.Replies.{outcomeNumber, positionReply, claimAt, offerBy, claimBy, spanReply, appendBy, appendClaimBy, fieldsAt, headerReply, frameLengthReply, readReply, scanReply, gapReply, availabilityReply, pollBy, peekBy, blockBy, endOfStreamReply, assemblyBy, nextBy, countReply};
 use image::Image;
 use logbuffer::errors;
 use logbuffer::fragment_assembler::FragmentAssembler;
@@ -16,6 +17,8 @@ use model::BlockPolled;
 use model::Claim;
 use model::Claimed;
 use model::EndOfStream;
+use model::FrameLength;
+use model::FrameLengthRead;
 use model::GapScanned;
 use model::HeaderFields;
 use model::HeaderRead;
@@ -89,6 +92,14 @@ pub struct HeaderReply {
     pub fields: HeaderFields,
 }
 
+// The state is 0 for a free place, 1 for a frame being written, 2 for a finished one.
+#[repr(C)]
+pub struct FrameLengthReply {
+    pub code: i32,
+    pub state: i32,
+    pub length: usize,
+}
+
 #[repr(C)]
 pub struct ReadReply {
     pub code: i32,
@@ -106,6 +117,7 @@ pub struct ScanReply {
 pub struct GapReply {
     pub code: i32,
     pub is_gap: bool,
+    pub is_being_written: bool,
     pub term_id: i32,
     pub offset: usize,
     pub length: usize,
@@ -367,6 +379,41 @@ pub fn header_read(answer: HeaderRead) -> HeaderReply
     }
 }
 
+fn frame_length(length: FrameLength) -> FrameLengthReply
+    ensures { λ r. ⌜ r ≡ frameLengthReply (Length length) ⌝ }
+{
+    match length {
+        FrameLength::Free => FrameLengthReply {
+            code: 0,
+            state: 0,
+            length: 0,
+        },
+        FrameLength::Writing(size) => FrameLengthReply {
+            code: 0,
+            state: 1,
+            length: size,
+        },
+        FrameLength::Finished(size) => FrameLengthReply {
+            code: 0,
+            state: 2,
+            length: size,
+        },
+    }
+}
+
+pub fn frame_length_read(answer: FrameLengthRead) -> FrameLengthReply
+    ensures { λ r. ⌜ r ≡ frameLengthReply answer ⌝ }
+{
+    match answer {
+        FrameLengthRead::Length(length) => frame_length(length),
+        FrameLengthRead::Refused(e) => FrameLengthReply {
+            code: errors::number(e),
+            state: 0,
+            length: 0,
+        },
+    }
+}
+
 pub fn term_read(answer: TermRead) -> ReadReply
     ensures { λ r. ⌜ r ≡ readReply answer ⌝ }
 {
@@ -404,9 +451,10 @@ pub fn gap_scanned(answer: GapScanned) -> GapReply
     ensures { λ r. ⌜ r ≡ gapReply answer ⌝ }
 {
     match answer {
-        GapScanned::Gap(term_id, offset, length) => GapReply {
+        GapScanned::Gap(term_id, offset, length, written) => GapReply {
             code: 0,
             is_gap: true,
+            is_being_written: written,
             term_id: term_id,
             offset: offset,
             length: length,
@@ -414,6 +462,7 @@ pub fn gap_scanned(answer: GapScanned) -> GapReply
         GapScanned::NoGap(offset) => GapReply {
             code: 0,
             is_gap: false,
+            is_being_written: false,
             term_id: 0,
             offset: offset,
             length: 0,
@@ -421,6 +470,7 @@ pub fn gap_scanned(answer: GapScanned) -> GapReply
         GapScanned::Refused(e) => GapReply {
             code: errors::number(e),
             is_gap: false,
+            is_being_written: false,
             term_id: 0,
             offset: 0,
             length: 0,

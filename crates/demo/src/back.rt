@@ -101,7 +101,7 @@ pub fn read_on(start: Replay, rec: LogRecord, log: &[u8], buffer: &mut [u8]) -> 
 fn reason(frame_length: i32) {
     match frame_descriptor::frame_length(frame_length) {
         FrameLength::Free => tell::line(b": nothing is written from there on"),
-        FrameLength::Writing => tell::line(b": the claim there is still open"),
+        FrameLength::Writing(_) => tell::line(b": the claim there is still open"),
         FrameLength::Finished(_) => tell::line(b": the frame there is finished"),
     }
 }

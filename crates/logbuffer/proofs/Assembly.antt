@@ -22,12 +22,13 @@ use Rattle.model.specs.declared.FrameLength.the-variants.{Free, Writing, Finish
 use Rattle.model.specs.declared.Joining.{Joining}
 use Rattle.model.specs.declared.Joining.the-variants.{Through, Ignore, Full, TooLong, Join, Complete}
 use Rattle.model.specs.Bytes.{u32, i32}
-use Rattle.model.specs.FrameDescriptor.{align, frameLength, isFinished, unsoundLength, flagsAt, begins, ends}
+use Rattle.model.specs.FrameDescriptor.{align, frameLength, isFinished, lengthAt, unsoundLength, flagsAt, begins, ends}
 use Rattle.model.specs.LogBufferDescriptor.{sound, goodPartition, goodOffset, placeOf as placeRead, firstRows, row17}
 use Rattle.model.specs.FragmentAssembler.{Sessions, Assembly, entered, placeOf, joining, sessionsBy, bufferBy, assembledBy, joinedAt, goodFrame, goodAssembly, assembleVerdict, assembleBy, assembleOf}
 use types.Run.{OneOf}
 use denote.Enum.Declared.{tagOf}
 use Rattle.model.proofs.FrameLength.{the-type}
+use Rattle.logbuffer.proofs.Lengths.{unfinished}
 use Rattle.model.proofs.Choice.{cond-true, cond-case}
 use Rattle.model.proofs.ReaderLaws.{and-not, and-then}
 use Rattle.model.proofs.Both.{and-true, or-false, test}
@@ -37,6 +38,7 @@ use Rattle.logbuffer.proofs.Sessions.{Begun, More}
 
 -- a whole frame at an index of a log: its length word, and the bytes that it tells
 pub record Framed (log : List ℕ) (at : ℕ) : Type 0 where
+  pub finished : isFinished (lengthAt (drop at log)) ≡ true
   pub header : 32 ≤ u32 (drop at log)
   pub whole : at + u32 (drop at log) ≤ length log
 
@@ -56,12 +58,7 @@ module _ (log : List ℕ) (at : ℕ) (x : FrameLength) (e : x ≡ frameLength (u
   frame-finished n q = sym (ap isFinished q) ∙ judged
 
   pub frame-unfinished : OneOf (0 ∷ 1 ∷ []) (tagOf the-type x) → false ≡ goodFrame log at
-  frame-unfinished o = sym (other x o) ∙ judged
-    where
-      other : (y : FrameLength) → OneOf (0 ∷ 1 ∷ []) (tagOf the-type y) → isFinished y ≡ false
-      other Free k = refl
-      other Writing k = refl
-      other (Finished n) k = absurd (⊎-elim (λ i. omega arith) (λ i. omega arith) k)
+  frame-unfinished o = sym (unfinished x o) ∙ judged
 
 module _ (v : Reading) (log : List ℕ) (lent k at : ℕ) where
   pub assembly-lent : 2147483647 < lent → false ≡ goodAssembly v log lent k at
@@ -74,10 +71,11 @@ module _ (v : Reading) (log : List ℕ) (lent k at : ℕ) where
   assembly-frame h g = and-then (goodPartition k) (goodOffset at v) (goodFrame log (k * v .term + at)) g ∙ ap (λ (b : Bool). b && (goodPartition k && (goodOffset at v && goodFrame log (k * v .term + at)))) (sym (le-leb lent 2147483647 h))
 
   -- what row 1 says of the place
-  pub assembly-at : goodAssembly v log lent k at ≡ true → ((goodPartition k && goodOffset at v) ≡ true) × (k * v .term + at + 4 ≤ length log)
+  pub assembly-at : goodAssembly v log lent k at ≡ true
+      → ((goodPartition k && goodOffset at v) ≡ true) × (isFinished (lengthAt (drop (k * v .term + at) log)) ≡ true)
   assembly-at g =
       let p = and-and (goodPartition k) (goodOffset at v) (goodFrame log (k * v .term + at)) (and-true (leb lent 2147483647) _ g .1) in
-      (p .0, leb-true _ _ (and-true (leb (k * v .term + at + 4) (length log)) _ (p .1) .0))
+      (p .0, and-true (leb (k * v .term + at + 4) (length log)) _ (p .1) .1)
 
   -- a good place has an index of 64 bits, whatever the log
   pub place-near : (goodPartition k && goodOffset at v) ≡ true → k * v .term + at < 6442450944
@@ -112,7 +110,7 @@ module _ (v : Reading) (log : List ℕ) (lent k at : ℕ) where
       let q = or-false (ltb w 32) (ltb (v .term - at) (align w)) u in
       let l : 32 ≤ w = ltb-false w 32 (q .0) in
       let m : align w ≤ v .term - at = ltb-false (v .term - at) (align w) (q .1) in
-      record { header = l; whole = omega (arith, p .inside, p .below) }
+      record { finished = assembly-at g .1; header = l; whole = omega (arith, p .inside, p .below) }
 
   pub verdict-passed : assembleVerdict v log lent k at ≡ Pass → Framed log (k * v .term + at)
   unfolding assembleVerdict

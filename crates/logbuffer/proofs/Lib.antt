@@ -5,6 +5,7 @@ pub mod RawTails
 pub mod Exact
 pub mod Shifts
 pub mod Signs
+pub mod Lengths
 pub mod Behind
 pub mod Actions
 pub mod Copies

@@ -1,13 +1,13 @@
 // Fragments put together to messages again: up to 16 sessions over one lent buffer, cut into 16 equal parts. The bookkeeping is a value;
 // a call takes it and hands the next one back.
 ghost use mathlib.Core.Path.{_≡_};
-ghost use mathlib.Core.Bool.{cond, _||_};
+ghost use mathlib.Core.Bool.{true, cond, _||_};
 ghost use lib.Dec.{eqb, leb, ltb};
 ghost use Prim.Native.Nat.{_+_, _-_, _*_, _/_, _≤_, _<_};
 ghost use lib.ListN.{length, drop, getD};
 ghost use Rattle.model.specs.declared.Joining.the-variants.{Through, Ignore, Full, TooLong, Join, Complete};
 ghost use Rattle.model.specs.Bytes.{word, u32 as wordAt};
-ghost use Rattle.model.specs.FrameDescriptor.{unsoundLength};
+ghost use Rattle.model.specs.FrameDescriptor.{isFinished, lengthAt, unsoundLength};
 ghost use Rattle.model.specs.FragmentAssembler.{fresh, entered as enteredOf, placeOf, joining as joiningOf, goodFrame, goodAssembly, assembleVerdict, assembleOf, joinedAt};
 ghost use Rattle.logbuffer.specs.Assembler.{sessionsOf, heldAt, leaving};
 use crate::argument;
@@ -176,8 +176,7 @@ fn good_frame(log: &[u8], at: usize) -> bool
     if at > n - 4 {
         return false;
     }
-    let word = cast::to_i32(field::word4(log, at));
-    let FrameLength::Finished(_) = frame_descriptor::frame_length(word) else {
+    let FrameLength::Finished(_) = frame_descriptor::length_at(log, at) else {
         return false;
     };
     true
@@ -219,7 +218,7 @@ fn assemble_verdict(p: Place, log: &[u8], lent: usize) -> Verdict
     }
     let term = p.read.term;
     if unsound_length(
-        field::word4(log, p.partition * term + p.offset),
+        frame_descriptor::finished_length(log, p.partition * term + p.offset),
         term - p.offset,
     ) {
         return Verdict::Refuse(Error::UnsoundFrame);
@@ -246,11 +245,11 @@ fn join_frame(
     place: usize,
     at: usize,
 ) -> Joined
-    requires { ⌜ (at < 4294967296) × ((32 ≤ wordAt (drop place (now log))) × (place + wordAt (drop place (now log)) ≤ length (now log))) ⌝ }
+    requires { ⌜ (at < 4294967296) × ((isFinished (lengthAt (drop place (now log))) ≡ true) × ((32 ≤ wordAt (drop place (now log))) × (place + wordAt (drop place (now log)) ≤ length (now log)))) ⌝ }
     ensures { λ r. ⌜ (r .answer ≡ joinedAt (sessionsOf a) (now (buffer .entry)) (drop place (now (log .entry))) at .answer) × (heldAt (sessionsOf a) (r .place) (r .session) (r .held) ≡ joinedAt (sessionsOf a) (now (buffer .entry)) (drop place (now (log .entry))) at .next) ⌝ }
     ensures { λ _. ⌜ now (buffer .exit) ≡ joinedAt (sessionsOf a) (now (buffer .entry)) (drop place (now (log .entry))) at .buffer ⌝ }
 {
-    let n = field::word4(log, place) - HEADER_LENGTH;
+    let n = frame_descriptor::finished_length(log, place) - HEADER_LENGTH;
     let session = cast::to_i32(field::word4(log, place + SESSION_ID_FIELD_OFFSET));
     let flags = field::byte(log, place + FLAGS_FIELD_OFFSET);
     let part = buffer.len() / 16;

@@ -1,9 +1,14 @@
-// Frames as readers meet them: the length word by its sign, the frame at a place, the end of a message, the longest message.
+// Frames as readers meet them: the length word by its sign, which is asked for nowhere else, the frame at a place, the end of a message, the
+// longest message.
 ghost use mathlib.Core.Path.{_≡_};
+ghost use mathlib.Core.Bool.{true};
 ghost use Prim.Native.Nat.{_+_, _/_, _≤_, _<_, min};
 ghost use lib.ListN.{length, drop, getD};
 ghost use Rattle.model.specs.Bytes.{word, u16 as halfOf, u32 as wordOf};
-ghost use Rattle.model.specs.FrameDescriptor.{frameLength, frameAt, flagsAt, ends};
+ghost use lib.Dec.{eqb};
+ghost use Rattle.model.specs.FrameDescriptor.{frameLength, isFinished, isWriting, lengthAt, frameAt, flagsAt, ends};
+ghost use Rattle.model.specs.TermReader.{lengthCall};
+use crate::argument;
 use crate::cast;
 use crate::data_frame_header::FLAGS_FIELD_OFFSET;
 use crate::data_frame_header::HDR_TYPE_PAD;
@@ -12,6 +17,9 @@ use crate::data_frame_header::TYPE_FIELD_OFFSET;
 use crate::field;
 use model::Frame;
 use model::FrameLength;
+use model::FrameLengthRead;
+use model::LogRecord;
+use model::Verdict;
 
 pub const FRAME_ALIGNMENT: usize = 32;
 // What is added before a number is cut to a multiple of the alignment.
@@ -25,7 +33,7 @@ pub const UNFRAGMENTED: usize = 0xc0;
 
 pub const MAX_MESSAGE_LENGTH: usize = 16777216;
 
-// 0 is free, a negative length is being written, a positive one is finished.
+// 0 is free, a negative length is being written, a positive one is finished. The size of -2147483648 has no i32, so it is taken of the bits.
 pub fn frame_length(length: i32) -> FrameLength
     ensures { λ r. ⌜ r ≡ frameLength (word length) ⌝ }
 {
@@ -34,7 +42,7 @@ pub fn frame_length(length: i32) -> FrameLength
         return FrameLength::Free;
     }
     if length < 0 {
-        return FrameLength::Writing;
+        return FrameLength::Writing(4294967296 - bits);
     }
     FrameLength::Finished(bits)
 }
@@ -94,13 +102,67 @@ fn frame_type(log: &[u8], at: usize) -> usize
     byte_behind(log, at, 6) + 256 * byte_behind(log, at, 7)
 }
 
+// The length at any index, by its sign.
+pub(crate) fn length_at(log: &[u8], at: usize) -> FrameLength
+    ensures { λ r. ⌜ r ≡ lengthAt (drop at (now (log .entry))) ⌝ }
+{
+    frame_length(cast::to_i32(length_word(log, at)))
+}
+
+// Whether nothing stands at an index.
+pub(crate) fn is_free(log: &[u8], at: usize) -> bool
+    ensures { λ r. ⌜ r ≡ eqb (wordOf (drop at (now (log .entry)))) 0 ⌝ }
+{
+    match length_at(log, at) {
+        FrameLength::Free => true,
+        FrameLength::Writing(_) => false,
+        FrameLength::Finished(_) => false,
+    }
+}
+
+// Whether a frame is being written there.
+pub(crate) fn is_writing(log: &[u8], at: usize) -> bool
+    ensures { λ r. ⌜ r ≡ isWriting (lengthAt (drop at (now (log .entry)))) ⌝ }
+{
+    match length_at(log, at) {
+        FrameLength::Free => false,
+        FrameLength::Writing(_) => true,
+        FrameLength::Finished(_) => false,
+    }
+}
+
+// The length of a finished frame: there is no other answer then, and the 0 is never given.
+pub(crate) fn finished_length(log: &[u8], at: usize) -> usize
+    requires { ⌜ isFinished (lengthAt (drop at (now log))) ≡ true ⌝ }
+    ensures { λ r. ⌜ (r ≡ wordOf (drop at (now (log .entry)))) × (r < 2147483648) ⌝ }
+{
+    let FrameLength::Finished(n) = length_at(log, at) else {
+        return 0;
+    };
+    n
+}
+
+// The frame length reader: whether a place of the log is free, being written or finished. It tells an empty place from a claim that nobody
+// has finished, and does not judge whether the length is sound.
+pub fn frame_length_at(rec: LogRecord, log: &[u8], partition: i32, offset: i32) -> FrameLengthRead
+    ensures { λ r. ⌜ r ≡ lengthCall rec (now (log .entry)) partition offset ⌝ }
+{
+    let p = argument::place(rec, partition, offset);
+    match argument::first_rows(argument::good_place(p), p.read, log.len()) {
+        Verdict::Refuse(e) => FrameLengthRead::Refused(e),
+        Verdict::Pass => {
+            FrameLengthRead::Length(length_at(log, p.partition * p.read.term + p.offset))
+        }
+    }
+}
+
 // What stands at an index of a log, with so many bytes to the term's end. No index is refused.
 pub fn frame_at(log: &[u8], at: usize, room: usize) -> Frame
     ensures { λ r. ⌜ r ≡ frameAt (drop at (now (log .entry))) room ⌝ }
 {
-    match frame_length(cast::to_i32(length_word(log, at))) {
+    match length_at(log, at) {
         FrameLength::Free => Frame::Absent,
-        FrameLength::Writing => Frame::Absent,
+        FrameLength::Writing(_) => Frame::Absent,
         FrameLength::Finished(n) => {
             if n < HEADER_LENGTH {
                 return Frame::Unsound;

@@ -15,7 +15,6 @@ use crate::argument;
 use crate::bit_utils;
 use crate::cast;
 use crate::data_frame_header::HEADER_LENGTH;
-use crate::field;
 use crate::frame_descriptor;
 use crate::frame_descriptor::ALIGNMENT_MASK;
 use crate::frame_descriptor::FRAME_ALIGNMENT;
@@ -106,7 +105,7 @@ fn gap_length(log: &[u8], base: usize, term: usize, high: usize, at: usize) -> u
         if high <= at + gap {
             break;
         }
-        if field::word4(log, base + (at + gap)) != 0 {
+        if !frame_descriptor::is_free(log, base + (at + gap)) {
             break;
         }
         gap = gap + FRAME_ALIGNMENT;
@@ -155,7 +154,9 @@ fn gap_frames(
     if high <= offset {
         return GapScanned::NoGap(offset);
     }
-    GapScanned::Gap(term_id, offset, gap_length(log, base, term, high, offset))
+    let length = gap_length(log, base, term, high, offset);
+    let written = frame_descriptor::is_writing(log, base + offset);
+    GapScanned::Gap(term_id, offset, length, written)
 }
 
 // Row 1 of `scan_for_gap`.
@@ -172,7 +173,8 @@ fn good_gap(p: Place, mark: usize) -> bool
     argument::within_term(mark, p.read)
 }
 
-// The first gap from an offset on, before a high mark: a multiple of 32 up to the term length. The term id is handed back.
+// The first gap from an offset on, before a high mark: a multiple of 32 up to the term length. The term id is handed back, and it is said
+// whether the gap starts on a frame being written.
 pub fn scan_for_gap(
     rec: LogRecord,
     log: &[u8],

@@ -265,7 +265,7 @@ module _ (rest : List ℕ) (full : length rest ≡ 196480) where
 
 module _ (rest : List ℕ) (full : length rest ≡ 196476) where
   -- a data frame of 32 at 0, the next nonzero word at 128, high mark 160, from 0
-  gap : gapTold (gapOf (tailAt 0) (le4 32 ++ ((0 ∷ 0 ∷ 1 ∷ replicate 121 0) ++ (le4 1 ++ rest))) (pos 0) (pos 7) (pos 0) (pos 160)) ≡ is (pos 0) (pos 32 ∷ pos 7 ∷ pos 32 ∷ pos 96 ∷ [])
+  gap : gapTold (gapOf (tailAt 0) (le4 32 ++ ((0 ∷ 0 ∷ 1 ∷ replicate 121 0) ++ (le4 1 ++ rest))) (pos 0) (pos 7) (pos 0) (pos 160)) ≡ is (pos 0) (pos 32 ∷ pos 7 ∷ pos 32 ∷ pos 96 ∷ pos 0 ∷ [])
   unfolding gapOf gapJudge scanVerdict rebuild gapLength readingOf soundRecord sound rawOf ones onesIn le4 u16 u32 frameAt frameLength
   gap = simp full
 

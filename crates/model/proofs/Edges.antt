@@ -10,13 +10,13 @@ use lib.IntN.{ℤ, pos, negsuc}
 use lib.Count.{ones, onesIn, ones-cat}
 use Rattle.model.specs.declared.LogRecord.{LogRecord}
 use Rattle.model.specs.Bytes.{le4, u16, u32}
-use Rattle.model.specs.Answers.{outcomeTold, positionedTold, appendedTold, readTold, polledTold, blockTold, endTold}
+use Rattle.model.specs.Answers.{outcomeTold, frameLengthTold, lengthReadTold, gapTold, positionedTold, appendedTold, readTold, polledTold, blockTold, endTold}
 use Rattle.model.specs.FrameDescriptor.{frameAt, frameLength}
 use Rattle.model.specs.LogBufferDescriptor.{reading, readingOf, soundRecord, sound, changed, withTail, rawOf, termOffset}
 use Rattle.model.specs.TermAppender.{course, unfragmentedCourse, unfragmentedReply}
 use Rattle.model.specs.Publication.{noRecord, openRecord, windowCall}
-use Rattle.model.specs.TermReader.{walk, goodActions, readVerdict, readOf}
-use Rattle.model.specs.TermScan.{scanFrom}
+use Rattle.model.specs.TermReader.{walk, goodActions, readVerdict, readOf, headerVerdict, lengthCall}
+use Rattle.model.specs.TermScan.{scanFrom, scanVerdict, rebuild, gapLength, gapJudge, gapOf}
 use Rattle.model.specs.Image.{Image, newImage, readable, reachable, pollVerdict, controlledPollOf, blockPollOf, setPositionOf, endOfStreamOf, closeImageOf}
 use Rattle.model.specs.declared.Joining.the-variants.{Join, Complete}
 use Rattle.model.specs.FragmentAssembler.{Sessions, placeIn, joining}
@@ -164,6 +164,33 @@ end-joins : joining holding-8 (pos 5) 64 4 16 ≡ Complete 0 8
 unfolding joining placeIn
 end-joins = refl
 
+-- ---- a length word: free, being written with its size, finished with its length, sound or not
+
+length-0 : frameLengthTold (frameLength 0) ≡ is (pos 0) (pos 0 ∷ [])
+unfolding frameLength
+length-0 = refl
+
+-- the bits of -1, -5 and -2147483648
+writing-1 : frameLengthTold (frameLength 4294967295) ≡ is (pos 0) (pos 1 ∷ pos 1 ∷ [])
+unfolding frameLength
+writing-1 = refl
+
+writing-5 : frameLengthTold (frameLength 4294967291) ≡ is (pos 0) (pos 1 ∷ pos 5 ∷ [])
+unfolding frameLength
+writing-5 = refl
+
+writing-largest : frameLengthTold (frameLength 2147483648) ≡ is (pos 0) (pos 1 ∷ pos 2147483648 ∷ [])
+unfolding frameLength
+writing-largest = refl
+
+finished-5 : frameLengthTold (frameLength 5) ≡ is (pos 0) (pos 2 ∷ pos 5 ∷ [])
+unfolding frameLength
+finished-5 = refl
+
+finished-largest : frameLengthTold (frameLength 2147483647) ≡ is (pos 0) (pos 2 ∷ pos 2147483647 ∷ [])
+unfolding frameLength
+finished-largest = refl
+
 -- ---- positions
 
 -- an offset over the term length is cut to it, one below is not
@@ -288,3 +315,39 @@ module _ (rest : List ℕ) (full : length rest ≡ 196480) where
   block : blockTold (blockPollOf (tailAt 128) framed (newImage (pos 64) (pos 99)) (pos 64) .answer) ≡ is (pos 0) (pos 64 ∷ pos 64 ∷ pos 99 ∷ pos 9 ∷ [])
   unfolding blockPollOf pollVerdict readable frameAt frameLength scanFrom readingOf soundRecord sound rawOf ones onesIn le4 u16 u32
   block = simp full
+
+  -- the frame length reader: nothing at 0, the frame's length at 64; an offset between frames and a partition 3 are no places
+  length-none : lengthReadTold (lengthCall (tailAt 128) framed (pos 0) (pos 0)) ≡ is (pos 0) (pos 0 ∷ [])
+  unfolding lengthCall headerVerdict frameLength readingOf soundRecord sound rawOf ones onesIn le4 u32
+  length-none = simp full
+
+  length-42 : lengthReadTold (lengthCall (tailAt 128) framed (pos 0) (pos 64)) ≡ is (pos 0) (pos 2 ∷ pos 42 ∷ [])
+  unfolding lengthCall headerVerdict frameLength readingOf soundRecord sound rawOf ones onesIn le4 u32
+  length-42 = simp full
+
+  length-between : lengthReadTold (lengthCall (tailAt 128) framed (pos 0) (pos 72)) ≡ is (pos 1) []
+  unfolding lengthCall headerVerdict readingOf soundRecord rawOf ones onesIn
+  length-between = refl
+
+  length-no-partition : lengthReadTold (lengthCall (tailAt 128) framed (pos 3) (pos 64)) ≡ is (pos 1) []
+  unfolding lengthCall headerVerdict readingOf soundRecord rawOf ones onesIn
+  length-no-partition = refl
+
+-- ---- a claim of 10 bytes at 0, still open: its length is that of -42
+
+module _ (rest : List ℕ) (full : length rest ≡ 196480) where
+  abbrev opened : List ℕ
+  opened = le4 4294967254 ++ (0 ∷ 192 ∷ 1 ∷ 0 ∷ (replicate 120 0 ++ rest))
+
+  length-open : lengthReadTold (lengthCall (tailAt 64) opened (pos 0) (pos 0)) ≡ is (pos 0) (pos 1 ∷ pos 42 ∷ [])
+  unfolding lengthCall headerVerdict frameLength readingOf soundRecord sound rawOf ones onesIn le4 u32
+  length-open = simp full
+
+  -- a gap that starts on it says so, and one that starts on the free place behind it does not
+  gap-on-claim : gapTold (gapOf (tailAt 64) opened (pos 0) (pos 7) (pos 0) (pos 96)) ≡ is (pos 0) (pos 0 ∷ pos 7 ∷ pos 0 ∷ pos 96 ∷ pos 1 ∷ [])
+  unfolding gapOf gapJudge scanVerdict rebuild gapLength readingOf soundRecord sound rawOf ones onesIn le4 u16 u32 frameAt frameLength
+  gap-on-claim = simp full
+
+  gap-on-free : gapTold (gapOf (tailAt 64) opened (pos 0) (pos 7) (pos 64) (pos 96)) ≡ is (pos 0) (pos 64 ∷ pos 7 ∷ pos 64 ∷ pos 32 ∷ pos 0 ∷ [])
+  unfolding gapOf gapJudge scanVerdict rebuild gapLength readingOf soundRecord sound rawOf ones onesIn le4 u16 u32 frameAt frameLength
+  gap-on-free = simp full

@@ -1,6 +1,6 @@
 -- What a sound finished frame is: a header at least, and inside the term.
 use mathlib.Core.Path.{_≡_, refl, sym, ap, _∙_}
-use Prim.Native.Nat.{ℕ, _≤_, _<_}
+use Prim.Native.Nat.{ℕ, _-_, _≤_, _<_}
 use mathlib.Core.Bool.{Bool, true, false, cond, _||_}
 use mathlib.Core.List.{List}
 use native.Mathlib.Omega.{arith}
@@ -46,7 +46,7 @@ finished false false false w room x l e1 e2 e h =
     let q : w ≡ lengthOf x = ap lengthOf e in
     record { header = omega (arith, ltb-false w 32 e1); inside = rw q at (ltb-false room (align w) e2); small = omega arith }
 
-by-sign : (b1 b2 : Bool) (t room w : ℕ) (x : Frame) → ltb w 2147483648 ≡ b2 → frameBy t room (cond b1 Free (cond b2 (Finished w) Writing)) ≡ x → isFrame x ≡ true
+by-sign : (b1 b2 : Bool) (t room w : ℕ) (x : Frame) → ltb w 2147483648 ≡ b2 → frameBy t room (cond b1 Free (cond b2 (Finished w) (Writing (4294967296 - w)))) ≡ x → isFrame x ≡ true
     → Lies (lengthOf x) room
 by-sign true b2 t room w x e2 e h = clash Absent x refl e h
 by-sign false false t room w x e2 e h = clash Absent x refl e h
@@ -62,7 +62,7 @@ pub length-free : (w : ℕ) → w ≡ 0 → Free ≡ frameLength w
 unfolding frameLength
 length-free w h = rw (eq-eqb w 0 h)
 
-pub length-writing : (w : ℕ) → 2147483648 ≤ w → Writing ≡ frameLength w
+pub length-writing : (w : ℕ) → 2147483648 ≤ w → Writing (4294967296 - w) ≡ frameLength w
 unfolding frameLength
 length-writing w h = let n : w ≡ 0 → ⊥ = λ e. omega arith in rw (ne-eqb w 0 n, le-ltb w 2147483648 h)
 
@@ -70,10 +70,25 @@ pub length-finished : (w : ℕ) → (w ≡ 0 → ⊥) → w < 2147483648 → Fin
 unfolding frameLength
 length-finished w n h = rw (ne-eqb w 0 n, lt-ltb w 2147483648 h)
 
+abbrev pub isFree : FrameLength → Bool
+isFree Free = true
+isFree (Writing n) = false
+isFree (Finished n) = false
+
+-- a place is free where its word is 0
+pub free-word : (w : ℕ) → isFree (frameLength w) ≡ eqb w 0
+unfolding frameLength
+free-word w = go (eqb w 0) (ltb w 2147483648)
+  where
+    go : (b1 b2 : Bool) → isFree (cond b1 Free (cond b2 (Finished w) (Writing (4294967296 - w)))) ≡ b1
+    go true b2 = refl
+    go false true = refl
+    go false false = refl
+
 -- a finished length is the word, and is positive
 abbrev finishedLength : FrameLength → ℕ
 finishedLength Free = 0
-finishedLength Writing = 0
+finishedLength (Writing n) = 0
 finishedLength (Finished n) = n
 
 pub finished-word : (w n : ℕ) → frameLength w ≡ Finished n → (n ≡ w) × (n < 2147483648)
@@ -83,9 +98,9 @@ finished-word w n e = go (eqb w 0) (ltb w 2147483648) refl e
     never : {A : Type 0} (x : FrameLength) → isFinished x ≡ false → x ≡ Finished n → A
     never x f q = let t : false ≡ true = sym f ∙ ap isFinished q in absurd (let z : _≡_ {A = ℕ} 0 1 = cc in omega arith)
 
-    go : (b1 b2 : Bool) → ltb w 2147483648 ≡ b2 → cond b1 Free (cond b2 (Finished w) Writing) ≡ Finished n → (n ≡ w) × (n < 2147483648)
+    go : (b1 b2 : Bool) → ltb w 2147483648 ≡ b2 → cond b1 Free (cond b2 (Finished w) (Writing (4294967296 - w))) ≡ Finished n → (n ≡ w) × (n < 2147483648)
     go true b2 e2 q = never Free refl q
-    go false false e2 q = never Writing refl q
+    go false false e2 q = never (Writing (4294967296 - w)) refl q
     go false true e2 q = let k : w ≡ n = ap finishedLength q in (sym k, omega (arith, ltb-true w 2147483648 e2))
 
 -- ---- the frame, by its length
@@ -93,7 +108,7 @@ finished-word w n e = go (eqb w 0) (ltb w 2147483648) refl e
 pub frame-absent : (s : List ℕ) (room : ℕ) (x : FrameLength) → frameLength (u32 s) ≡ x → isFinished x ≡ false → Absent ≡ frameAt s room
 unfolding frameAt
 frame-absent s room Free e h = sym (ap (frameBy (u16 (drop 6 s)) room) e)
-frame-absent s room Writing e h = sym (ap (frameBy (u16 (drop 6 s)) room) e)
+frame-absent s room (Writing n) e h = sym (ap (frameBy (u16 (drop 6 s)) room) e)
 frame-absent s room (Finished n) e h = absurd (let t : true ≡ false = h in let z : _≡_ {A = ℕ} 0 1 = cc in omega arith)
 
 module _ (s : List ℕ) (room n : ℕ) (e : frameLength (u32 s) ≡ Finished n) where

@@ -16,7 +16,7 @@ use Rattle.model.specs.declared.Frame.the-variants.{Absent, Unsound, Pad
 use Rattle.model.specs.declared.GapScanned.{GapScanned}
 use Rattle.model.specs.declared.GapScanned.the-variants.{Gap, NoGap, Refused}
 use Rattle.model.specs.Bytes.{u32}
-use Rattle.model.specs.FrameDescriptor.{align, frameAt, isUnsound}
+use Rattle.model.specs.FrameDescriptor.{align, isWriting, lengthAt, frameAt, isUnsound}
 use Rattle.model.specs.TermScan.{Rebuilt, gapOver, rebuild, gapLength, gapBy}
 use Rattle.model.proofs.FrameLaws.{Lies, lies, isFrame, lengthOf}
 
@@ -85,7 +85,7 @@ module _ (log : List ℕ) (base term high at : ℕ) where
 
 -- what is found where the walk came to w
 abbrev pub gapFound : ℤ → List ℕ → ℕ → ℕ → ℕ → Rebuilt → GapScanned
-gapFound id log base term high w = cond (w .stopped || leb high (w .at)) (NoGap (w .at)) (Gap id (w .at) (gapLength term log base high (w .at)))
+gapFound id log base term high w = cond (w .stopped || leb high (w .at)) (NoGap (w .at)) (Gap id (w .at) (gapLength term log base high (w .at)) (isWriting (lengthAt (drop (base + w .at) log))))
 
 module _ (log : List ℕ) (base term high at : ℕ) where
   abbrev seen : ℕ → Frame
@@ -136,10 +136,10 @@ module _ (log : List ℕ) (base term high at : ℕ) where
       let q : NoGap offset ≡ gapFound id log base term high w = rw (le-leb high offset h) in
       q ∙ comes id w (turn (g .fuel) offset g Absent refl e) (first-seen offset Absent (g .begun) e refl)
 
-  pub gap-here : (id : ℤ) (offset : ℕ) → Rebuilding offset → seen offset ≡ Absent → offset < high → Gap id offset (gapLength term log base high offset) ≡ answer id
+  pub gap-here : (id : ℤ) (offset : ℕ) → Rebuilding offset → seen offset ≡ Absent → offset < high → Gap id offset (gapLength term log base high offset) (isWriting (lengthAt (drop (base + offset) log))) ≡ answer id
   gap-here id offset g e h =
       let w : Rebuilt = record { at = offset; stopped = false } in
-      let q : Gap id offset (gapLength term log base high offset) ≡ gapFound id log base term high w = rw (lt-leb high offset h) in
+      let q : Gap id offset (gapLength term log base high offset) (isWriting (lengthAt (drop (base + offset) log))) ≡ gapFound id log base term high w = rw (lt-leb high offset h) in
       q ∙ comes id w (turn (g .fuel) offset g Absent refl e) (first-seen offset Absent (g .begun) e refl)
 
   -- an unsound frame, later or first

@@ -5,8 +5,8 @@ use mathlib.Core.Bool.{Bool, cond, _||_}
 use Prim.Native.Nat.{ℕ, zero, suc, _+_, _-_, _*_, _/_, _%_, _≤_, _<_}
 use mathlib.Core.List.{List, [], _∷_, _++_, append-assoc}
 use native.Mathlib.Omega.{arith}
-use borrow.Author.Tests.{lt-ltb, le-ltb}
-use lib.Dec.{ltb, eqb}
+use borrow.Author.Tests.{le-ltb}
+use lib.Dec.{eqb}
 use lib.ListN.{length, drop, getD}
 use lib.Seq.{drop-at, drop-drop}
 use Rattle.model.specs.declared.Frame.{Frame}
@@ -17,8 +17,9 @@ use Rattle.model.specs.FrameDescriptor.{align, frameLength, frameBy, fra
 use Rattle.model.specs.DataFrameHeader.{header24}
 use Rattle.model.specs.TermReader.{Walked, still, over, walk}
 use Rattle.model.specs.History.{Shape, State, open·, committed, aborted}
-use Rattle.model.proofs.Choice.{cond-false, le-no, eq-no, le-case}
+use Rattle.model.proofs.Choice.{le-no, le-case}
 use Rattle.model.proofs.Fields.{u32-le4}
+use Rattle.model.proofs.FrameLaws.{length-writing, length-finished}
 use Rattle.model.proofs.Cells.{Cell, cell, stateOf, stored, typ, head, flen, fsize, solidAt, solid, enc, bytes, sizes, length-enc, flen-ge}
 
 -- ---- what stands at a place
@@ -32,13 +33,12 @@ seen (cell aborted fl re b) = Padding (flen (cell aborted fl re b))
 unfoldable pub Small : Cell → Type 0
 Small f = flen f < 2147483648
 
-length-open : (n : ℕ) → 32 ≤ n → n < 2147483648 → frameLength (4294967296 - n) ≡ Writing
-unfolding frameLength
-length-open n h k = eq-no (4294967296 - n) 0 _ _ (λ e. omega arith) ∙ cond-false (ltb (4294967296 - n) 2147483648) _ _ (le-ltb (4294967296 - n) 2147483648 (omega arith))
+length-open : (n : ℕ) → 32 ≤ n → n < 2147483648 → frameLength (4294967296 - n) ≡ Writing n
+length-open n h k =
+    let q : 4294967296 - (4294967296 - n) ≡ n = omega arith in sym (length-writing (4294967296 - n) (omega arith)) ∙ ap Writing q
 
-length-finished : (n : ℕ) → 32 ≤ n → n < 2147483648 → frameLength n ≡ Finished n
-unfolding frameLength
-length-finished n h k = eq-no n 0 _ _ (λ e. omega arith) ∙ ap (λ (t : Bool). cond t (Finished n) Writing) (lt-ltb n 2147483648 k)
+length-done : (n : ℕ) → 32 ≤ n → n < 2147483648 → frameLength n ≡ Finished n
+length-done n h k = sym (length-finished n (λ e. omega arith) k)
 
 frame-sound : (ty n room : ℕ) → 32 ≤ n → align n ≤ room → frameBy ty room (Finished n) ≡ cond (eqb ty 0) (Padding n) (Data n)
 frame-sound ty n room h k =
@@ -67,10 +67,10 @@ by-state : (f : Cell) (room : ℕ) → flen f < 2147483648 → fsize f ≤ room 
 unfolding stored typ seen fsize
 by-state (cell open· fl re b) room s h = ap (frameBy 1 room) (length-open (flen (cell open· fl re b)) (flen-ge (cell open· fl re b)) s)
 by-state (cell committed fl re b) room s h =
-    ap (frameBy 1 room) (length-finished (flen (cell committed fl re b)) (flen-ge (cell committed fl re b)) s)
+    ap (frameBy 1 room) (length-done (flen (cell committed fl re b)) (flen-ge (cell committed fl re b)) s)
     ∙ frame-sound 1 (flen (cell committed fl re b)) room (flen-ge (cell committed fl re b)) h
 by-state (cell aborted fl re b) room s h =
-    ap (frameBy 0 room) (length-finished (flen (cell aborted fl re b)) (flen-ge (cell aborted fl re b)) s)
+    ap (frameBy 0 room) (length-done (flen (cell aborted fl re b)) (flen-ge (cell aborted fl re b)) s)
     ∙ frame-sound 0 (flen (cell aborted fl re b)) room (flen-ge (cell aborted fl re b)) h
 
 pub see-enc : (c : Shape) (p : ℕ) (f : Cell) (r : List ℕ) (room : ℕ) → Small f → fsize f ≤ room → frameAt (enc c p f ++ r) room ≡ seen f

@@ -23,6 +23,8 @@ use Rattle.model.specs.declared.Course.{Course}
 use Rattle.model.specs.declared.Course.the-variants.{Refuse as CourseRefuse, Stray as CourseStray, Trip as CourseTrip, Fit as CourseFit}
 use Rattle.model.specs.declared.FrameLength.{FrameLength}
 use Rattle.model.specs.declared.FrameLength.the-variants.{Free as LengthFree, Writing as LengthWriting, Finished as LengthFinished}
+use Rattle.model.specs.declared.FrameLengthRead.{FrameLengthRead}
+use Rattle.model.specs.declared.FrameLengthRead.the-variants.{Length as LengthReadLength, Refused as LengthReadRefused}
 use Rattle.model.specs.declared.Frame.{Frame}
 use Rattle.model.specs.declared.Frame.the-variants.{Absent as FrameAbsent, Unsound as FrameUnsound, Padding as FramePadding, Data as FrameData}
 use Rattle.model.specs.declared.Located.{Located}
@@ -117,11 +119,16 @@ abbrev pub locatedTold : Located → Told
 locatedTold (LocatedSpan from to) = answered (pos from ∷ pos to ∷ [])
 locatedTold (LocatedRefused e) = refused e
 
--- a length word by its sign: 0, -1, or 1 and the length
+-- a length word by its sign: 0 for free; 1 for being written, and the size; 2 for finished, and the length
 abbrev pub frameLengthTold : FrameLength → Told
 frameLengthTold LengthFree = answered (pos 0 ∷ [])
-frameLengthTold LengthWriting = answered (negsuc 0 ∷ [])
-frameLengthTold (LengthFinished n) = answered (pos 1 ∷ pos n ∷ [])
+frameLengthTold (LengthWriting n) = answered (pos 1 ∷ pos n ∷ [])
+frameLengthTold (LengthFinished n) = answered (pos 2 ∷ pos n ∷ [])
+
+-- the frame length reader
+abbrev pub lengthReadTold : FrameLengthRead → Told
+lengthReadTold (LengthReadLength l) = frameLengthTold l
+lengthReadTold (LengthReadRefused e) = refused e
 
 -- what stands at a place: no finished frame; an unsound one; else 0 for padding or 1 for data, as the type field has it, and the length
 abbrev pub frameTold : Frame → Told
@@ -150,9 +157,9 @@ abbrev pub scannedTold : Scanned → Told
 scannedTold (ScannedOffset n) = answered (pos n ∷ [])
 scannedTold (ScannedRefused e) = refused e
 
--- scan_for_gap: the end of the walk, then the gap's term id, offset and length, if there is one
+-- scan_for_gap: the end of the walk, then, if there is a gap, its term id, offset and length, and 1 if it starts on a frame being written, else 0
 abbrev pub gapTold : GapScanned → Told
-gapTold (GapScannedGap id offset n) = answered (pos offset ∷ id ∷ pos offset ∷ pos n ∷ [])
+gapTold (GapScannedGap id offset n written) = answered (pos offset ∷ id ∷ pos offset ∷ pos n ∷ cond written (pos 1) (pos 0) ∷ [])
 gapTold (GapScannedNoGap n) = answered (pos n ∷ [])
 gapTold (GapScannedRefused e) = refused e
 

@@ -18,7 +18,7 @@ use Rattle.model.specs.declared.Assembled.{Assembled}
 use Rattle.model.specs.declared.Assembled.the-variants.{Nothing, Fragment, Message, Refused}
 use Rattle.model.specs.Bytes.{word, splice}
 use Rattle.model.specs.DataFrameHeader.{headerAt}
-use Rattle.model.specs.FrameDescriptor.{frameLength, isFinished, unsoundLength, flagsAt, begins, ends}
+use Rattle.model.specs.FrameDescriptor.{isFinished, lengthAt, unsoundLength, flagsAt, begins, ends}
 use Rattle.model.specs.LogBufferDescriptor.{reading, sound, goodPartition, goodOffset, firstRows, row17}
 
 -- The bookkeeping: how many sessions are entered, their ids, and how many bytes each holds. A count over 16 is taken as 16.
@@ -92,7 +92,7 @@ assembledBy at n part (Complete k from) = Message (k * part) (from + n)
 
 -- a frame of positive length at a place of the term, its length word present
 abbrev pub goodFrame : List ℕ → ℕ → Bool
-goodFrame log at = leb (at + 4) (length log) && isFinished (frameLength (headerAt (drop at log) .length))
+goodFrame log at = leb (at + 4) (length log) && isFinished (lengthAt (drop at log))
 
 -- 1
 abbrev pub goodAssembly : Reading → List ℕ → ℕ → ℕ → ℕ → Bool

@@ -21,14 +21,24 @@ space n = align (n + 32)
 abbrev pub negated : ℕ → ℕ
 negated n = 4294967296 - n
 
--- the sign of the length word decides: free, being written, finished
+-- The sign of the length word decides: free, being written with its size, 1 to 2147483648, or finished with its length. Whether the length is
+-- one that a frame can have is not asked here: 5 is finished, and the bits of -5 are a frame of 5 being written.
 unfoldable pub frameLength : ℕ → FrameLength
-frameLength w = cond (eqb w 0) Free (cond (ltb w 2147483648) (Finished w) Writing)
+frameLength w = cond (eqb w 0) Free (cond (ltb w 2147483648) (Finished w) (Writing (4294967296 - w)))
 
 abbrev pub isFinished : FrameLength → Bool
 isFinished Free = false
-isFinished Writing = false
+isFinished (Writing n) = false
 isFinished (Finished n) = true
+
+abbrev pub isWriting : FrameLength → Bool
+isWriting Free = false
+isWriting (Writing n) = true
+isWriting (Finished n) = false
+
+-- the length of what stands at the beginning of s, a log from a frame's place on: every reader, scan and the assembler goes by it
+abbrev pub lengthAt : List ℕ → FrameLength
+lengthAt s = frameLength (headerAt s .length)
 
 -- A frame is unsound if its length is 1 to 31, or its aligned length ends past the term, which is `room` bytes away.
 abbrev pub unsoundLength : ℕ → ℕ → Bool
@@ -37,12 +47,12 @@ unsoundLength n room = ltb n 32 || ltb room (align n)
 -- readers stop at a length of zero or less; type 0 is padding, and all others are data
 abbrev pub frameBy : ℕ → ℕ → FrameLength → Frame
 frameBy type room Free = Absent
-frameBy type room Writing = Absent
+frameBy type room (Writing n) = Absent
 frameBy type room (Finished n) = cond (unsoundLength n room) Unsound (cond (eqb type 0) (Padding n) (Data n))
 
 -- what stands at the beginning of s, a log from a frame's place on
 unfoldable pub frameAt : List ℕ → ℕ → Frame
-frameAt s room = frameBy (headerAt s .type) room (frameLength (headerAt s .length))
+frameAt s room = frameBy (headerAt s .type) room (lengthAt s)
 
 abbrev pub isUnsound : Frame → Bool
 isUnsound Absent = false

@@ -13,6 +13,9 @@ use Rattle.model.specs.declared.Reading.{Reading}
 use Rattle.model.specs.declared.Error.the-variants.{IllegalArgument}
 use Rattle.model.specs.declared.Verdict.{Verdict}
 use Rattle.model.specs.declared.Verdict.the-variants.{Pass, Refuse}
+use Rattle.model.specs.declared.FrameLength.{FrameLength}
+use Rattle.model.specs.declared.FrameLengthRead.{FrameLengthRead}
+use Rattle.model.specs.declared.FrameLengthRead.the-variants.{Length, Refused as LengthRefused}
 use Rattle.model.specs.declared.Frame.{Frame}
 use Rattle.model.specs.declared.Frame.the-variants.{Absent, Unsound, Padding, Data}
 use Rattle.model.specs.declared.HeaderFields.{HeaderFields}
@@ -26,7 +29,7 @@ use Rattle.model.specs.declared.TermRead.the-variants.{Outcome, Refused}
 use Rattle.model.specs.declared.Located.{Located}
 use Rattle.model.specs.Bytes.{word}
 use Rattle.model.specs.Parts.{locatedBy}
-use Rattle.model.specs.FrameDescriptor.{align, frameAt, isUnsound, flagsAt, ends}
+use Rattle.model.specs.FrameDescriptor.{align, lengthAt, frameAt, isUnsound, flagsAt, ends}
 use Rattle.model.specs.DataFrameHeader.{Header, headerAt}
 use Rattle.model.specs.LogBufferDescriptor.{biased, positionOf, reading, sound, withinTerm, goodPartition, goodOffset, firstRows, row17}
 
@@ -224,6 +227,17 @@ headerBy f (Refuse e) = FieldsRefused e
 unfoldable pub headerCall : LogRecord → List ℕ → ℤ → ℤ → HeaderRead
 headerCall r log partition offset =
     headerBy (fieldsOf (reading r) (word offset) (headerAt (drop (word partition * reading r .term + word offset) log)))
+    (headerVerdict (reading r) (length log) (word partition) (word offset))
+
+-- ---- the frame length reader: record, log, partition, offset. In order: 1, 2, as for a header's fields.
+
+abbrev pub lengthBy : FrameLength → Verdict → FrameLengthRead
+lengthBy l Pass = Length l
+lengthBy l (Refuse e) = LengthRefused e
+
+unfoldable pub lengthCall : LogRecord → List ℕ → ℤ → ℤ → FrameLengthRead
+lengthCall r log partition offset =
+    lengthBy (lengthAt (drop (word partition * reading r .term + word offset) log))
     (headerVerdict (reading r) (length log) (word partition) (word offset))
 
 -- ---- a view of a body or a block: record, log, partition, offset, length, inside the term. In order: 1, 2.

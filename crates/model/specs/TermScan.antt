@@ -18,7 +18,7 @@ use Rattle.model.specs.declared.GapScanned.the-variants.{Gap, NoGap, Ref
 use Rattle.model.specs.declared.AvailabilityScanned.{AvailabilityScanned}
 use Rattle.model.specs.declared.AvailabilityScanned.the-variants.{Outcome, Refused as AvailabilityRefused}
 use Rattle.model.specs.Bytes.{word, u32}
-use Rattle.model.specs.FrameDescriptor.{align, frameAt, isUnsound}
+use Rattle.model.specs.FrameDescriptor.{align, isWriting, lengthAt, frameAt, isUnsound}
 use Rattle.model.specs.LogBufferDescriptor.{reading, sound, goodPartition, goodOffset, withinTerm, firstRows, row17}
 use Rattle.model.specs.TermReader.{natural}
 
@@ -90,10 +90,11 @@ gapJudge r log k at high =
     scanVerdict (goodPartition k && (goodOffset at (reading r) && goodMark high r)) (sound (reading r) (length log))
     (isUnsound (frameAt (drop (k * reading r .term + at) log) (reading r .term - at)))
 
+-- the gap's term id as given, its offset, its length, and whether it starts on a frame being written
 abbrev pub gapAt : LogRecord → List ℕ → ℕ → ℤ → ℕ → Rebuilt → GapScanned
 gapAt r log k id high w =
     cond (w .stopped || leb high (w .at)) (NoGap (w .at))
-    (Gap id (w .at) (gapLength (reading r .term) log (k * reading r .term) high (w .at)))
+    (Gap id (w .at) (gapLength (reading r .term) log (k * reading r .term) high (w .at)) (isWriting (lengthAt (drop (k * reading r .term + w .at) log))))
 
 abbrev pub gapBy : GapScanned → Verdict → GapScanned
 gapBy g Pass = g

@@ -160,11 +160,18 @@ pub enum Located {
     Refused(Error),
 }
 
-// A frame's length word by its sign: 0, negative, positive.
+// A frame's length word by its sign: 0 is free; negative, a frame being written, with its size, 1 to 2147483648; positive, a finished one, with
+// its length. It says nothing of soundness.
 pub enum FrameLength {
     Free,
-    Writing,
+    Writing(usize),
     Finished(usize),
+}
+
+// What the frame length reader answers of a place.
+pub enum FrameLengthRead {
+    Length(FrameLength),
+    Refused(Error),
 }
 
 // What stands at a place of a log: no finished frame, an unsound one, or the length of a padding or a data frame.
@@ -220,9 +227,10 @@ pub enum Scanned {
     Refused(Error),
 }
 
-// A gap: the term id given, its offset and its length; or none, with the offset that the walk came to.
+// A gap: the term id given, its offset, its length, and whether it starts on a frame being written; or none, with the offset that the walk
+// came to.
 pub enum GapScanned {
-    Gap(i32, usize, usize),
+    Gap(i32, usize, usize, bool),
     NoGap(usize),
     Refused(Error),
 }

@@ -87,7 +87,7 @@ pub fn term_read(name: &[u8], rec: LogRecord, answer: TermRead) {
 
 pub fn gap_scanned(name: &[u8], rec: LogRecord, answer: GapScanned) {
     match answer {
-        GapScanned::Gap(_, at, _) => line(name, 0, at, rec),
+        GapScanned::Gap(_, at, _, _) => line(name, 0, at, rec),
         GapScanned::NoGap(at) => line(name, 0, at, rec),
         GapScanned::Refused(e) => refused(name, e, rec),
     }

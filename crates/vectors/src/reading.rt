@@ -98,10 +98,11 @@ fn scan(v: Vector, input: &[u8], rec: LogRecord, log: &[u8]) -> Values {
     }
 }
 
-// A gap is told with its term id, offset and length; where there is none, the offset alone.
+// A gap is told with its term id, offset and length; where there is none, the offset alone. The Rust does not say whether it starts on a frame
+// being written.
 fn gap(answer: GapScanned) -> Values {
     match answer {
-        GapScanned::Gap(id, at, n) => values::five(
+        GapScanned::Gap(id, at, n, _) => values::five(
             0,
             1,
             values::count(at),

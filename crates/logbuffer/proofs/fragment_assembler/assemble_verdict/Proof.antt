@@ -1,12 +1,12 @@
 -- Rows 1 and 2 go by `first_rows`; row 17 looks at the frame.
 use mathlib.Core.Path.{_≡_, sym, ap, _∙_}
-use mathlib.Core.Bool.{Bool}
-use Prim.Native.Nat.{ℕ, _+_, _-_, _*_, _≤_, _<_}
+use mathlib.Core.Bool.{Bool, true}
+use Prim.Native.Nat.{ℕ, _+_, _-_, _*_, _<_}
 use native.Mathlib.Omega.{arith}
 use borrow.Author.Needs.{needs}
-use lib.ListN.{length}
+use lib.ListN.{length, drop}
 use Rattle.model.specs.declared.Verdict.the-variants.{Pass}
-use Rattle.model.specs.FrameDescriptor.{unsoundLength}
+use Rattle.model.specs.FrameDescriptor.{isFinished, lengthAt, unsoundLength}
 use Rattle.model.specs.LogBufferDescriptor.{sound, firstRows}
 use Rattle.model.specs.FragmentAssembler.{goodAssembly}
 use Rattle.model.proofs.Choice.{cond-true, cond-false}
@@ -28,10 +28,10 @@ is-sound c = sound (st c .args .p .read) (length (st c .args .log .now))
 rows : (c : tie.After-first-rows) → firstRows (good c) (is-sound c) Pass ≡ c .first-rows .result
 rows c = ap (λ (g : Bool). firstRows g (is-sound c) Pass) (sym (c .before .good-assembly .ensures)) ∙ sym (c .first-rows .ensures)
 
--- what their passing says of the place: its index, its length word, its offset
+-- what their passing says of the place: its index, that its frame is finished, its offset
 record At (c : tie.After-first-rows) : Type 0 where
   near : st c .args .p .partition * st c .args .p .read .term + st c .args .p .offset < 6442450944
-  word-in : st c .args .p .partition * st c .args .p .read .term + st c .args .p .offset + 4 ≤ length (st c .args .log .now)
+  finished : isFinished (lengthAt (drop (st c .args .p .partition * st c .args .p .read .term + st c .args .p .offset) (st c .args .log .now))) ≡ true
   below : st c .args .p .offset < st c .args .p .read .term
 
 at : (c : tie.After-first-rows) → c .first-rows .result ≡ Pass → At c
@@ -41,7 +41,7 @@ at c h =
     let i = assembly-at (a .p .read) (a .log .now) (a .lent) (a .p .partition) (a .p .offset) (g .0) in
     record {
       near = place-near (a .p .read) (a .log .now) (a .lent) (a .p .partition) (a .p .offset) (i .0);
-      word-in = i .1;
+      finished = i .1;
       below = placed (a .p .read) (length (a .log .now)) (a .p .partition) (a .p .offset) (i .0) (g .1) .below;
     }
 
@@ -51,14 +51,14 @@ returns c =
     let a = st q .args in
     verdict-refused (a .p .read) (a .log .now) (a .lent) (a .p .partition) (a .p .offset) (rows q ∙ c .before .e .given .1)
 
-mul-word4 : tie.Need-mul-word4
-mul-word4 c = record { fits = omega (arith, at (c .before .before .before) (c .before .enum-told .given .1) .near) }
+mul-finished-length : tie.Need-mul-finished-length
+mul-finished-length c = record { fits = omega (arith, at (c .before .before .before) (c .before .enum-told .given .1) .near) }
 
-add-word4 : tie.Need-add-word4
-add-word4 c = record { fits = omega (arith, at (c .before .before .before .before) (c .before .before .enum-told .given .1) .near) }
+add-finished-length : tie.Need-add-finished-length
+add-finished-length c = record { fits = omega (arith, at (c .before .before .before .before) (c .before .before .enum-told .given .1) .near) }
 
-word4-requires : tie.Need-word4-requires
-word4-requires c κs = at (c .before .before .before .before) (c .before .before .enum-told .given .1) .word-in
+finished-length-requires : tie.Need-finished-length-requires
+finished-length-requires c κs = at (c .before .before .before .before) (c .before .before .enum-told .given .1) .finished
 
 sub-unsound-length : tie.Need-sub-unsound-length
 sub-unsound-length c =
@@ -72,14 +72,14 @@ returns-2 : tie.Need-returns-2
 returns-2 c =
     let q = c .before .before .before .before .before .before .before .before in
     let a = st q .args in
-    sym (cond-true _ _ _ (ap (asked q) (sym (c .before .before .before .word4 .ensures .0)) ∙ sym (c .before .unsound-length .ensures) ∙ c .if1 .taken))
+    sym (cond-true _ _ _ (ap (asked q) (sym (c .before .before .before .finished-length .ensures .0)) ∙ sym (c .before .unsound-length .ensures) ∙ c .if1 .taken))
     ∙ verdict-goes (a .p .read) (a .log .now) (a .lent) (a .p .partition) (a .p .offset) (rows q ∙ c .before .before .before .before .before .before .enum-told .given .1)
 
 returns-3 : tie.Need-returns-3
 returns-3 c =
     let q = c .before .before .before .before .before .before .before .before in
     let a = st q .args in
-    sym (cond-false _ _ _ (ap (asked q) (sym (c .before .before .before .word4 .ensures .0)) ∙ sym (c .before .unsound-length .ensures) ∙ c .if1 .left))
+    sym (cond-false _ _ _ (ap (asked q) (sym (c .before .before .before .finished-length .ensures .0)) ∙ sym (c .before .unsound-length .ensures) ∙ c .if1 .left))
     ∙ verdict-goes (a .p .read) (a .log .now) (a .lent) (a .p .partition) (a .p .offset) (rows q ∙ c .before .before .before .before .before .before .enum-told .given .1)
 
 pub assemble-verdict-spec : {M : Type 1} → statement M
@@ -91,9 +91,9 @@ assemble-verdict-spec =
     (search needs)
     returns
     (search needs)
-    mul-word4
-    add-word4
-    word4-requires
+    mul-finished-length
+    add-finished-length
+    finished-length-requires
     sub-unsound-length
     (search needs)
     returns-2

@@ -1,17 +1,9 @@
 -- The first test that fails decides; the length word is judged by its sign.
-use mathlib.Core.Path.{_≡_, ap, _∙_}
 use native.Mathlib.Omega.{arith}
 use borrow.Author.Needs.{needs}
-use lib.ListN.{drop}
-use Rattle.model.specs.Bytes.{u32}
-use Rattle.model.specs.FrameDescriptor.{frameLength}
 use Rattle.logbuffer.proofs.Assembly.{frame-short, frame-finished, frame-unfinished}
-use Rattle.logbuffer.proofs.Signs.{back32}
 use Rattle.logbuffer.proofs.fragment_assembler.good_frame.Statement.{statement}
 use Rattle.logbuffer.proofs.fragment_assembler.good_frame.Tie as tie
-
-told : (c : tie.After-frame-length) → (let a = c .before .before .before .before .before .before .args in c .frame-length .result ≡ frameLength (u32 (drop (a .at) (a .log .now))))
-told c = c .frame-length .ensures ∙ ap frameLength (back32 _ _ _ (c .before .to-i32 .ensures) (c .before .before .word4 .ensures .0) (c .before .before .word4 .ensures .1))
 
 returns : tie.Need-returns
 returns c =
@@ -23,12 +15,12 @@ returns-2 c =
 
 returns-3 : tie.Need-returns-3
 returns-3 c =
-    let a = c .before .before .before .before .before .before .before .args in frame-unfinished (a .log .now) (a .at) _ (told (c .before)) (omega arith) (c .match .keys2)
+    let a = c .before .before .before .before .before .args in frame-unfinished (a .log .now) (a .at) _ (c .before .length-at .ensures) (omega arith) (c .match .keys2)
 
 returns-4 : tie.Need-returns-4
 returns-4 c =
-    let a = c .before .before .before .before .before .before .before .before .args in frame-finished (a .log .now) (a .at) _ (told (c .before .before)) (omega arith) _ (c .enum-told .given .1)
+    let a = c .before .before .before .before .before .before .args in frame-finished (a .log .now) (a .at) _ (c .before .before .length-at .ensures) (omega arith) _ (c .enum-told .given .1)
 
 pub good-frame-spec : {M : Type 1} → statement M
 good-frame-spec =
-    tie.close (tie.spec returns returns-2 (search needs) (search needs) (search needs) (search needs) returns-3 returns-4)
+    tie.close (tie.spec returns returns-2 (search needs) (search needs) returns-3 returns-4)

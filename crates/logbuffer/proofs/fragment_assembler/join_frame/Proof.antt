@@ -25,7 +25,7 @@ abbrev st : tie.After-joining → tie.Start
 st c = c .before .before .before .before .before .before .before
 
 abbrev w : tie.After-joining → ℕ
-w c = c .before .before .before .before .word4 .result
+w c = c .before .before .before .before .finished-length .result
 
 abbrev z : tie.After-joining → ℤ
 z c = toZ w32 (ofZ w32 (c .before .before .to-i32 .result))
@@ -34,7 +34,7 @@ abbrev part : tie.After-joining → ℕ
 part c = length (st c .args .buffer .now) / 16
 
 session : (c : tie.After-joining) → z c ≡ i32 (drop (st c .args .place + 12) (st c .args .log .now))
-session c = toZ-ofZ {w = w32} {z = c .before .before .to-i32 .result} (search needs) ∙ c .before .before .to-i32 .ensures ∙ ap (toZ w32) (c .before .before .before .word42 .ensures .0)
+session c = toZ-ofZ {w = w32} {z = c .before .before .to-i32 .result} (search needs) ∙ c .before .before .to-i32 .ensures ∙ ap (toZ w32) (c .before .before .before .word4 .ensures .0)
 
 joins : (c : tie.After-joining) → c .joining .result ≡ joining (sessionsOf (st c .args .a)) (z c) (c .before .byte .result) (w c - 32) (part c)
 joins c = c .joining .ensures
@@ -51,7 +51,7 @@ does : (c : tie.After-joining) (x : Joining) → c .joining .result ≡ x
     ≡ joinedAt (sessionsOf (st c .args .a)) (st c .args .buffer .now) (drop (st c .args .place) (st c .args .log .now)) (st c .args .at)
 does c x e =
     done (sessionsOf (st c .args .a)) (st c .args .buffer .now) (st c .args .log .now) (st c .args .place) (st c .args .at) (w c) (c .before .byte .result) (z c) x
-    (c .before .before .before .before .word4 .ensures .0) (c .before .byte .ensures .0) (session c) (sym e ∙ joins c)
+    (c .before .before .before .before .finished-length .ensures .0) (c .before .byte .ensures .0) (session c) (sym e ∙ joins c)
 
 fits : (c : tie.After-joining) (x : Joining) → c .joining .result ≡ x → Fit (w c - 32) (part c) x
 fits c x e = subst (Fit (w c - 32) (part c)) (sym (joins c) ∙ e) (join-fits (sessionsOf (st c .args .a)) (z c) (c .before .byte .result) (w c - 32) (part c))
@@ -60,7 +60,10 @@ held : (c : tie.After-joining) (k n : ℕ) → k < 16 → heldAt (sessionsOf (st
 held c k n h = held-in (sessionsOf (st c .args .a)) k (z c) n h
 
 body-in : (c : tie.After-joining) → st c .args .place + 32 + (w c - 32) ≤ length (st c .args .log .now)
-body-in c = omega (arith, st c .pre, c .before .before .before .before .word4 .ensures .0)
+body-in c = omega (arith, st c .pre, c .before .before .before .before .finished-length .ensures .0)
+
+finished-length-requires : tie.Need-finished-length-requires
+finished-length-requires c κs = c .before .before .pre .1 .0
 
 append-requires : tie.Need-append-requires
 append-requires c κs =
@@ -126,7 +129,7 @@ pub join-frame-spec : {M : Type 1} → statement M
 join-frame-spec =
     tie.close
     (tie.spec
-    (search needs)
+    finished-length-requires
     (search needs)
     (search needs)
     (search needs)

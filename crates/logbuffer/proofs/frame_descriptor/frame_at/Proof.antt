@@ -1,5 +1,5 @@
--- The length word's sign is read first; a finished length is judged, and then the type.
-use mathlib.Core.Path.{_≡_, refl, sym, ap, _∙_}
+-- The length is told by its sign first; a finished length is judged, and then the type.
+use mathlib.Core.Path.{_≡_, refl, sym, _∙_}
 use mathlib.Core.List.{List}
 use Prim.Native.Nat.{ℕ}
 use native.Mathlib.Omega.{arith}
@@ -9,23 +9,15 @@ use Rattle.model.specs.declared.FrameLength.the-variants.{Free, Writing, Finish
 use Rattle.model.specs.Bytes.{u32}
 use Rattle.model.specs.FrameDescriptor.{frameLength}
 use Rattle.model.proofs.FrameLaws.{finished-word, frame-absent, frame-short, frame-long, frame-padding, frame-data}
-use Rattle.logbuffer.proofs.Signs.{back32}
 use Rattle.logbuffer.proofs.frame_descriptor.frame_at.Statement.{statement}
 use Rattle.logbuffer.proofs.frame_descriptor.frame_at.Tie as tie
 
--- the length was read by its sign
-abbrev start : tie.After-frame-length → tie.Start
-start c = c .before .before .before .before
-
-abbrev from : tie.After-frame-length → List ℕ
-from c = drop (start c .args .at) (start c .args .log .now)
-
-told : (c : tie.After-frame-length) → c .frame-length .result ≡ frameLength (u32 (from c))
-told c = c .frame-length .ensures ∙ ap frameLength (back32 (c .before .to-i32 .result) (c .before .before .length-word .result) (u32 (from c)) (c .before .to-i32 .ensures) (c .before .before .length-word .ensures .0) (c .before .before .length-word .ensures .1))
+abbrev from : tie.After-length-at → List ℕ
+from c = drop (c .before .before .args .at) (c .before .before .args .log .now)
 
 -- a finished length
 is : (c : tie.After-known-told) → frameLength (u32 (from (c .before .before .before))) ≡ Finished (c .before .n .given .0 .0)
-is c = sym (told (c .before .before .before)) ∙ c .before .n .given .1
+is c = sym (c .before .before .before .length-at .ensures) ∙ c .before .n .given .1
 
 returns : tie.Need-returns
 returns c = frame-short (from (c .before .before .before .before)) _ _ (is (c .before)) (c .if1 .taken)
@@ -40,10 +32,10 @@ returns-2 : tie.Need-returns-2
 returns-2 c = frame-long (from (c .before .before .before .before .before)) _ _ (is (c .before .before)) (c .before .if1 .left) (c .if2 .taken)
 
 returns-3 : tie.Need-returns-3
-returns-3 c = frame-absent (from (c .before .before)) _ Free (sym (told (c .before .before)) ∙ c .enum-told .given .1) refl
+returns-3 c = frame-absent (from (c .before .before)) _ Free (sym (c .before .before .length-at .ensures) ∙ c .enum-told .given .1) refl
 
 returns-4 : tie.Need-returns-4
-returns-4 c = frame-absent (from (c .before .before)) _ Writing (sym (told (c .before .before)) ∙ c .enum-told2 .given .1) refl
+returns-4 c = frame-absent (from (c .before .before)) _ (Writing (c .enum-told2 .given .0 .0)) (sym (c .before .before .length-at .ensures) ∙ c .enum-told2 .given .1) refl
 
 returns-5 : tie.Need-returns-5
 returns-5 c = frame-padding (from (c .before .before .before .before .before .before .before)) _ _ (is (c .before .before .before .before)) (c .before .before .before .if1 .left) (c .before .before .if2 .left) (sym (c .before .frame-type .ensures) ∙ c .if3 .taken)
@@ -55,8 +47,6 @@ pub frame-at-spec : {M : Type 1} → statement M
 frame-at-spec =
     tie.close
     (tie.spec
-    (search needs)
-    (search needs)
     (search needs)
     (search needs)
     (search needs)

@@ -1,5 +1,5 @@
 -- The loop keeps `Rebuilding` of model's GapLaws; each way out cites its law there.
-use mathlib.Core.Path.{ap₂, _≡_, refl, sym, _∙_}
+use mathlib.Core.Path.{_≡_, refl, sym, ap, ap₂, _∙_}
 use Prim.Native.Nat.{ℕ, _+_, _-_}
 use native.Mathlib.Omega.{arith}
 use borrow.Author.Needs.{needs}
@@ -10,6 +10,7 @@ use Rattle.model.specs.declared.Frame.{Frame}
 use Rattle.model.specs.declared.Frame.the-variants.{Padding, Data}
 use Rattle.model.specs.declared.GapScanned.the-variants.{Gap}
 use Rattle.model.specs.FrameDescriptor.{frameAt}
+use Rattle.model.specs.TermScan.{gapLength}
 use Rattle.model.proofs.FrameLaws.{Lies, lies}
 use Rattle.model.proofs.GapLaws.{Rebuilding}
 use Rattle.model.proofs.GapLaws as laws
@@ -98,9 +99,15 @@ gap-length-requires c κs = let i = c .before .before .before .before .loop .inv
 
 returns-6 : tie.Need-returns-6 Inv-loop μ-loop
 returns-6 c =
-    let l = c .before .before .before .before .before in
+    let g = c .before in
+    let l = g .before .before .before .before .before in
     let a = st l .args in
-    ap₂ (λ (i : ℤ) (n : ℕ). Gap i (l .loop .offset) n) (toZ-ofZ (st l .fits .«term-id»)) (c .gap-length .ensures) ∙ laws.gap-here (a .log .now) (a .base) (a .term) (a .high) (a .at) (a .«term-id») (l .loop .offset) (l .loop .inv) (is (c .before .before .before .before) _ (c .before .before .enum-told .given .1)) (c .before .if4 .left)
+    ap₂ (λ (i : ℤ) (n : ℕ). Gap i (l .loop .offset) n (c .is-writing .result)) (toZ-ofZ (st l .fits .«term-id»)) (g .gap-length .ensures)
+    ∙ ap (Gap (a .«term-id») (l .loop .offset) (gapLength (a .term) (a .log .now) (a .base) (a .high) (l .loop .offset))) (c .is-writing .ensures)
+    ∙ laws.gap-here (a .log .now) (a .base) (a .term) (a .high) (a .at) (a .«term-id») (l .loop .offset) (l .loop .inv) (is (g .before .before .before .before) _ (g .before .before .enum-told .given .1)) (g .before .if4 .left)
+
+add-is-writing : tie.Need-add-is-writing Inv-loop μ-loop
+add-is-writing c = omega (arith, c .before .before .before .before .before .loop .inv .inside)
 
 pub gap-frames-spec : {M : Type 1} → statement M
 gap-frames-spec =
@@ -132,4 +139,6 @@ gap-frames-spec =
     loop-again-2
     returns-5
     gap-length-requires
+    add-is-writing
+    (search needs)
     returns-6)

@@ -2,6 +2,8 @@
 use mathlib.Core.Path.{sym, _∙_}
 use Prim.Native.Nat.{_+_, _-_, _≤_}
 use native.Mathlib.Omega.{arith}
+use borrow.Author.Tests.{eqb-true, eqb-false, not-true, not-false}
+use borrow.Author.Needs.{needs}
 use Rattle.model.proofs.GapLaws.{Measuring}
 use Rattle.model.proofs.GapLaws as laws
 use Rattle.logbuffer.proofs.term_scan.gap_length.Statement.{statement}
@@ -16,11 +18,8 @@ abbrev μ-loop : tie.MeasureT-loop
 loop-holds : tie.Need-loop-holds Inv-loop μ-loop
 loop-holds c = let a = c .before .args in (omega arith, laws.measure-start (a .log .now) (a .base) (a .term) (a .high) (a .at) (omega arith))
 
-word4-requires : tie.Need-word4-requires Inv-loop μ-loop
-word4-requires c κs = omega (arith, c .before .loop .inv .1 .aligned)
-
 loop-again : tie.Need-loop-again Inv-loop μ-loop
-loop-again c = (omega (arith, c .before .before .before .loop .inv .1 .aligned), let l = c .before .before .before in let a = l .before .before .args in laws.measure-on (a .log .now) (a .base) (a .term) (a .high) (a .at) (l .loop .gap) (l .loop .inv .1) (omega arith) (sym (c .before .word4 .ensures .0) ∙ c .if1 .left))
+loop-again c = (omega (arith, c .before .before .before .loop .inv .1 .aligned), let l = c .before .before .before in let a = l .before .before .args in laws.measure-on (a .log .now) (a .base) (a .term) (a .high) (a .at) (l .loop .gap) (l .loop .inv .1) (omega arith) (eqb-true _ _ (sym (c .before .is-free .ensures) ∙ not-false _ (c .if1 .left))))
 
 returns : tie.Need-returns Inv-loop μ-loop
 returns c =
@@ -32,7 +31,7 @@ returns-2 : tie.Need-returns-2 Inv-loop μ-loop
 returns-2 c =
     let l = c .before .before .before in
     let a = l .before .before .args in
-    laws.measure-word (a .log .now) (a .base) (a .term) (a .high) (a .at) (l .loop .gap) (l .loop .inv .1) (λ q. c .if1 .taken (c .before .word4 .ensures .0 ∙ q))
+    laws.measure-word (a .log .now) (a .base) (a .term) (a .high) (a .at) (l .loop .gap) (l .loop .inv .1) (eqb-false _ _ (sym (c .before .is-free .ensures) ∙ not-true _ (c .if1 .taken)))
 
 pub gap-length-spec : {M : Type 1} → statement M
 gap-length-spec =
@@ -44,7 +43,7 @@ gap-length-spec =
     (λ c. omega arith)
     (λ c. omega arith)
     (λ c. omega arith)
-    word4-requires
+    (search needs)
     (λ c. omega arith)
     (λ c. omega arith)
     loop-again

@@ -49,7 +49,7 @@ join-frame-requires : tie.Need-join-frame-requires
 join-frame-requires c κs =
     let q = c .before .before .before .before .before in
     let f = framed q (c .before .before .before .enum-told .given .1) in
-    (q .before .place .ensures .1 .1, (f .header, f .whole))
+    (q .before .place .ensures .1 .1, (f .finished, (f .header, f .whole)))
 
 returns : tie.Need-returns
 returns c = three _ _ (is (c .before .before .before) (Refuse (c .before .e .given .0 .0)) (c .before .e .given .1))
