@@ -4,4 +4,5 @@ mod cards;
 mod descriptor;
 mod reading;
 mod replies;
+mod shelves;
 mod writing;
