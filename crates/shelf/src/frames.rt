@@ -3,6 +3,7 @@ ghost use mathlib.Core.Path.{_≡_};
 ghost use mathlib.Core.Bool.{cond};
 ghost use lib.ListN.{length, drop};
 ghost use Rattle.shelf.specs.Shelf.{sizeAt, framesOf, filled};
+use logbuffer::data_frame_header::HEADER_LENGTH;
 use logbuffer::frame_descriptor;
 use logbuffer::frame_descriptor::ALIGNMENT_MASK;
 use logbuffer::frame_descriptor::FRAME_ALIGNMENT;
@@ -20,19 +21,24 @@ pub(crate) fn size(s: &[u8], at: usize, room: usize) -> usize
     }
 }
 
-// How many frames a term has; 0 where they do not reach its end.
+// How many frames a term has; 0 where they do not reach its end. The bytes of the bodies are added up, and the headers are the rest: of a
+// count that rises by one, the compiler would carry the starts of all 32 columns through the loop.
 pub(crate) fn count(term: &[u8]) -> usize
     ensures { λ r. ⌜ r ≡ cond (filled (now (term .entry))) (length (framesOf (now (term .entry)))) 0 ⌝ }
 {
     let mut at = 0;
-    let mut n = 0;
+    let mut bodies = 0;
     loop {
         let z = size(term, at, term.len() - at);
         if z == 0 {
             break;
         }
         at += z;
-        n += 1;
+        bodies += z - HEADER_LENGTH;
     }
-    if at == term.len() { n } else { 0 }
+    if at == term.len() {
+        (at - bodies) / HEADER_LENGTH
+    } else {
+        0
+    }
 }
