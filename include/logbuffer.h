@@ -1,5 +1,5 @@
-/* The log buffer for C: an excavation's log as Aeron lays it out, each function proved equal to a definition in crates/model/specs, or for
- * find cards in crates/card/specs.
+/* The log buffer for C: an excavation's log as Aeron lays it out, each function proved equal to a definition in crates/model/specs, for
+ * find cards in crates/card/specs, for finished terms on the shelf in crates/shelf/specs.
  *
  *   rt staticlib capi                                             builds target/staticlib/libcapi.a (x86-64)
  *   cc -I include program.c target/staticlib/libcapi.a            links it; it needs nothing else
@@ -26,6 +26,7 @@
  *    9  the same, and not connected                   18  assembler: a 17th session; or fragments longer than their part
  *                                                         (their session stays entered, emptied)
  *                                                     21  a find card, or bytes, that break its format
+ *                                                     26  frames that do not fill the term; shelf bytes that no term gives
  *
  * An example
  *
@@ -121,6 +122,9 @@ struct logbuffer_card {
 
 /* The bytes of the longest card. */
 enum { LOGBUFFER_CARD_MAX_LENGTH = 270 };
+
+/* The bytes that a finished term on the shelf has more than the term: its count of frames. */
+enum { LOGBUFFER_SHELF_COUNT_LENGTH = 4 };
 
 /* Where a message lies. */
 enum { LOGBUFFER_NOTHING = 0, LOGBUFFER_IN_LOG = 1, LOGBUFFER_IN_BUFFER = 2 };
@@ -478,6 +482,22 @@ struct logbuffer_card_write_reply logbuffer_card_write(struct logbuffer_card car
 
 /* Reads a card: accepts just what logbuffer_card_write makes, to the last byte. Refuses 1 (a slice over 2147483647), 21. */
 struct logbuffer_card_read_reply logbuffer_card_read(const uint8_t *bytes, size_t bytes_length);
+
+/* ---- finished terms on the shelf: all headers of a term together, and back */
+
+/* Lays the term of a partition, 0 to 2, out anew, if sound, finished frames reach its end: the count of its frames, n; byte 0 of every
+ * header in order, then byte 1, up to byte 31, byte b of frame k at out[4 + b * n + k]; then from out[4 + 32 * n] on every body with its
+ * slack. Frames are judged by their length alone; padding is a frame. out has the term length and 4 bytes more. Answers 0, or refuses 1
+ * (partition; length of out), 2, 26 (the frames do not reach the term's end: a free or unfinished frame, a length of 1 to 31, an end past
+ * the term), and leaves out as it was. */
+int32_t logbuffer_shelve(struct logbuffer_record rec, const uint8_t *log, size_t log_length, int32_t partition, uint8_t *out,
+                         size_t out_length);
+
+/* Gives back every byte of the term that a shelf came from; no log is needed. out has the record's term length. Accepts just what
+ * logbuffer_shelve makes of some term of that length. Answers 0, or refuses 1 (length of out; shelf over 2147483647), 2 (the record
+ * alone), 26 (a shelf of another length than the term's and 4, headers that are too many, too few or have no length that a frame can
+ * have), and leaves out as it was. */
+int32_t logbuffer_unshelve(struct logbuffer_record rec, const uint8_t *shelf, size_t shelf_length, uint8_t *out, size_t out_length);
 
 #ifdef __cplusplus
 }

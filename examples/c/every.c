@@ -235,6 +235,27 @@ static void cards(void) {
     SAY("card_write", "code length", w.code, w.length);
 }
 
+/* A term full of messages of 33 to 64 bytes, with padding at its end, laid on the shelf and taken back; a term that is not full; a shelf with
+ * one header more; an output that is too short. */
+static void shelves(void) {
+    static uint8_t shelf[TERM + LOGBUFFER_SHELF_COUNT_LENGTH], back[TERM], message[64];
+    memset(message, 9, sizeof message);
+    struct logbuffer_record_reply r = logbuffer_open(second_log, sizeof second_log, TERM, 96, 7, 33, 44);
+    r = logbuffer_set_publication_limit(r.next, 2 * TERM);
+    struct logbuffer_offer_reply o = {r.next, 0, 0};
+    for (size_t k = 0; o.code == 0; k++) o = logbuffer_offer(o.next, second_log, sizeof second_log, message, 33 + k % 32, 0);
+    SAY("shelve", "code", logbuffer_shelve(o.next, second_log, sizeof second_log, 0, shelf, sizeof shelf));
+    size_t n = shelf[0] + 256 * shelf[1];
+    SAY("  shelf", "frames length length flags type last_type body body", n, shelf[4], shelf[5], shelf[4 + 5 * n], shelf[4 + 6 * n],
+        shelf[4 + 6 * n + n - 1], shelf[4 + 32 * n], shelf[4 + 32 * n + 33]);
+    SAY("unshelve", "code", logbuffer_unshelve(o.next, shelf, sizeof shelf, back, sizeof back));
+    SAY("  term", "is_the_same", memcmp(back, second_log, TERM) == 0);
+    SAY("shelve", "code", logbuffer_shelve(o.next, second_log, sizeof second_log, 1, shelf, sizeof shelf));
+    shelf[0]++;
+    SAY("unshelve", "code", logbuffer_unshelve(o.next, shelf, sizeof shelf, back, sizeof back));
+    SAY("unshelve", "code", logbuffer_unshelve(o.next, shelf, sizeof shelf, back, sizeof back - 1));
+}
+
 int main(void) {
     numbers();
     struct logbuffer_record rec = written(), second = appended();
@@ -244,5 +265,6 @@ int main(void) {
     assemblies(second);
     replays(rec);
     cards();
+    shelves();
     return 0;
 }

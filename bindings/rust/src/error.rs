@@ -21,7 +21,7 @@ macro_rules! refusals {
 
         impl Error {
             /// Every refusal, by number.
-            pub const ALL: [Error; 19] = [$(Error::$name),*];
+            pub const ALL: [Error; 20] = [$(Error::$name),*];
 
             /// What the refusal is given for, in one line.
             ///
@@ -103,10 +103,13 @@ refusals! {
     21 BrokenCard
         "a find card, or bytes, that break its format"
         "of a card, mend the material (1 to 9) or the note (1 to 255 bytes); of bytes, pass the message over: it is no card"
+    26 NotFilled
+        "frames that do not fill the term, or shelf bytes that no term of that length gives"
+        "of a term, wait until it is full and every claim in it is committed or aborted; of a shelf, it was damaged or is of another term length"
 }
 
 impl Error {
-    /// The refusal's number: 1 to 18, or 21 for a card.
+    /// The refusal's number: 1 to 18, 21 for a card, 26 for the shelf.
     ///
     /// ```
     /// assert_eq!(logbuffer::Error::BackPressured.number(), 8);

@@ -22,6 +22,7 @@
 //! - [`Claim`] and [`OpenClaim`]: a frame to be written in place.
 //! - [`Poller`]: a reader at a position. [`Assembler`]: messages out of fragments. [`Replay`]: both, from the start.
 //! - [`Card`]: a find card, a message body of one format.
+//! - [`Log::shelve`], [`Record::unshelve`]: a finished term with all its headers together, and back.
 //! - [`Error`]: the refusals, with cause and remedy. An offer or claim refused with [`Error::AdminAction`] is to be made again.
 //!
 //! A [`Log`] is `Send` and `Sync`: writing takes `&mut`, so threads that write share it behind a lock.
@@ -42,6 +43,7 @@ mod log;
 mod poller;
 mod replay;
 mod scan;
+mod shelf;
 #[allow(unsafe_code)]
 mod sys;
 

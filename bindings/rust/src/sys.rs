@@ -261,6 +261,10 @@ mod face {
             card: Card, note: In, note_length: usize, out: Out, out_length: usize,
         ) -> CardWriteReply;
         pub fn logbuffer_card_read(bytes: In, bytes_length: usize) -> CardReadReply;
+        pub fn logbuffer_shelve(
+            rec: Record, log: In, log_length: usize, partition: i32, out: Out, out_length: usize,
+        ) -> i32;
+        pub fn logbuffer_unshelve(rec: Record, shelf: In, shelf_length: usize, out: Out, out_length: usize) -> i32;
     }
 }
 
@@ -472,4 +476,14 @@ pub fn card_write(card: Card, note: &[u8], out: &mut [u8]) -> CardWriteReply {
 pub fn card_read(bytes: &[u8]) -> CardReadReply {
     // SAFETY: pointers and lengths are those of the slices.
     unsafe { face::logbuffer_card_read(bytes.as_ptr(), bytes.len()) }
+}
+
+pub fn shelve(rec: Record, log: &[u8], partition: i32, out: &mut [u8]) -> i32 {
+    // SAFETY: pointers and lengths are those of the slices.
+    unsafe { face::logbuffer_shelve(rec, log.as_ptr(), log.len(), partition, out.as_mut_ptr(), out.len()) }
+}
+
+pub fn unshelve(rec: Record, shelf: &[u8], out: &mut [u8]) -> i32 {
+    // SAFETY: pointers and lengths are those of the slices.
+    unsafe { face::logbuffer_unshelve(rec, shelf.as_ptr(), shelf.len(), out.as_mut_ptr(), out.len()) }
 }

@@ -20,7 +20,7 @@ fn every_refusal_is_a_row_of_the_table() {
 fn numbers_go_there_and_back() {
     for number in -3..30 {
         let error = Error::from_number(number);
-        assert_eq!(error.is_some(), (1..=18).contains(&number) || number == 21);
+        assert_eq!(error.is_some(), (1..=18).contains(&number) || [21, 26].contains(&number));
         assert_eq!(error.map(Error::number), error.map(|_| number));
         assert_eq!(Error::try_from(number), error.ok_or(number));
     }
