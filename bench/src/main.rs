@@ -1,7 +1,8 @@
 //! How long the port and the given Rust take for the same calls on the same inputs, in one run: a table of nanoseconds and ratios.
-//! The two sides take turns, round by round; a row tells the medians of its rounds. Read port.rs next.
+//! The two sides take turns, round by round; a row tells the medians of its rounds. Read port.rs and shelves.rs next.
 
 mod port;
+mod shelves;
 
 use std::hint::black_box;
 use std::time::Instant;
@@ -182,4 +183,5 @@ fn main() {
     replays(8_192, 4_000);
     scans(100_000);
     opening();
+    shelves::rows();
 }

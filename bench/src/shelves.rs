@@ -51,11 +51,13 @@ fn term(name: &str, term: usize, body: usize, times: usize) {
     let (rec, kib) = (record(term), term / 1024 * times);
     let (mut shelf, mut back, mut copy) = (vec![0u8; term + 4], vec![0u8; term], vec![0u8; term]);
     let shelve = |shelf: &mut [u8]| unsafe { logbuffer_shelve(rec, log.as_ptr(), log.len(), 0, shelf.as_mut_ptr(), shelf.len()) };
-    let unshelve =
-        |shelf: &[u8], back: &mut [u8]| unsafe { logbuffer_unshelve(rec, shelf.as_ptr(), shelf.len(), back.as_mut_ptr(), back.len()) };
+    let unshelve = |shelf: &[u8], back: &mut [u8]| unsafe {
+        logbuffer_unshelve(rec, shelf.as_ptr(), shelf.len(), back.as_mut_ptr(), back.len())
+    };
     assert_eq!((shelve(&mut shelf), unshelve(&shelf, &mut back)), (0, 0));
     assert!(back == log[..term]);
-    let mut copied = || (0..times).for_each(|_| std::hint::black_box(&mut copy).copy_from_slice(std::hint::black_box(&log[..term])));
+    let mut copied =
+        || (0..times).for_each(|_| std::hint::black_box(&mut copy).copy_from_slice(std::hint::black_box(&log[..term])));
     row(&format!("shelve, bodies of {body}, {name}, beside memcpy, a KiB"), kib, &mut copied, || {
         (0..times).for_each(|_| assert_eq!(shelve(std::hint::black_box(&mut shelf)), 0))
     });

@@ -207,7 +207,8 @@ impl Random {
             0 => drop(shelf.pop()),
             1 => shelf.push(self.next() as u8),
             2 => shelf.truncate(at),
-            3 => shelf[..4].copy_from_slice(&[0, n - 1, n + 1, n | 1 << 31, u32::MAX, self.next() as u32][self.below(6)].to_le_bytes()),
+            3 => shelf[..4]
+                .copy_from_slice(&[0, n - 1, n + 1, n | 1 << 31, u32::MAX, self.next() as u32][self.below(6)].to_le_bytes()),
             4 => self.fill(shelf),
             5 => shelf[at] = self.next() as u8,
             // a byte of some length word, by one bit or by any

@@ -76,6 +76,21 @@ fn a_term_with_an_open_claim_is_not_filled() {
     }
 }
 
+#[test]
+fn older_frames_behind_the_newest_may_fill_a_term() {
+    let mut log = log();
+    while log.record().active_term_count < 3 {
+        assert!(matches!(log.offer(&[9; 64]), Ok(_) | Err(Error::AdminAction)));
+    }
+    let before = log.shelve(0).unwrap();
+    log.offer(&[9; 64]).unwrap();
+    let n = u32::from_le_bytes(before[..4].try_into().unwrap()) as usize;
+    let shelf = log.shelve(0).unwrap();
+    let ids = 4 + 20 * n..4 + 21 * n; // the lowest bytes of the term ids
+    assert!(before[ids.clone()].iter().all(|id| *id == 7));
+    assert_eq!((shelf[ids.start], &shelf[ids.start + 1..ids.end]), (10, &before[ids.start + 1..ids.end]));
+}
+
 /// A log with one frame over the whole first term, changed in one place.
 fn one_frame(change: impl FnOnce(&mut [u8])) -> Result<Vec<u8>, Error> {
     let log = made(|_, bytes| {
