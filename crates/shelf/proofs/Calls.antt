@@ -49,12 +49,14 @@ lent-by v p log out g w =
       size = omega (arith, leb-true out 2147483647 (b .0), eqb-true (v .term) ((out + 4294967292) % 4294967296) (b .1), s .term-low, s .term-high);
     }
 
-pub term-size : (v : Reading) (shelf out : ℕ) → goodUnshelve v shelf out ≡ true → soundRecord v ≡ true → out ≤ 1073741824
-term-size v shelf out g w =
-    let s = sound-record-true v w in
+-- the output of the way back has the term's size
+pub output-size : (v : Reading) (shelf out : ℕ) → goodUnshelve v shelf out ≡ true → out ≡ v .term
+output-size v shelf out g =
     let a = and-true (leb shelf 2147483647) (leb out 2147483647 && eqb out (v .term)) g in
-    let b = and-true (leb out 2147483647) (eqb out (v .term)) (a .1) in
-    omega (arith, s .term-high, eqb-true out (v .term) (b .1))
+    eqb-true out (v .term) (and-true (leb out 2147483647) (eqb out (v .term)) (a .1) .1)
+
+pub term-size : (v : Reading) (shelf out : ℕ) → goodUnshelve v shelf out ≡ true → soundRecord v ≡ true → out ≤ 1073741824
+term-size v shelf out g w = omega (arith, sound-record-true v w .term-high, output-size v shelf out g)
 
 -- the answer by the rows, and the output by the answer
 pub row-1 : (good sound fit : Bool) → good ≡ false → rows good sound fit ≡ Refused IllegalArgument

@@ -1,5 +1,5 @@
 -- The round trip of the two calls, and that refusals leave the output as it was.
-use mathlib.Core.Path.{_≡_, refl, sym, ap, ap₂, _∙_}
+use mathlib.Core.Path.{_≡_, refl, sym, ap, _∙_}
 use Prim.Native.Nat.{ℕ, _+_, _*_}
 use mathlib.Core.Bool.{Bool, true, false}
 use mathlib.Core.List.{List}
@@ -16,9 +16,9 @@ use Rattle.shelf.specs.declared.Shelved.{Shelved}
 use Rattle.shelf.specs.declared.Shelved.the-variants.{Done, Refused}
 use Rattle.shelf.specs.Shelf.{filled, shelfOf, accepted, termOf}
 use Rattle.shelf.specs.Calls.{rows, outputBy, goodShelve, goodUnshelve, lent, shelveOf, shelveBytes, unshelveOf, unshelveBytes}
-use Rattle.shelf.specs.Theorems.{ThereAndBack, Untouched}
-use Rattle.shelf.proofs.RoundTrips.{term-back}
-use Rattle.shelf.proofs.Calls.{lent-by, no-row, accepted-long}
+use Rattle.shelf.specs.Theorems.{ThereAndBack, OnlyShelves, Untouched}
+use Rattle.shelf.proofs.RoundTrips.{term-back, shelf-back}
+use Rattle.shelf.proofs.Calls.{lent-by, output-size, no-row, accepted-long}
 
 -- ---- refusals
 
@@ -70,3 +70,12 @@ there-and-back rec log partition out back h b =
           ∙ ap (λ (x : Shelved). outputBy x (termOf (length back) (shelfOf t)) back) d
           ∙ ap (λ (x : ℕ). termOf x (shelfOf t)) (sym n) ∙ r .1,
     )
+
+pub only-shelves : OnlyShelves
+unfolding unshelveOf unshelveBytes
+only-shelves rec shelf out bytes h =
+    let v = reading rec in
+    let w = went (goodUnshelve v (length shelf) (length out)) (soundRecord v) (accepted (length out) shelf) h in
+    let e = ap (λ (x : Shelved). outputBy x (termOf (length out) shelf) out) h in
+    let r = shelf-back (length out) shelf bytes (w .1 .1) in
+    (ap filled e ∙ r .0, (ap length e ∙ r .1 .0 ∙ output-size v (length shelf) (length out) (w .0), ap shelfOf e ∙ r .1 .1))

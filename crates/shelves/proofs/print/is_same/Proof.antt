@@ -1,6 +1,5 @@
 -- The index stays within the bytes, of which both have as many.
 use Prim.Native.Nat.{_≤_, _-_}
-use native.Mathlib.Omega.{arith}
 use borrow.Author.Needs.{needs}
 use lib.ListN.{length}
 use Rattle.shelves.proofs.print.is_same.Statement.{statement}
