@@ -1,17 +1,18 @@
-// The count at a shelf's beginning, and bytes copied from one slice into another. Those of `logbuffer` are its own, with a `requires`.
+// The count at a shelf's beginning, and bytes copied from one slice into another. `logbuffer` has the like, but shows no function that asks for
+// bounds to other crates.
 ghost use mathlib.Core.Path.{_≡_};
 ghost use Prim.Native.Nat.{_+_, _≤_, _<_};
 ghost use lib.ListN.{length, take, drop};
 ghost use Rattle.model.specs.Bytes.{le4, u32 as wordOf, splice};
+
+// The bytes of the count.
+pub(crate) const COUNT_LENGTH: usize = 4;
 
 fn wide(b: u8) -> usize
     ensures { λ r. ⌜ (r ≡ b) × (r < 256) ⌝ }
 {
     b as usize
 }
-
-// Its length.
-pub(crate) const COUNT_LENGTH: usize = 4;
 
 pub(crate) fn count_on(shelf: &[u8]) -> usize
     requires { ⌜ 4 ≤ length (now shelf) ⌝ }

@@ -1,4 +1,4 @@
-// A filled term laid on the shelf, in one walk: each byte is written once.
+// A filled term laid on the shelf, in one walk: each byte is written once. Read taking next.
 ghost use mathlib.Core.Path.{_≡_};
 ghost use mathlib.Core.Bool.{true};
 ghost use Prim.Native.Nat.{_+_, _*_, _≤_, _<_};
@@ -10,7 +10,7 @@ use crate::bytes::COUNT_LENGTH;
 use crate::frames;
 use logbuffer::data_frame_header::HEADER_LENGTH;
 
-// The header at an index of a term into byte k of every column.
+// The header at an index of a term, that of frame k of n: byte b of it is byte k of column b.
 fn scatter(term: &[u8], at: usize, out: &mut [u8], n: usize, k: usize)
     requires { ⌜ (at + 32 ≤ length (now term)) × ((k < n) × (4 + 32 * n ≤ length (now out))) ⌝ }
     ensures { λ _. ⌜ Scattered (now (term .entry)) at n k 32 (now (out .entry)) (now (out .exit)) ⌝ }

@@ -10,7 +10,7 @@ use crate::bytes::COUNT_LENGTH;
 use crate::frames;
 use logbuffer::data_frame_header::HEADER_LENGTH;
 
-// Header k of a shelf of n frames.
+// Header k of a shelf of n frames, put together at an index of the output.
 fn gather(shelf: &[u8], n: usize, k: usize, out: &mut [u8], to: usize)
     requires { ⌜ (k < n) × ((4 + 32 * n ≤ length (now shelf)) × (to + 32 ≤ length (now out))) ⌝ }
     ensures { λ _. ⌜ now (out .exit) ≡ splice (now (out .entry)) to (headerOn (now (shelf .entry)) n k) ⌝ }
@@ -42,7 +42,7 @@ fn fits(shelf: &[u8], n: usize, term: usize) -> bool
     room == 0
 }
 
-// Whether a term of so many bytes gives these.
+// Whether a term of so many bytes gives this shelf. The headers that are counted must have room in it, so that they can be looked at.
 pub(crate) fn accepts(shelf: &[u8], term: usize) -> bool
     requires { ⌜ term ≤ 1073741824 ⌝ }
     ensures { λ r. ⌜ r ≡ accepted term (now (shelf .entry)) ⌝ }
