@@ -8,14 +8,14 @@ use native.Mathlib.Omega.{arith}
 use borrow.Author.Tests.{le-leb, lt-leb, lt-ltb, le-ltb}
 use lib.ListN.{drop}
 use lib.IntN.{pos}
-use Rattle.model.specs.declared.Error.the-variants.{UnsoundFrame}
 use Rattle.model.specs.declared.Verdict.the-variants.{Pass, Refuse}
 use Rattle.model.specs.declared.Frame.{Frame}
 use Rattle.model.specs.declared.Frame.the-variants.{Absent, Unsound}
 use Rattle.model.specs.declared.AvailabilityScanned.{AvailabilityScanned}
 use Rattle.model.specs.declared.AvailabilityScanned.the-variants.{Outcome, Refused}
-use Rattle.model.specs.FrameDescriptor.{frameAt, isUnsound}
+use Rattle.model.specs.FrameDescriptor.{frameAt, isUnsound, unsoundFrame, unsoundFrameAt}
 use Rattle.model.specs.TermScan.{Available, counted, availableOver, availableFrom, availabilityBy}
+use Rattle.model.proofs.FrameLaws.{unsound-refusal}
 
 -- the two numbers as one
 abbrev pub outcome : ℕ → ℕ → AvailabilityScanned
@@ -28,12 +28,12 @@ module _ (log : List ℕ) (base term at most : ℕ) where
   abbrev whole : Available
   whole = availableFrom term log base term at most 0 0
 
-  -- row 17
+  -- whether the first frame is unsound
   abbrev first : Bool
   first = isUnsound (frameAt (drop (base + at) log) (term - at))
 
   abbrev answer : AvailabilityScanned
-  answer = availabilityBy whole (cond first (Refuse UnsoundFrame) Pass)
+  answer = availabilityBy whole (cond first (Refuse (unsoundFrameAt log base at)) Pass)
 
   pub record Availing (available padding : ℕ) : Type 0 where
     pub fuel : ℕ
@@ -57,7 +57,7 @@ module _ (log : List ℕ) (base term at most : ℕ) where
 
   comes : (available padding : ℕ) → whole ≡ record { available = available; padding = padding } → first ≡ false → outcome available padding ≡ answer
   comes available padding e f =
-      ap (λ (w : Available). availabilityBy w Pass) (sym e) ∙ ap (λ (b : Bool). availabilityBy whole (cond b (Refuse UnsoundFrame) Pass)) (sym f)
+      ap (λ (w : Available). availabilityBy w Pass) (sym e) ∙ ap (λ (b : Bool). availabilityBy whole (cond b (Refuse (unsoundFrameAt log base at)) Pass)) (sym f)
 
   turn : (f available padding : ℕ) (g : Availing available padding) (x : Frame) → g .fuel ≡ f → seen available ≡ x
       → whole ≡ availableOver x available padding most (λ a p. availableFrom (f - 1) log base term at most a p)
@@ -72,14 +72,16 @@ module _ (log : List ℕ) (base term at most : ℕ) where
   pub available-absent : (available padding : ℕ) → Availing available padding → seen available ≡ Absent → outcome available padding ≡ answer
   available-absent available padding g e = comes available padding (turn (g .fuel) available padding g Absent refl e) (first-seen available Absent (g .begun) e refl)
 
-  pub available-unsound : (available padding : ℕ) → Availing available padding → seen available ≡ Unsound → (available ≡ 0 → ⊥) → outcome available padding ≡ answer
-  available-unsound available padding g e n =
-      comes available padding (turn (g .fuel) available padding g Unsound refl e) (⊎-elim (λ (p : available ≡ 0). absurd (n p)) (λ (f : first ≡ false). f) (g .begun))
+  pub available-unsound : (available padding m : ℕ) → Availing available padding → seen available ≡ Unsound m → (available ≡ 0 → ⊥) → outcome available padding ≡ answer
+  available-unsound available padding m g e n =
+      comes available padding (turn (g .fuel) available padding g (Unsound m) refl e) (⊎-elim (λ (p : available ≡ 0). absurd (n p)) (λ (f : first ≡ false). f) (g .begun))
 
-  pub available-first : (available : ℕ) → available ≡ 0 → seen available ≡ Unsound → Refused UnsoundFrame ≡ answer
-  available-first available p e =
+  pub available-first : (available m : ℕ) → available ≡ 0 → seen available ≡ Unsound m → Refused (unsoundFrame m at) ≡ answer
+  available-first available m p e =
       let f : first ≡ true = sym (seen-first available p) ∙ ap isUnsound e in
-      sym (ap (λ (b : Bool). availabilityBy whole (cond b (Refuse UnsoundFrame) Pass)) f)
+      let o : at + available ≡ at = omega arith in
+      let q : frameAt (drop (base + at) log) (term - at) ≡ Unsound m = ap (λ (x : ℕ). frameAt (drop (base + x) log) (term - x)) (sym o) ∙ e in
+      ap Refused (unsound-refusal log base term at m q) ∙ sym (ap (λ (b : Bool). availabilityBy whole (cond b (Refuse (unsoundFrameAt log base at)) Pass)) f)
 
   -- a frame of which `size` bytes count, with `pad` of padding behind them
   module _ (available padding size pad : ℕ) (g : Availing available padding) (x : Frame) (e : seen available ≡ x) (u : isUnsound x ≡ false)

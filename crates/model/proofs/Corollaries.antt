@@ -128,7 +128,7 @@ module _ (log : List ℕ) (base term end : ℕ) where
       → ((a l : ℕ) → Passes a (walk fuel log base term end a l [])) → Passes at (over x whole at limit [] (λ a l more. walk fuel log base term end a l more))
   unfolding LieTo bodiesOf
   passes-over at limit fuel whole Absent e ih = none at
-  passes-over at limit fuel whole Unsound e ih = none at
+  passes-over at limit fuel whole (Unsound n) e ih = none at
   passes-over at limit fuel whole (Padding n) e ih =
       let p = ih (at + align n) (suc limit) in
       record {

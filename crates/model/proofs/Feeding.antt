@@ -17,9 +17,9 @@ use Rattle.model.specs.declared.Joining.{Joining}
 use Rattle.model.specs.declared.Joining.the-variants.{Through, Ignore, Full, TooLong, Join, Complete}
 use Rattle.model.specs.declared.Assembled.the-variants.{Refused as AssemblyRefused}
 use Rattle.model.specs.declared.Verdict.the-variants.{Pass, Refuse}
-use Rattle.model.specs.declared.Error.the-variants.{IllegalArgument, IllegalRecord, UnsoundFrame}
+use Rattle.model.specs.declared.Error.the-variants.{IllegalArgument, IllegalRecord}
 use Rattle.model.specs.Bytes.{zeros, le2, le4, le8, u32, i32}
-use Rattle.model.specs.FrameDescriptor.{align, isFinished, flagsAt}
+use Rattle.model.specs.FrameDescriptor.{align, isFinished, unsoundFrameAt, flagsAt}
 use Rattle.model.specs.DataFrameHeader.{header24}
 use Rattle.model.specs.LogBufferDescriptor.{reading, sound, Sound}
 use Rattle.model.specs.TermReader.{numbers}
@@ -116,7 +116,7 @@ module _ (r : LogRecord) (log : List ℕ) (snd : Sound (reading r) (length log))
         (both-true (le-leb (length buffer) 2147483647 small) (both-true (le-leb k 2 third)
         (both-true (both-true (eq-eqb (at % 32) 0 on) (both-true (le-leb (at + 1) T (omega (arith, aligned))) (le-leb T 2147483647 (omega (arith, snd .term-high))))) framed)))
         ∙ cond-true (sound (reading r) (length log)) _ (Refuse IllegalRecord) good
-        ∙ ap₂ (λ (x y : Bool). cond (x || y) (Refuse UnsoundFrame) Pass) (le-ltb (u32 (drop (k * T + at) log)) 32 (omega (arith, shows))) (le-ltb (T - at) (align (u32 (drop (k * T + at) log))) (omega (arith, shows, aligned)))
+        ∙ ap₂ (λ (x y : Bool). cond (x || y) (Refuse (unsoundFrameAt log (k * T) at)) Pass) (le-ltb (u32 (drop (k * T + at) log)) 32 (omega (arith, shows))) (le-ltb (T - at) (align (u32 (drop (k * T + at) log))) (omega (arith, shows, aligned)))
 
     -- what the call says, by the frame's own numbers
     abbrev says : ℕ → ℤ → ℕ → List ℕ → Assembly

@@ -1,6 +1,6 @@
 -- What a sound finished frame is: a header at least, and inside the term.
 use mathlib.Core.Path.{_≡_, refl, sym, ap, _∙_}
-use Prim.Native.Nat.{ℕ, _-_, _≤_, _<_}
+use Prim.Native.Nat.{ℕ, _+_, _-_, _≤_, _<_}
 use mathlib.Core.Bool.{Bool, true, false, cond, _||_}
 use mathlib.Core.List.{List}
 use native.Mathlib.Omega.{arith}
@@ -12,7 +12,7 @@ use Rattle.model.specs.declared.FrameLength.the-variants.{Free, Writing,
 use Rattle.model.specs.declared.Frame.{Frame}
 use Rattle.model.specs.declared.Frame.the-variants.{Absent, Unsound, Padding, Data}
 use Rattle.model.specs.Bytes.{u16, u32}
-use Rattle.model.specs.FrameDescriptor.{align, frameLength, isFinished, frameBy, frameAt}
+use Rattle.model.specs.FrameDescriptor.{align, frameLength, isFinished, frameBy, frameAt, isUnsound, unsoundFrame, unsoundFrameAt}
 
 pub record Lies (n room : ℕ) : Type 0 where
   pub header : 32 ≤ n
@@ -22,23 +22,23 @@ pub record Lies (n room : ℕ) : Type 0 where
 -- a padding or a data frame, and its length
 abbrev pub isFrame : Frame → Bool
 isFrame Absent = false
-isFrame Unsound = false
+isFrame (Unsound n) = false
 isFrame (Padding n) = true
 isFrame (Data n) = true
 
 abbrev pub lengthOf : Frame → ℕ
 lengthOf Absent = 0
-lengthOf Unsound = 0
+lengthOf (Unsound n) = 0
 lengthOf (Padding n) = n
 lengthOf (Data n) = n
 
 clash : {A : Type 0} (y x : Frame) → isFrame y ≡ false → y ≡ x → isFrame x ≡ true → A
 clash y x n e h = let t : false ≡ true = sym n ∙ ap isFrame e ∙ h in absurd (let z : _≡_ {A = ℕ} 0 1 = cc in omega arith)
 
-finished : (b1 b2 b3 : Bool) (w room : ℕ) (x : Frame) → w < 2147483648 → ltb w 32 ≡ b1 → ltb room (align w) ≡ b2 → cond (b1 || b2) Unsound (cond b3 (Padding w) (Data w)) ≡ x
+finished : (b1 b2 b3 : Bool) (w room : ℕ) (x : Frame) → w < 2147483648 → ltb w 32 ≡ b1 → ltb room (align w) ≡ b2 → cond (b1 || b2) (Unsound w) (cond b3 (Padding w) (Data w)) ≡ x
     → isFrame x ≡ true → Lies (lengthOf x) room
-finished true b2 b3 w room x l e1 e2 e h = clash Unsound x refl e h
-finished false true b3 w room x l e1 e2 e h = clash Unsound x refl e h
+finished true b2 b3 w room x l e1 e2 e h = clash (Unsound w) x refl e h
+finished false true b3 w room x l e1 e2 e h = clash (Unsound w) x refl e h
 finished false false true w room x l e1 e2 e h =
     let q : w ≡ lengthOf x = ap lengthOf e in
     record { header = omega (arith, ltb-false w 32 e1); inside = rw q at (ltb-false room (align w) e2); small = omega arith }
@@ -55,6 +55,34 @@ by-sign false true t room w x e2 e h = finished (ltb w 32) (ltb room (align w)) 
 pub lies : (s : List ℕ) (room : ℕ) (x : Frame) → frameAt s room ≡ x → isFrame x ≡ true → Lies (lengthOf x) room
 unfolding frameAt frameLength
 lies s room x e h = by-sign (eqb (u32 s) 0) (ltb (u32 s) 2147483648) (u16 (drop 6 s)) room (u32 s) x refl e h
+
+-- ---- an unsound frame shows its length word, so that its refusal is that of its place
+
+abbrev unsoundOf : Frame → ℕ
+unsoundOf Absent = 0
+unsoundOf (Unsound n) = n
+unsoundOf (Padding n) = 0
+unsoundOf (Data n) = 0
+
+unsound-word : (s : List ℕ) (room m : ℕ) → frameAt s room ≡ Unsound m → m ≡ u32 s
+unfolding frameAt frameLength
+unsound-word s room m e = go (eqb (u32 s) 0) (ltb (u32 s) 2147483648) e
+  where
+    never : (x : Frame) → isUnsound x ≡ false → x ≡ Unsound m → m ≡ u32 s
+    never x f q = let t : false ≡ true = sym f ∙ ap isUnsound q in absurd (let z : _≡_ {A = ℕ} 0 1 = cc in omega arith)
+
+    told : (b c : Bool) → cond b (Unsound (u32 s)) (cond c (Padding (u32 s)) (Data (u32 s))) ≡ Unsound m → m ≡ u32 s
+    told true c q = sym (ap unsoundOf q)
+    told false true q = never (Padding (u32 s)) refl q
+    told false false q = never (Data (u32 s)) refl q
+
+    go : (b1 b2 : Bool) → frameBy (u16 (drop 6 s)) room (cond b1 Free (cond b2 (Finished (u32 s)) (Writing (4294967296 - u32 s)))) ≡ Unsound m → m ≡ u32 s
+    go true b2 q = never Absent refl q
+    go false false q = never Absent refl q
+    go false true q = told (ltb (u32 s) 32 || ltb room (align (u32 s))) (eqb (u16 (drop 6 s)) 0) q
+
+pub unsound-refusal : (log : List ℕ) (base term at m : ℕ) → frameAt (drop (base + at) log) (term - at) ≡ Unsound m → unsoundFrame m at ≡ unsoundFrameAt log base at
+unsound-refusal log base term at m e = ap (λ (n : ℕ). unsoundFrame n at) (unsound-word (drop (base + at) log) (term - at) m e)
 
 -- ---- the length word, by cases, and back
 
@@ -112,14 +140,14 @@ frame-absent s room (Writing n) e h = sym (ap (frameBy (u16 (drop 6 s)) room) e)
 frame-absent s room (Finished n) e h = absurd (let t : true ≡ false = h in let z : _≡_ {A = ℕ} 0 1 = cc in omega arith)
 
 module _ (s : List ℕ) (room n : ℕ) (e : frameLength (u32 s) ≡ Finished n) where
-  by-length : frameAt s room ≡ cond (ltb n 32 || ltb room (align n)) Unsound (cond (eqb (u16 (drop 6 s)) 0) (Padding n) (Data n))
+  by-length : frameAt s room ≡ cond (ltb n 32 || ltb room (align n)) (Unsound n) (cond (eqb (u16 (drop 6 s)) 0) (Padding n) (Data n))
   unfolding frameAt
   by-length = ap (frameBy (u16 (drop 6 s)) room) e
 
-  pub frame-short : n < 32 → Unsound ≡ frameAt s room
+  pub frame-short : n < 32 → Unsound n ≡ frameAt s room
   frame-short h = sym (by-length ∙ rw (lt-ltb n 32 h))
 
-  pub frame-long : 32 ≤ n → room < align n → Unsound ≡ frameAt s room
+  pub frame-long : 32 ≤ n → room < align n → Unsound n ≡ frameAt s room
   frame-long h l = sym (by-length ∙ rw (le-ltb n 32 h, lt-ltb room (align n) l))
 
   pub frame-padding : 32 ≤ n → align n ≤ room → u16 (drop 6 s) ≡ 0 → Padding n ≡ frameAt s room

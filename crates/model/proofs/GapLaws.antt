@@ -9,16 +9,15 @@ use borrow.Author.Tests.{le-leb, lt-leb, eq-eqb, ne-eqb}
 use lib.Dec.{leb}
 use lib.ListN.{length, drop}
 use lib.IntN.{ℤ}
-use Rattle.model.specs.declared.Error.the-variants.{UnsoundFrame}
 use Rattle.model.specs.declared.Verdict.the-variants.{Pass, Refuse}
 use Rattle.model.specs.declared.Frame.{Frame}
 use Rattle.model.specs.declared.Frame.the-variants.{Absent, Unsound, Padding, Data}
 use Rattle.model.specs.declared.GapScanned.{GapScanned}
 use Rattle.model.specs.declared.GapScanned.the-variants.{Gap, NoGap, Refused}
 use Rattle.model.specs.Bytes.{u32}
-use Rattle.model.specs.FrameDescriptor.{align, isWriting, lengthAt, frameAt, isUnsound}
+use Rattle.model.specs.FrameDescriptor.{align, isWriting, lengthAt, frameAt, isUnsound, unsoundFrame, unsoundFrameAt}
 use Rattle.model.specs.TermScan.{Rebuilt, gapOver, rebuild, gapLength, gapBy}
-use Rattle.model.proofs.FrameLaws.{Lies, lies, isFrame, lengthOf}
+use Rattle.model.proofs.FrameLaws.{Lies, lies, isFrame, lengthOf, unsound-refusal}
 
 -- ---- the gap's length
 
@@ -91,12 +90,12 @@ module _ (log : List ℕ) (base term high at : ℕ) where
   abbrev seen : ℕ → Frame
   seen offset = frameAt (drop (base + offset) log) (term - offset)
 
-  -- row 17
+  -- whether the first frame is unsound
   abbrev first : Bool
   first = isUnsound (seen at)
 
   abbrev answer : ℤ → GapScanned
-  answer id = gapBy (gapFound id log base term high (rebuild term log base term high at)) (cond first (Refuse UnsoundFrame) Pass)
+  answer id = gapBy (gapFound id log base term high (rebuild term log base term high at)) (cond first (Refuse (unsoundFrameAt log base at)) Pass)
 
   pub record Rebuilding (offset : ℕ) : Type 0 where
     pub fuel : ℕ
@@ -117,7 +116,7 @@ module _ (log : List ℕ) (base term high at : ℕ) where
   -- it comes to w, and the first frame was not unsound
   comes : (id : ℤ) (w : Rebuilt) → rebuild term log base term high at ≡ w → first ≡ false → gapFound id log base term high w ≡ answer id
   comes id w e f =
-      ap (gapFound id log base term high) (sym e) ∙ ap (λ (b : Bool). gapBy (gapFound id log base term high (rebuild term log base term high at)) (cond b (Refuse UnsoundFrame) Pass)) (sym f)
+      ap (gapFound id log base term high) (sym e) ∙ ap (λ (b : Bool). gapBy (gapFound id log base term high (rebuild term log base term high at)) (cond b (Refuse (unsoundFrameAt log base at)) Pass)) (sym f)
 
   -- one frame, with fuel for it
   turn : (f offset : ℕ) (g : Rebuilding offset) (x : Frame) → g .fuel ≡ f → seen offset ≡ x
@@ -143,26 +142,27 @@ module _ (log : List ℕ) (base term high at : ℕ) where
       q ∙ comes id w (turn (g .fuel) offset g Absent refl e) (first-seen offset Absent (g .begun) e refl)
 
   -- an unsound frame, later or first
-  pub gap-unsound : (id : ℤ) (offset : ℕ) → Rebuilding offset → seen offset ≡ Unsound → (offset ≡ at → ⊥) → NoGap offset ≡ answer id
-  gap-unsound id offset g e n =
-      comes id (record { at = offset; stopped = true }) (turn (g .fuel) offset g Unsound refl e)
+  pub gap-unsound : (id : ℤ) (offset m : ℕ) → Rebuilding offset → seen offset ≡ Unsound m → (offset ≡ at → ⊥) → NoGap offset ≡ answer id
+  gap-unsound id offset m g e n =
+      comes id (record { at = offset; stopped = true }) (turn (g .fuel) offset g (Unsound m) refl e)
       (⊎-elim (λ (p : offset ≡ at). absurd (n p)) (λ (f : first ≡ false). f) (g .begun))
 
-  pub gap-first : (id : ℤ) (offset : ℕ) → offset ≡ at → seen offset ≡ Unsound → Refused UnsoundFrame ≡ answer id
-  gap-first id offset p e =
-      let f : first ≡ true = ap isUnsound (ap seen (sym p) ∙ e) in
-      sym (ap (λ (b : Bool). gapBy (gapFound id log base term high (rebuild term log base term high at)) (cond b (Refuse UnsoundFrame) Pass)) f)
+  pub gap-first : (id : ℤ) (offset m : ℕ) → offset ≡ at → seen offset ≡ Unsound m → Refused (unsoundFrame m at) ≡ answer id
+  gap-first id offset m p e =
+      let q : seen at ≡ Unsound m = ap seen (sym p) ∙ e in
+      let f : first ≡ true = ap isUnsound q in
+      ap Refused (unsound-refusal log base term at m q) ∙ sym (ap (λ (b : Bool). gapBy (gapFound id log base term high (rebuild term log base term high at)) (cond b (Refuse (unsoundFrameAt log base at)) Pass)) f)
 
   over-frame : (x : Frame) (offset : ℕ) (go : ℕ → Rebuilt) → isFrame x ≡ true
       → gapOver x offset high go ≡ cond (leb high (offset + align (lengthOf x))) (record { at = offset + align (lengthOf x); stopped = false }) (go (offset + align (lengthOf x)))
   over-frame Absent offset go h = absurd (let z : _≡_ {A = ℕ} 0 1 = cc in omega arith)
-  over-frame Unsound offset go h = absurd (let z : _≡_ {A = ℕ} 0 1 = cc in omega arith)
+  over-frame (Unsound n) offset go h = absurd (let z : _≡_ {A = ℕ} 0 1 = cc in omega arith)
   over-frame (Padding n) offset go h = refl
   over-frame (Data n) offset go h = refl
 
   not-unsound : (x : Frame) → isFrame x ≡ true → isUnsound x ≡ false
   not-unsound Absent h = refl
-  not-unsound Unsound h = absurd (let z : _≡_ {A = ℕ} 0 1 = cc in omega arith)
+  not-unsound (Unsound n) h = absurd (let z : _≡_ {A = ℕ} 0 1 = cc in omega arith)
   not-unsound (Padding n) h = refl
   not-unsound (Data n) h = refl
 

@@ -11,7 +11,6 @@ use lib.IntN.{ℤ}
 use Rattle.model.specs.declared.LogRecord.{LogRecord}
 use Rattle.model.specs.declared.Place.{Place}
 use Rattle.model.specs.declared.Error.{Error}
-use Rattle.model.specs.declared.Error.the-variants.{UnsoundFrame}
 use Rattle.model.specs.declared.Frame.{Frame}
 use Rattle.model.specs.declared.Frame.the-variants.{Absent, Unsound, Padding, Data}
 use Rattle.model.specs.declared.Verdict.{Verdict}
@@ -21,8 +20,8 @@ use Rattle.model.specs.declared.FramesRead.{FramesRead}
 use Rattle.model.specs.declared.FramesRead.the-variants.{Walked as AllWalked, Refused as WalkRefused}
 use Rattle.model.specs.declared.TermRead.{TermRead}
 use Rattle.model.specs.declared.TermRead.the-variants.{Outcome, Refused}
-use Rattle.model.specs.FrameDescriptor.{align, frameAt}
-use Rattle.model.specs.LogBufferDescriptor.{sound, goodPartition, placeOf, firstRows, row17}
+use Rattle.model.specs.FrameDescriptor.{align, frameAt, unsoundFrameAt}
+use Rattle.model.specs.LogBufferDescriptor.{sound, goodPartition, placeOf, firstRows, frameRow}
 use Rattle.model.specs.TermReader.{Walked, still, over, handed, goodWalk, goodHandler, goodStart, nextAction, restActions, walk, walkOf, firstUnsound, natural, goodEntries, framesBy, framesOf, framesEntries, readWalk, readVerdict, readBy, readOf, readEntries, entriesBy}
 use Rattle.model.proofs.FrameLaws.{Lies, lies}
 use Rattle.model.proofs.Rows.{rows-refuse, rows-pass, rows-then}
@@ -56,7 +55,7 @@ module _ (log : List ℕ) (base term at : ℕ) where
   over-within : (x : Frame) (whole : Bool) (limit : ℕ) (acts : List ℕ) (go : ℕ → ℕ → List ℕ → Walked) → frameAt (drop (base + at) log) (term - at) ≡ x
       → ((a l : ℕ) (more : List ℕ) → Within (go a l more) (term - a)) → Within (over x whole at limit acts go) (term - at)
   over-within Absent whole limit acts go e h = (omega arith, omega arith)
-  over-within Unsound whole limit acts go e h = (omega arith, omega arith)
+  over-within (Unsound n) whole limit acts go e h = (omega arith, omega arith)
   over-within (Padding n) whole limit acts go e h =
       let k : Lies n (term - at) = lies (drop (base + at) log) (term - at) (Padding n) e refl in
       let m = h (at + align n) (suc limit) acts in
@@ -128,11 +127,14 @@ module _ (r : LogRecord) (log : List ℕ) (partition offset limit : ℤ) (slots 
   abbrev first : Bool
   first = firstUnsound log (p .partition * p .read .term) (p .read .term) (p .read .term) (p .offset) most
 
+  abbrev refusal : Error
+  refusal = unsoundFrameAt log (p .partition * p .read .term) (p .offset)
+
   pub read-refused : {e : Error} → rows ≡ Refuse e → (Refused e ≡ readOf r log partition offset limit slots) × (slots ≡ readEntries r log partition offset limit slots)
   unfolding readVerdict
-  read-refused h = by-verdict (rows-refuse (goodRead p most (length slots)) (sound (p .read) (length log)) (row17 first) h)
+  read-refused h = by-verdict (rows-refuse (goodRead p most (length slots)) (sound (p .read) (length log)) (frameRow first refusal) h)
 
-  by-first : (b : Bool) (w : Walked) → readFrom (p .offset) (framesBy w (row17 b)) ≡ readBy (p .offset) w (row17 b)
+  by-first : (b : Bool) (w : Walked) → readFrom (p .offset) (framesBy w (frameRow b refusal)) ≡ readBy (p .offset) w (frameRow b refusal)
   by-first true w = refl
   by-first false w = refl
 
@@ -144,21 +146,21 @@ module _ (r : LogRecord) (log : List ℕ) (partition offset limit : ℤ) (slots 
   read-goes h =
       let g = rows-pass (goodRead p most (length slots)) (sound (p .read) (length log)) h in
       let f = frames-by log (p .partition * p .read .term) (p .read .term) (p .read .term) (p .offset) most [] slots (read-walk p (length log) most (length slots) (g .0) (g .1)) refl in
-      let b = by-verdict (rows-then (goodRead p most (length slots)) (sound (p .read) (length log)) (row17 first) h) in
+      let b = by-verdict (rows-then (goodRead p most (length slots)) (sound (p .read) (length log)) (frameRow first refusal) h) in
       (ap (readFrom (p .offset)) (sym (f .0)) ∙ by-first first (walkAt p most) ∙ b .0, sym (f .1) ∙ b .1)
 
--- where the walk goes at all, it refuses only 17, and moves inside the term
+-- where the walk goes at all, it refuses only the first frame, and moves inside the term
 module _ (log : List ℕ) (base term end at limit : ℕ) (acts : List ℕ) (slots : List ℤ) (h : goodWalk (length log) base term end at limit (length slots) ≡ true) (g : goodHandler acts limit ≡ true) where
-  pub frames-refuse : (e : Error) → framesOf log base term end at limit acts slots ≡ WalkRefused e → e ≡ UnsoundFrame
+  pub frames-refuse : (e : Error) → framesOf log base term end at limit acts slots ≡ WalkRefused e → e ≡ unsoundFrameAt log base at
   frames-refuse e q = go (firstUnsound log base term end at limit) (frames-by log base term end at limit acts slots h g .0 ∙ q)
     where
-      go : (b : Bool) → framesBy (walk term log base term end at limit acts) (cond b (Refuse UnsoundFrame) Pass) ≡ WalkRefused e → e ≡ UnsoundFrame
+      go : (b : Bool) → framesBy (walk term log base term end at limit acts) (cond b (Refuse (unsoundFrameAt log base at)) Pass) ≡ WalkRefused e → e ≡ unsoundFrameAt log base at
       go true t = cc
       go false t = absurd (let z : _≡_ {A = ℕ} 0 1 = cc in omega arith)
 
   pub frames-moved : (w : Walk) → framesOf log base term end at limit acts slots ≡ AllWalked w → w .moved ≤ term - at
   frames-moved w q = go (firstUnsound log base term end at limit) (frames-by log base term end at limit acts slots h g .0 ∙ q)
     where
-      go : (b : Bool) → framesBy (walk term log base term end at limit acts) (cond b (Refuse UnsoundFrame) Pass) ≡ AllWalked w → w .moved ≤ term - at
+      go : (b : Bool) → framesBy (walk term log base term end at limit acts) (cond b (Refuse (unsoundFrameAt log base at)) Pass) ≡ AllWalked w → w .moved ≤ term - at
       go true t = absurd (let z : _≡_ {A = ℕ} 0 1 = cc in omega arith)
       go false t = let e : walkOf (walk term log base term end at limit acts) ≡ w = cc in omega (arith, ap (λ (x : Walk). x .moved) e, walk-moved term log base term end at limit acts)

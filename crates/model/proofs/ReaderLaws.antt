@@ -9,9 +9,10 @@ use lib.Dec.{eqb, leb}
 use lib.ListN.{length}
 use lib.IntN.{ℤ}
 use Rattle.model.specs.declared.FramesRead.the-variants.{Walked as AllWalked, Refused as WalkRefused}
-use Rattle.model.specs.declared.Error.the-variants.{IllegalArgument, UnsoundFrame}
+use Rattle.model.specs.declared.Error.the-variants.{IllegalArgument}
 use Rattle.model.specs.declared.Verdict.the-variants.{Pass, Refuse}
 use Rattle.model.proofs.WalkLoop.{Came, walkBy}
+use Rattle.model.specs.FrameDescriptor.{unsoundFrameAt}
 use Rattle.model.specs.TermReader.{walk, firstUnsound, goodWalk, goodControl, goodHandler, framesVerdict, framesBy, framesOf, framesEntries, entriesBy}
 use Rattle.model.proofs.Both.{and-true}
 
@@ -84,25 +85,25 @@ module _ (log : List ℕ) (base term end at limit : ℕ) (acts : List ℕ) (slot
   frames-refused h = (rw h, rw h)
 
   pub frames-by : goodWalk (length log) base term end at limit (length slots) ≡ true → goodHandler acts limit ≡ true
-      → (framesBy (walk term log base term end at limit acts) (cond (firstUnsound log base term end at limit) (Refuse UnsoundFrame) Pass) ≡ framesOf log base term end at limit acts slots)
-      × (entriesBy slots (walk term log base term end at limit acts) (cond (firstUnsound log base term end at limit) (Refuse UnsoundFrame) Pass) ≡ framesEntries log base term end at limit acts slots)
+      → (framesBy (walk term log base term end at limit acts) (cond (firstUnsound log base term end at limit) (Refuse (unsoundFrameAt log base at)) Pass) ≡ framesOf log base term end at limit acts slots)
+      × (entriesBy slots (walk term log base term end at limit acts) (cond (firstUnsound log base term end at limit) (Refuse (unsoundFrameAt log base at)) Pass) ≡ framesEntries log base term end at limit acts slots)
   unfolding framesOf framesEntries framesVerdict
   frames-by h g = (rw (h, g), rw (h, g))
 
-  -- what a loop came to is the answer, once row 17 is judged; `moved` is the loop's own number
+  -- what a loop came to is the answer, once the first frame is judged; `moved` is the loop's own number
   pub frames-came : (out : List ℤ) (e f m moved s : ℕ) → Came log base term end at limit acts slots out (walkBy e f m s) → moved ≡ m
-      → (AllWalked (walkBy e f moved s) ≡ framesBy (walk term log base term end at limit acts) (cond (firstUnsound log base term end at limit) (Refuse UnsoundFrame) Pass))
-      × (out ≡ entriesBy slots (walk term log base term end at limit acts) (cond (firstUnsound log base term end at limit) (Refuse UnsoundFrame) Pass))
+      → (AllWalked (walkBy e f moved s) ≡ framesBy (walk term log base term end at limit acts) (cond (firstUnsound log base term end at limit) (Refuse (unsoundFrameAt log base at)) Pass))
+      × (out ≡ entriesBy slots (walk term log base term end at limit acts) (cond (firstUnsound log base term end at limit) (Refuse (unsoundFrameAt log base at)) Pass))
   frames-came out e f m moved s k q = (
     ap (λ (x : ℕ). AllWalked (walkBy e f x s)) q ∙ ap AllWalked (k .numbers)
-        ∙ ap (λ (t : Bool). framesBy (walk term log base term end at limit acts) (cond t (Refuse UnsoundFrame) Pass)) (sym (k .first)),
-    k .written ∙ ap (λ (t : Bool). entriesBy slots (walk term log base term end at limit acts) (cond t (Refuse UnsoundFrame) Pass)) (sym (k .first)),
+        ∙ ap (λ (t : Bool). framesBy (walk term log base term end at limit acts) (cond t (Refuse (unsoundFrameAt log base at)) Pass)) (sym (k .first)),
+    k .written ∙ ap (λ (t : Bool). entriesBy slots (walk term log base term end at limit acts) (cond t (Refuse (unsoundFrameAt log base at)) Pass)) (sym (k .first)),
   )
 
   pub frames-first : (out : List ℤ) → (firstUnsound log base term end at limit ≡ true) × (out ≡ slots)
-      → (WalkRefused UnsoundFrame ≡ framesBy (walk term log base term end at limit acts) (cond (firstUnsound log base term end at limit) (Refuse UnsoundFrame) Pass))
-      × (out ≡ entriesBy slots (walk term log base term end at limit acts) (cond (firstUnsound log base term end at limit) (Refuse UnsoundFrame) Pass))
+      → (WalkRefused (unsoundFrameAt log base at) ≡ framesBy (walk term log base term end at limit acts) (cond (firstUnsound log base term end at limit) (Refuse (unsoundFrameAt log base at)) Pass))
+      × (out ≡ entriesBy slots (walk term log base term end at limit acts) (cond (firstUnsound log base term end at limit) (Refuse (unsoundFrameAt log base at)) Pass))
   frames-first out h = (
-    ap (λ (t : Bool). framesBy (walk term log base term end at limit acts) (cond t (Refuse UnsoundFrame) Pass)) (sym (h .0)),
-    h .1 ∙ ap (λ (t : Bool). entriesBy slots (walk term log base term end at limit acts) (cond t (Refuse UnsoundFrame) Pass)) (sym (h .0)),
+    ap (λ (t : Bool). framesBy (walk term log base term end at limit acts) (cond t (Refuse (unsoundFrameAt log base at)) Pass)) (sym (h .0)),
+    h .1 ∙ ap (λ (t : Bool). entriesBy slots (walk term log base term end at limit acts) (cond t (Refuse (unsoundFrameAt log base at)) Pass)) (sym (h .0)),
   )

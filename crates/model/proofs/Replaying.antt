@@ -21,9 +21,9 @@ use Rattle.model.specs.declared.Assembled.{Assembled}
 use Rattle.model.specs.declared.Assembled.the-variants.{Nothing, Fragment, Message, Refused as AssemblyRefused}
 use Rattle.model.specs.declared.Error.{Error}
 use Rattle.model.specs.declared.ReadVerdict.the-variants.{Read, Refuse}
-use Rattle.model.specs.declared.Error.the-variants.{IllegalArgument, IllegalRecord, PositionOutOfRange, UnsoundFrame}
+use Rattle.model.specs.declared.Error.the-variants.{IllegalArgument, IllegalRecord, PositionOutOfRange}
 use Rattle.model.specs.Bytes.{zeros, long}
-use Rattle.model.specs.FrameDescriptor.{frameAt, isUnsound}
+use Rattle.model.specs.FrameDescriptor.{frameAt, isUnsound, unsoundFrameAt}
 use Rattle.model.specs.LogBufferDescriptor.{partitionOf, reading, greatest, sound, Sound}
 use Rattle.model.specs.TermReader.{Walked, walk, natural, goodEntries, numbers, laid, firstUnsound}
 use Rattle.model.specs.Image.{Image, newImage, readable, pollVerdict, PollReply, pollReply, pollOf}
@@ -208,7 +208,7 @@ module _ (r : LogRecord) (log : List ℕ) (snd : Sound (reading r) (length log))
           ∙ cond-false (not (sound (reading r) (length log))) (Refuse IllegalRecord) _ (ap not good)
           ∙ cond-false (not (leb p· (greatest (reading r)) && eqb (p· % 32) 0)) (Refuse PositionOutOfRange) _
           (ap not (both-true (le-leb p· (greatest (reading r)) (omega (arith, below front back q))) (eq-eqb (p· % 32) 0 (sizes-32 front))))
-          ∙ cond-false (firstUnsound log (base p·) T T (p· % T) (natural limit)) (Refuse UnsoundFrame) Read
+          ∙ cond-false (firstUnsound log (base p·) T T (p· % T) (natural limit)) (Refuse (unsoundFrameAt log (base p·) (p· % T))) Read
           (neither (ltb (p· % T) T) (ltb 0 (natural limit)) _ (sees front back q))
 
       polls : pollOf r log image slots limit ≡ pollReply image slots (walked p· (natural limit)) Read

@@ -8,27 +8,26 @@ use native.Mathlib.Omega.{arith}
 use borrow.Author.Tests.{le-leb, lt-leb, lt-ltb, le-ltb, eq-eqb, ne-eqb}
 use lib.Dec.{eqb, leb, ltb}
 use lib.ListN.{drop}
-use Rattle.model.specs.declared.Error.the-variants.{UnsoundFrame}
 use Rattle.model.specs.declared.Verdict.the-variants.{Pass, Refuse}
 use Rattle.model.specs.declared.Frame.{Frame}
 use Rattle.model.specs.declared.Frame.the-variants.{Absent, Unsound, Padding, Data}
 use Rattle.model.specs.declared.Scanned.{Scanned}
 use Rattle.model.specs.declared.Scanned.the-variants.{Offset, Refused}
-use Rattle.model.specs.FrameDescriptor.{align, frameAt, isUnsound}
+use Rattle.model.specs.FrameDescriptor.{align, frameAt, isUnsound, unsoundFrame, unsoundFrameAt}
 use Rattle.model.specs.TermScan.{scanOver, scanFrom, scanBy}
-use Rattle.model.proofs.FrameLaws.{Lies, lies}
+use Rattle.model.proofs.FrameLaws.{Lies, lies, unsound-refusal}
 use Rattle.model.proofs.Both.{and-false}
 
 module _ (log : List ℕ) (base term limit at : ℕ) where
   abbrev seen : ℕ → Frame
   seen offset = frameAt (drop (base + offset) log) (term - offset)
 
-  -- row 17
+  -- whether the first frame is unsound
   abbrev first : Bool
   first = ltb at limit && isUnsound (seen at)
 
   abbrev answer : Scanned
-  answer = scanBy (scanFrom term log base term limit true at) (cond first (Refuse UnsoundFrame) Pass)
+  answer = scanBy (scanFrom term log base term limit true at) (cond first (Refuse (unsoundFrameAt log base at)) Pass)
 
   -- the scan from here is the whole scan; it is at its first frame, or that one is not unsound
   pub record Scanning (offset : ℕ) : Type 0 where
@@ -56,7 +55,7 @@ module _ (log : List ℕ) (base term limit at : ℕ) where
 
   -- it comes to an offset, and the first frame was not unsound
   comes : (offset : ℕ) → scanFrom term log base term limit true at ≡ offset → first ≡ false → Offset offset ≡ answer
-  comes offset e f = ap Offset (sym e) ∙ ap (λ (b : Bool). scanBy (scanFrom term log base term limit true at) (cond b (Refuse UnsoundFrame) Pass)) (sym f)
+  comes offset e f = ap Offset (sym e) ∙ ap (λ (b : Bool). scanBy (scanFrom term log base term limit true at) (cond b (Refuse (unsoundFrameAt log base at)) Pass)) (sym f)
 
   either : (b : Bool) (n : ℕ) → cond b n n ≡ n
   either true n = refl
@@ -83,16 +82,16 @@ module _ (log : List ℕ) (base term limit at : ℕ) where
   pub scan-absent : (offset : ℕ) → Scanning offset → seen offset ≡ Absent → Offset offset ≡ answer
   scan-absent offset s e = comes offset (s .same ∙ stays (s .fuel) offset (eqb offset at) Absent e (λ go. refl)) (first-seen offset Absent (s .begun) e refl)
 
-  pub scan-unsound : (offset : ℕ) → Scanning offset → seen offset ≡ Unsound → (offset ≡ at → ⊥) → Offset offset ≡ answer
-  scan-unsound offset s e n =
-      comes offset (s .same ∙ stays (s .fuel) offset (eqb offset at) Unsound e (λ go. refl))
+  pub scan-unsound : (offset m : ℕ) → Scanning offset → seen offset ≡ Unsound m → (offset ≡ at → ⊥) → Offset offset ≡ answer
+  scan-unsound offset m s e n =
+      comes offset (s .same ∙ stays (s .fuel) offset (eqb offset at) (Unsound m) e (λ go. refl))
       (⊎-elim (λ (p : offset ≡ at). absurd (n p)) (λ (f : first ≡ false). f) (s .begun))
 
-  pub scan-first : (offset : ℕ) → offset ≡ at → offset < limit → seen offset ≡ Unsound → Refused UnsoundFrame ≡ answer
-  scan-first offset p h e =
-      let q : seen at ≡ Unsound = ap seen (sym p) ∙ e in
+  pub scan-first : (offset m : ℕ) → offset ≡ at → offset < limit → seen offset ≡ Unsound m → Refused (unsoundFrame m at) ≡ answer
+  scan-first offset m p h e =
+      let q : seen at ≡ Unsound m = ap seen (sym p) ∙ e in
       let f : first ≡ true = rw (lt-ltb at limit (omega arith), q) in
-      sym (ap (λ (b : Bool). scanBy (scanFrom term log base term limit true at) (cond b (Refuse UnsoundFrame) Pass)) f)
+      ap Refused (unsound-refusal log base term at m q) ∙ sym (ap (λ (b : Bool). scanBy (scanFrom term log base term limit true at) (cond b (Refuse (unsoundFrameAt log base at)) Pass)) f)
 
   -- padding that is not the first frame
   pub scan-padding : (offset n : ℕ) → Scanning offset → seen offset ≡ Padding n → (offset ≡ at → ⊥) → Offset offset ≡ answer

@@ -17,8 +17,8 @@ use Rattle.model.specs.declared.GapScanned.{GapScanned}
 use Rattle.model.specs.declared.GapScanned.the-variants.{Refused as GapRefused}
 use Rattle.model.specs.declared.AvailabilityScanned.{AvailabilityScanned}
 use Rattle.model.specs.declared.AvailabilityScanned.the-variants.{Refused as AvailabilityRefused}
-use Rattle.model.specs.FrameDescriptor.{frameAt, isUnsound}
-use Rattle.model.specs.LogBufferDescriptor.{sound, goodPartition, goodOffset, withinTerm, placeOf, firstRows, row17}
+use Rattle.model.specs.FrameDescriptor.{frameAt, isUnsound, unsoundFrameAt}
+use Rattle.model.specs.LogBufferDescriptor.{sound, goodPartition, goodOffset, withinTerm, placeOf, firstRows, frameRow}
 use Rattle.model.specs.Bytes.{word}
 use Rattle.model.specs.TermReader.{natural}
 use Rattle.model.proofs.GapLaws.{gapFound}
@@ -29,22 +29,25 @@ use Rattle.model.specs.TermScan.{scanVerdict, scanFrom, scanJudge, scanB
 abbrev base : Place → ℕ
 base p = p .partition * p .read .term
 
--- what row 17 looks at
+-- whether the frame there is unsound, and its refusal
 abbrev unsoundAt : List ℕ → Place → Bool
 unsoundAt log p = isUnsound (frameAt (drop (base p + p .offset) log) (p .read .term - p .offset))
+
+abbrev refusalAt : List ℕ → Place → Error
+refusalAt log p = unsoundFrameAt log (base p) (p .offset)
 
 -- rows 1 and 2, with what row 1 asks
 abbrev rows : List ℕ → Place → Bool → Verdict
 rows log p good = firstRows good (sound (p .read) (length log)) Pass
 
-module _ {A : Type 0} (by : Verdict → A) (log : List ℕ) (p : Place) (good first : Bool) where
-  refused : {e : Error} → rows log p good ≡ Refuse e → by (Refuse e) ≡ by (scanVerdict good (sound (p .read) (length log)) first)
+module _ {A : Type 0} (by : Verdict → A) (log : List ℕ) (p : Place) (good first : Bool) (u : Error) where
+  refused : {e : Error} → rows log p good ≡ Refuse e → by (Refuse e) ≡ by (scanVerdict good (sound (p .read) (length log)) first u)
   unfolding scanVerdict
-  refused h = ap by (rows-refuse good (sound (p .read) (length log)) (row17 first) h)
+  refused h = ap by (rows-refuse good (sound (p .read) (length log)) (frameRow first u) h)
 
-  passed : rows log p good ≡ Pass → by (row17 first) ≡ by (scanVerdict good (sound (p .read) (length log)) first)
+  passed : rows log p good ≡ Pass → by (frameRow first u) ≡ by (scanVerdict good (sound (p .read) (length log)) first u)
   unfolding scanVerdict
-  passed h = ap by (rows-then good (sound (p .read) (length log)) (row17 first) h)
+  passed h = ap by (rows-then good (sound (p .read) (length log)) (frameRow first u) h)
 
 module _ (r : LogRecord) (log : List ℕ) (partition offset : ℤ) (p : Place) (ep : p ≡ placeOf r partition offset) where
   -- ---- scan
@@ -59,18 +62,18 @@ module _ (r : LogRecord) (log : List ℕ) (partition offset : ℤ) (p : Place) (
     abbrev scanFirst : Place → ℕ → Bool
     scanFirst x l = ltb (x .offset) l && unsoundAt log x
 
-    as-scan : scanned p most (scanVerdict goodScan (sound (p .read) (length log)) (scanFirst p most)) ≡ scanOf r log partition offset limit
+    as-scan : scanned p most (scanVerdict goodScan (sound (p .read) (length log)) (scanFirst p most) (refusalAt log p)) ≡ scanOf r log partition offset limit
     unfolding scanOf scanJudge
     as-scan =
         ap₂
-        (λ (x : Place) (l : ℕ). scanned x l (scanVerdict (goodPartition (x .partition) && (goodOffset (x .offset) (x .read) && withinTerm l (x .read))) (sound (x .read) (length log)) (scanFirst x l)))
+        (λ (x : Place) (l : ℕ). scanned x l (scanVerdict (goodPartition (x .partition) && (goodOffset (x .offset) (x .read) && withinTerm l (x .read))) (sound (x .read) (length log)) (scanFirst x l) (refusalAt log x)))
         ep em
 
     pub scan-refused : {e : Error} → rows log p goodScan ≡ Refuse e → Refused e ≡ scanOf r log partition offset limit
-    scan-refused h = refused (scanned p most) log p goodScan (scanFirst p most) h ∙ as-scan
+    scan-refused h = refused (scanned p most) log p goodScan (scanFirst p most) (refusalAt log p) h ∙ as-scan
 
-    pub scan-goes : rows log p goodScan ≡ Pass → scanned p most (row17 (scanFirst p most)) ≡ scanOf r log partition offset limit
-    scan-goes h = passed (scanned p most) log p goodScan (scanFirst p most) h ∙ as-scan
+    pub scan-goes : rows log p goodScan ≡ Pass → scanned p most (frameRow (scanFirst p most) (refusalAt log p)) ≡ scanOf r log partition offset limit
+    scan-goes h = passed (scanned p most) log p goodScan (scanFirst p most) (refusalAt log p) h ∙ as-scan
 
   -- ---- scan_for_gap
 
@@ -81,18 +84,18 @@ module _ (r : LogRecord) (log : List ℕ) (partition offset : ℤ) (p : Place) (
     abbrev gapped : Place → ℕ → Verdict → GapScanned
     gapped x m = gapBy (gapFound id log (base x) (x .read .term) m (rebuild (x .read .term) log (base x) (x .read .term) m (x .offset)))
 
-    as-gap : gapped p mark (scanVerdict goodGap (sound (p .read) (length log)) (unsoundAt log p)) ≡ gapOf r log partition id offset high
+    as-gap : gapped p mark (scanVerdict goodGap (sound (p .read) (length log)) (unsoundAt log p) (refusalAt log p)) ≡ gapOf r log partition id offset high
     unfolding gapOf gapJudge
     as-gap =
         ap₂
-        (λ (x : Place) (m : ℕ). gapped x m (scanVerdict (goodPartition (x .partition) && (goodOffset (x .offset) (x .read) && (eqb (m % 32) 0 && withinTerm m (x .read)))) (sound (x .read) (length log)) (unsoundAt log x)))
+        (λ (x : Place) (m : ℕ). gapped x m (scanVerdict (goodPartition (x .partition) && (goodOffset (x .offset) (x .read) && (eqb (m % 32) 0 && withinTerm m (x .read)))) (sound (x .read) (length log)) (unsoundAt log x) (refusalAt log x)))
         ep em
 
     pub gap-refused : {e : Error} → rows log p goodGap ≡ Refuse e → GapRefused e ≡ gapOf r log partition id offset high
-    gap-refused h = refused (gapped p mark) log p goodGap (unsoundAt log p) h ∙ as-gap
+    gap-refused h = refused (gapped p mark) log p goodGap (unsoundAt log p) (refusalAt log p) h ∙ as-gap
 
-    pub gap-goes : rows log p goodGap ≡ Pass → gapped p mark (row17 (unsoundAt log p)) ≡ gapOf r log partition id offset high
-    gap-goes h = passed (gapped p mark) log p goodGap (unsoundAt log p) h ∙ as-gap
+    pub gap-goes : rows log p goodGap ≡ Pass → gapped p mark (frameRow (unsoundAt log p) (refusalAt log p)) ≡ gapOf r log partition id offset high
+    gap-goes h = passed (gapped p mark) log p goodGap (unsoundAt log p) (refusalAt log p) h ∙ as-gap
 
   -- ---- scan_for_availability
 
@@ -103,14 +106,14 @@ module _ (r : LogRecord) (log : List ℕ) (partition offset : ℤ) (p : Place) (
     abbrev reached : Place → ℕ → Available
     reached x m = availableFrom (x .read .term) log (base x) (x .read .term) (x .offset) m 0 0
 
-    as-available : availabilityBy (reached p most) (scanVerdict goodAvailability (sound (p .read) (length log)) (unsoundAt log p)) ≡ availabilityOf r log partition offset maximum
+    as-available : availabilityBy (reached p most) (scanVerdict goodAvailability (sound (p .read) (length log)) (unsoundAt log p) (refusalAt log p)) ≡ availabilityOf r log partition offset maximum
     unfolding availabilityOf availabilityJudge
     as-available =
-        let f : Place → ℕ → AvailabilityScanned = λ (x : Place) (m : ℕ). availabilityBy (reached x m) (scanVerdict (goodPartition (x .partition) && goodOffset (x .offset) (x .read)) (sound (x .read) (length log)) (unsoundAt log x)) in
+        let f : Place → ℕ → AvailabilityScanned = λ (x : Place) (m : ℕ). availabilityBy (reached x m) (scanVerdict (goodPartition (x .partition) && goodOffset (x .offset) (x .read)) (sound (x .read) (length log)) (unsoundAt log x) (refusalAt log x)) in
         ap (f p) em ∙ ap (λ (x : Place). f x (min (natural maximum) (x .read .term - x .offset))) ep
 
     pub available-refused : {e : Error} → rows log p goodAvailability ≡ Refuse e → AvailabilityRefused e ≡ availabilityOf r log partition offset maximum
-    available-refused h = refused (availabilityBy (reached p most)) log p goodAvailability (unsoundAt log p) h ∙ as-available
+    available-refused h = refused (availabilityBy (reached p most)) log p goodAvailability (unsoundAt log p) (refusalAt log p) h ∙ as-available
 
-    pub available-goes : rows log p goodAvailability ≡ Pass → availabilityBy (reached p most) (row17 (unsoundAt log p)) ≡ availabilityOf r log partition offset maximum
-    available-goes h = passed (availabilityBy (reached p most)) log p goodAvailability (unsoundAt log p) h ∙ as-available
+    pub available-goes : rows log p goodAvailability ≡ Pass → availabilityBy (reached p most) (frameRow (unsoundAt log p) (refusalAt log p)) ≡ availabilityOf r log partition offset maximum
+    available-goes h = passed (availabilityBy (reached p most)) log p goodAvailability (unsoundAt log p) (refusalAt log p) h ∙ as-available

@@ -133,23 +133,23 @@ module _ (log : List ℕ) (base term end at limit : ℕ) (acts : List ℕ) (slot
       (first-seen offset count Absent (g .first) e refl)
 
   -- past the first frame
-  pub unsound : (out : List ℤ) (offset settled count : ℕ) → Going log base term end at limit acts slots out offset settled count → seen offset ≡ Unsound
+  pub unsound : (out : List ℤ) (offset settled count m : ℕ) → Going log base term end at limit acts slots out offset settled count → seen offset ≡ Unsound m
       → (offset ≡ at → ⊥) → Came log base term end at limit acts slots out (walkBy count count (offset - at) settled)
-  unsound out offset settled count g e n =
+  unsound out offset settled count m g e n =
       ended (g .es) (offset - at) settled count out (g .counted) (g .written)
-      (g .same ∙ ap (joined (g .es) (offset - at) settled) (walk-stop log base term end (g .fuel) offset (limit - count) (drop count acts) Unsound e (λ whole l go. refl)))
+      (g .same ∙ ap (joined (g .es) (offset - at) settled) (walk-stop log base term end (g .fuel) offset (limit - count) (drop count acts) (Unsound m) e (λ whole l go. refl)))
       (⊎-elim (λ (p : (offset ≡ at) × (count ≡ 0)). absurd (n (p .0))) (λ (f : firstUnsound log base term end at limit ≡ false). f) (g .first))
 
-  -- at the first frame: row 17
-  first-is : (offset count : ℕ) → offset ≡ at → offset < end → count < limit → seen offset ≡ Unsound → firstUnsound log base term end at limit ≡ true
-  first-is offset count p h l e =
-      let q : seen at ≡ Unsound = ap seen (sym p) ∙ e in
+  -- at the first frame
+  first-is : (offset count m : ℕ) → offset ≡ at → offset < end → count < limit → seen offset ≡ Unsound m → firstUnsound log base term end at limit ≡ true
+  first-is offset count m p h l e =
+      let q : seen at ≡ Unsound m = ap seen (sym p) ∙ e in
       rw (lt-ltb at end (omega arith), lt-ltb 0 limit (omega arith), q)
 
-  pub unsound-first : (out : List ℤ) (offset settled count : ℕ) → Going log base term end at limit acts slots out offset settled count → offset ≡ at → offset < end
-      → count < limit → seen offset ≡ Unsound → (firstUnsound log base term end at limit ≡ true) × (out ≡ slots)
-  unsound-first out offset settled count g p h l e =
-      let t = first-is offset count p h l e in
+  pub unsound-first : (out : List ℤ) (offset settled count m : ℕ) → Going log base term end at limit acts slots out offset settled count → offset ≡ at → offset < end
+      → count < limit → seen offset ≡ Unsound m → (firstUnsound log base term end at limit ≡ true) × (out ≡ slots)
+  unsound-first out offset settled count m g p h l e =
+      let t = first-is offset count m p h l e in
       (t, untouched t (g .first))
     where
       no-entries : (es : List (ℕ × ℕ)) → length es ≡ 0 → laid slots es ≡ slots

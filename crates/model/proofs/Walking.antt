@@ -42,7 +42,7 @@ length-done n h k = sym (length-finished n (λ e. omega arith) k)
 
 frame-sound : (ty n room : ℕ) → 32 ≤ n → align n ≤ room → frameBy ty room (Finished n) ≡ cond (eqb ty 0) (Padding n) (Data n)
 frame-sound ty n room h k =
-    ap₂ (λ (a b : Bool). cond (a || b) Unsound (cond (eqb ty 0) (Padding n) (Data n))) (le-ltb n 32 h) (le-ltb room (align n) k)
+    ap₂ (λ (a b : Bool). cond (a || b) (Unsound n) (cond (eqb ty 0) (Padding n) (Data n))) (le-ltb n 32 h) (le-ltb room (align n) k)
 
 stored-small : (k : State) (n : ℕ) → 32 ≤ n → n < 2147483648 → stored k n < 4294967296
 unfolding stored
@@ -244,7 +244,7 @@ moves c T z base log (suc fuel) at (suc limit) (f ∷ fs) hf hr hl e h m =
 
 few-over : (x : Frame) (whole : Bool) (at limit : ℕ) (go : ℕ → ℕ → List ℕ → Walked) → ((a l : ℕ) → length (go a l [] .entries) ≤ l) → length (over x whole at limit [] go .entries) ≤ suc limit
 few-over Absent whole at limit go ih = omega arith
-few-over Unsound whole at limit go ih = omega arith
+few-over (Unsound n) whole at limit go ih = omega arith
 few-over (Padding n) whole at limit go ih = ih (at + align n) (suc limit)
 few-over (Data n) whole at limit go ih = omega (arith, ih (at + align n) limit)
 

@@ -1,10 +1,11 @@
--- Document 01's number and values for each case of each answer: 0 and the values for an answer, and for a refusal its number and no
--- values. The contracts say which case is answered, these what that case is in the papers.
+-- Document 01's number and values for each case of each answer: 0 and the values for an answer, and for a refusal its number and
+-- what values it has: the place of a frame with 22 and 23, else none. The contracts say which case is answered, these what that case is in the papers.
+use Prim.Native.Nat.{ℕ}
 use mathlib.Core.Bool.{cond}
 use mathlib.Core.List.{List, [], _∷_}
 use lib.IntN.{ℤ, pos, negsuc}
 use Rattle.model.specs.declared.Error.{Error}
-use Rattle.model.specs.declared.Error.the-variants.{ActionPossiblyDelayed, UnsoundFrame}
+use Rattle.model.specs.declared.Error.the-variants.{ActionPossiblyDelayed}
 use Rattle.model.specs.declared.Claim.{Claim}
 use Rattle.model.specs.declared.HeaderFields.{HeaderFields}
 use Rattle.model.specs.declared.Outcome.{Outcome}
@@ -53,7 +54,8 @@ use Rattle.model.specs.declared.Assembled.{Assembled}
 use Rattle.model.specs.declared.Assembled.the-variants.{Nothing as AssembledNothing, Fragment as AssembledFragment, Message as AssembledMessage, Refused as AssembledRefused}
 use Rattle.model.specs.declared.Replayed.{Replayed}
 use Rattle.model.specs.declared.Replayed.the-variants.{InLog as ReplayedInLog, InBuffer as ReplayedInBuffer, End as ReplayedEnd, Refused as ReplayedRefused}
-use Rattle.model.specs.Errors.{numberOf}
+use Rattle.model.specs.Errors.{numberOf, valuesOf}
+use Rattle.model.specs.FrameDescriptor.{unsoundFrame}
 
 pub record Told : Type 0 where
   pub number : ℤ
@@ -63,7 +65,7 @@ abbrev pub answered : List ℤ → Told
 answered values = record { number = pos 0; values = values }
 
 abbrev pub refused : Error → Told
-refused e = record { number = numberOf e; values = [] }
+refused e = record { number = numberOf e; values = valuesOf e }
 
 -- a claim's record: partition, offset, frame length, term id
 abbrev pub claimValues : Claim → List ℤ
@@ -130,12 +132,13 @@ abbrev pub lengthReadTold : FrameLengthRead → Told
 lengthReadTold (LengthReadLength l) = frameLengthTold l
 lengthReadTold (LengthReadRefused e) = refused e
 
--- what stands at a place: no finished frame; an unsound one; else 0 for padding or 1 for data, as the type field has it, and the length
-abbrev pub frameTold : Frame → Told
-frameTold FrameAbsent = answered []
-frameTold FrameUnsound = refused UnsoundFrame
-frameTold (FramePadding n) = answered (pos 0 ∷ pos n ∷ [])
-frameTold (FrameData n) = answered (pos 1 ∷ pos n ∷ [])
+-- what stands at a place, its offset in the term: no finished frame; an unsound one; else 0 for padding or 1 for data, as the type field has it,
+-- and the length
+abbrev pub frameTold : ℕ → Frame → Told
+frameTold place FrameAbsent = answered []
+frameTold place (FrameUnsound n) = refused (unsoundFrame n place)
+frameTold place (FramePadding n) = answered (pos 0 ∷ pos n ∷ [])
+frameTold place (FrameData n) = answered (pos 1 ∷ pos n ∷ [])
 
 -- header fields
 abbrev pub headerTold : HeaderRead → Told

@@ -13,7 +13,7 @@ use Rattle.model.specs.declared.Frame.{Frame}
 use Rattle.model.specs.declared.Frame.the-variants.{Absent, Unsound, Padding, Data}
 use Rattle.model.specs.declared.Polled.the-variants.{Fragments}
 use Rattle.model.specs.declared.Error.{Error}
-use Rattle.model.specs.declared.Error.the-variants.{IllegalArgument, IllegalRecord, PositionOutOfRange, ExceedsMaxPayloadLength, PublicationClosed, AdminAction, MaxPositionExceeded, BackPressured, NotConnected, ExceedsMaxMessageLength, TailOverflow, LastTerm, ActionPossiblyDelayed, ClaimMismatch, NewPositionOutOfRange, NewPositionNotAligned, UnsoundFrame, AssemblyFull}
+use Rattle.model.specs.declared.Error.the-variants.{IllegalArgument, IllegalRecord, PositionOutOfRange, ExceedsMaxPayloadLength, PublicationClosed, AdminAction, MaxPositionExceeded, BackPressured, NotConnected, ExceedsMaxMessageLength, TailOverflow, LastTerm, ActionPossiblyDelayed, ClaimMismatch, NewPositionOutOfRange, NewPositionNotAligned, AssemblyFull, FrameTooShort, FramePastTerm}
 use Rattle.model.specs.declared.Outcome.{Outcome}
 use Rattle.model.specs.declared.Outcome.the-variants.{Done, Refused}
 use Rattle.model.specs.declared.Offered.{Offered}
@@ -74,8 +74,9 @@ rare ActionPossiblyDelayed = true
 rare ClaimMismatch = false
 rare NewPositionOutOfRange = false
 rare NewPositionNotAligned = false
-rare UnsoundFrame = false
 rare AssemblyFull = false
+rare (FrameTooShort place) = false
+rare (FramePastTerm place) = false
 
 abbrev pub UsualOffered : Offered → Type 0
 UsualOffered (OfferPosition p) = Unit {0}
@@ -132,7 +133,7 @@ RefusalsChangeNothing = (w : World) (y : Call) (e : Error) → RefusedWith (step
 unfoldable pub LieTo : List ℕ → ℕ → ℕ → ℕ → List Frame → ℕ → Type 0
 LieTo log base term at [] end = at ≡ end
 LieTo log base term at (Absent ∷ xs) end = ⊥
-LieTo log base term at (Unsound ∷ xs) end = ⊥
+LieTo log base term at (Unsound n ∷ xs) end = ⊥
 LieTo log base term at (Padding n ∷ xs) end = (frameAt (drop (base + at) log) (term - at) ≡ Padding n) × LieTo log base term (at + align n) xs end
 LieTo log base term at (Data n ∷ xs) end = (frameAt (drop (base + at) log) (term - at) ≡ Data n) × LieTo log base term (at + align n) xs end
 
@@ -140,7 +141,7 @@ LieTo log base term at (Data n ∷ xs) end = (frameAt (drop (base + at) log) (te
 unfoldable pub bodiesOf : ℕ → List Frame → List (ℕ × ℕ)
 bodiesOf at [] = []
 bodiesOf at (Absent ∷ xs) = []
-bodiesOf at (Unsound ∷ xs) = []
+bodiesOf at (Unsound n ∷ xs) = []
 bodiesOf at (Padding n ∷ xs) = bodiesOf (at + align n) xs
 bodiesOf at (Data n ∷ xs) = (at + 32, n - 32) ∷ bodiesOf (at + align n) xs
 

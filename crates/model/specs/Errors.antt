@@ -1,7 +1,8 @@
--- Document 01's number of each refusal ("Answers, by number").
+-- Document 01's number of each refusal ("Answers, by number"), as document 02 amends them, and the values that a refusal has.
+use mathlib.Core.List.{List, [], _∷_}
 use lib.IntN.{ℤ, pos}
 use Rattle.model.specs.declared.Error.{Error}
-use Rattle.model.specs.declared.Error.the-variants.{IllegalArgument, IllegalRecord, PositionOutOfRange, ExceedsMaxPayloadLength, PublicationClosed, AdminAction, MaxPositionExceeded, BackPressured, NotConnected, ExceedsMaxMessageLength, TailOverflow, LastTerm, ActionPossiblyDelayed, ClaimMismatch, NewPositionOutOfRange, NewPositionNotAligned, UnsoundFrame, AssemblyFull}
+use Rattle.model.specs.declared.Error.the-variants.{IllegalArgument, IllegalRecord, PositionOutOfRange, ExceedsMaxPayloadLength, PublicationClosed, AdminAction, MaxPositionExceeded, BackPressured, NotConnected, ExceedsMaxMessageLength, TailOverflow, LastTerm, ActionPossiblyDelayed, ClaimMismatch, NewPositionOutOfRange, NewPositionNotAligned, AssemblyFull, FrameTooShort, FramePastTerm}
 
 abbrev pub numberOf : Error → ℤ
 numberOf IllegalArgument = pos 1
@@ -20,5 +21,28 @@ numberOf ActionPossiblyDelayed = pos 13
 numberOf ClaimMismatch = pos 14
 numberOf NewPositionOutOfRange = pos 15
 numberOf NewPositionNotAligned = pos 16
-numberOf UnsoundFrame = pos 17
 numberOf AssemblyFull = pos 18
+numberOf (FrameTooShort place) = pos 22
+numberOf (FramePastTerm place) = pos 23
+
+-- 22 and 23 have one, the place of the frame: its offset in its term (R-7 of document 02)
+abbrev pub valuesOf : Error → List ℤ
+valuesOf IllegalArgument = []
+valuesOf IllegalRecord = []
+valuesOf PositionOutOfRange = []
+valuesOf ExceedsMaxPayloadLength = []
+valuesOf PublicationClosed = []
+valuesOf AdminAction = []
+valuesOf MaxPositionExceeded = []
+valuesOf BackPressured = []
+valuesOf NotConnected = []
+valuesOf ExceedsMaxMessageLength = []
+valuesOf TailOverflow = []
+valuesOf LastTerm = []
+valuesOf ActionPossiblyDelayed = []
+valuesOf ClaimMismatch = []
+valuesOf NewPositionOutOfRange = []
+valuesOf NewPositionNotAligned = []
+valuesOf AssemblyFull = []
+valuesOf (FrameTooShort place) = pos place ∷ []
+valuesOf (FramePastTerm place) = pos place ∷ []

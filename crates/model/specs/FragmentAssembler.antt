@@ -1,4 +1,4 @@
--- The assembler: up to 16 sessions over one lent buffer ("Reading" in document 01, third paragraph). In order: 1, 2, 17, 18.
+-- The assembler: up to 16 sessions over one lent buffer ("Reading" in document 01, third paragraph). In order: 1, 2, 22 or 23, 18.
 use Prim.Native.Nat.{ℕ, suc, _+_, _-_, _*_, _/_, min}
 use mathlib.Core.Bool.{Bool, cond, _&&_, _||_}
 use mathlib.Core.List.{List, [], _∷_}
@@ -18,8 +18,8 @@ use Rattle.model.specs.declared.Assembled.{Assembled}
 use Rattle.model.specs.declared.Assembled.the-variants.{Nothing, Fragment, Message, Refused}
 use Rattle.model.specs.Bytes.{word, splice}
 use Rattle.model.specs.DataFrameHeader.{headerAt}
-use Rattle.model.specs.FrameDescriptor.{isFinished, lengthAt, unsoundLength, flagsAt, begins, ends}
-use Rattle.model.specs.LogBufferDescriptor.{reading, sound, goodPartition, goodOffset, firstRows, row17}
+use Rattle.model.specs.FrameDescriptor.{isFinished, lengthAt, unsoundLength, unsoundFrameAt, flagsAt, begins, ends}
+use Rattle.model.specs.LogBufferDescriptor.{reading, sound, goodPartition, goodOffset, firstRows, frameRow}
 
 -- The bookkeeping: how many sessions are entered, their ids, and how many bytes each holds. A count over 16 is taken as 16.
 pub record Sessions : Type 0 where
@@ -98,11 +98,11 @@ goodFrame log at = leb (at + 4) (length log) && isFinished (lengthAt (drop at lo
 abbrev pub goodAssembly : Reading → List ℕ → ℕ → ℕ → ℕ → Bool
 goodAssembly v log buffer k at = leb buffer 2147483647 && (goodPartition k && (goodOffset at v && goodFrame log (k * v .term + at)))
 
--- 1, 2, 17
+-- 1, 2, 22 or 23
 unfoldable pub assembleVerdict : Reading → List ℕ → ℕ → ℕ → ℕ → Verdict
 assembleVerdict v log buffer k at =
     firstRows (goodAssembly v log buffer k at) (sound v (length log))
-    (row17 (unsoundLength (headerAt (drop (k * v .term + at) log) .length) (v .term - at)))
+    (frameRow (unsoundLength (headerAt (drop (k * v .term + at) log) .length) (v .term - at)) (unsoundFrameAt log (k * v .term) at))
 
 pub record Assembly : Type 0 where
   pub answer : Assembled

@@ -3,6 +3,9 @@ use Prim.Native.Nat.{ℕ, _+_, _-_, _*_, _/_, _%_}
 use mathlib.Core.Bool.{Bool, true, false, cond, _||_}
 use mathlib.Core.List.{List}
 use lib.Dec.{eqb, ltb}
+use lib.ListN.{drop}
+use Rattle.model.specs.declared.Error.{Error}
+use Rattle.model.specs.declared.Error.the-variants.{FrameTooShort, FramePastTerm}
 use Rattle.model.specs.declared.FrameLength.{FrameLength}
 use Rattle.model.specs.declared.FrameLength.the-variants.{Free, Writing, Finished}
 use Rattle.model.specs.declared.Frame.{Frame}
@@ -48,7 +51,7 @@ unsoundLength n room = ltb n 32 || ltb room (align n)
 abbrev pub frameBy : ℕ → ℕ → FrameLength → Frame
 frameBy type room Free = Absent
 frameBy type room (Writing n) = Absent
-frameBy type room (Finished n) = cond (unsoundLength n room) Unsound (cond (eqb type 0) (Padding n) (Data n))
+frameBy type room (Finished n) = cond (unsoundLength n room) (Unsound n) (cond (eqb type 0) (Padding n) (Data n))
 
 -- what stands at the beginning of s, a log from a frame's place on
 unfoldable pub frameAt : List ℕ → ℕ → Frame
@@ -56,9 +59,18 @@ frameAt s room = frameBy (headerAt s .type) room (lengthAt s)
 
 abbrev pub isUnsound : Frame → Bool
 isUnsound Absent = false
-isUnsound Unsound = true
+isUnsound (Unsound n) = true
 isUnsound (Padding n) = false
 isUnsound (Data n) = false
+
+-- The refusal of an unsound frame, made here for every reader, by its length and its place, which is its offset in its term (R-7 of document 02): 22
+-- for a length of 1 to 31, 23 for a frame that runs past the term's end. No frame is both: where a frame begins, 32 bytes are left.
+unfoldable pub unsoundFrame : ℕ → ℕ → Error
+unsoundFrame n place = cond (ltb n 32) (FrameTooShort place) (FramePastTerm place)
+
+-- that of the frame at an offset of the term that starts at base
+abbrev pub unsoundFrameAt : List ℕ → ℕ → ℕ → Error
+unsoundFrameAt log base at = unsoundFrame (headerAt (drop (base + at) log) .length) at
 
 -- the flags byte: 0x80 begins a message, 0x40 ends it
 abbrev pub flagsAt : List ℕ → ℕ

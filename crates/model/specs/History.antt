@@ -12,7 +12,7 @@ use Rattle.model.specs.declared.LogRecord.{LogRecord}
 use Rattle.model.specs.declared.Claim.{Claim}
 use Rattle.model.specs.declared.Reading.{Reading}
 use Rattle.model.specs.declared.Error.{Error}
-use Rattle.model.specs.declared.Error.the-variants.{IllegalArgument, IllegalRecord, PositionOutOfRange, ExceedsMaxPayloadLength, PublicationClosed, AdminAction, MaxPositionExceeded, BackPressured, NotConnected, ExceedsMaxMessageLength, TailOverflow, LastTerm, ActionPossiblyDelayed, ClaimMismatch, NewPositionOutOfRange, NewPositionNotAligned, UnsoundFrame, AssemblyFull}
+use Rattle.model.specs.declared.Error.the-variants.{IllegalArgument, IllegalRecord, PositionOutOfRange, ExceedsMaxPayloadLength, PublicationClosed, AdminAction, MaxPositionExceeded, BackPressured, NotConnected, ExceedsMaxMessageLength, TailOverflow, LastTerm, ActionPossiblyDelayed, ClaimMismatch, NewPositionOutOfRange, NewPositionNotAligned, AssemblyFull, FrameTooShort, FramePastTerm}
 use Rattle.model.specs.declared.Outcome.{Outcome}
 use Rattle.model.specs.declared.Outcome.the-variants.{Done, Refused}
 use Rattle.model.specs.declared.Offered.{Offered}
@@ -135,8 +135,9 @@ isTrip ActionPossiblyDelayed = false
 isTrip ClaimMismatch = false
 isTrip NewPositionOutOfRange = false
 isTrip NewPositionNotAligned = false
-isTrip UnsoundFrame = false
 isTrip AssemblyFull = false
+isTrip (FrameTooShort place) = false
+isTrip (FramePastTerm place) = false
 
 unfoldable pub padTo : Shape → List Extent → List Extent
 padTo c h = cond (eqb (sizeAll c h % c .term) 0) h (h ++ (padding (c .term - sizeAll c h % c .term) ∷ []))

@@ -1,5 +1,5 @@
 -- An image: its polls, the peek, the block poll, and its position ("Reading" in document 01). A call answers and hands the next image
--- back. In order: 1, 2, closed, 3, 15, 16, 17. Read FragmentAssembler next.
+-- back. In order: 1, 2, closed, 3, 15, 16, 22 or 23. Read FragmentAssembler next.
 use Prim.Native.Nat.{ℕ, _+_, _-_, _*_, _%_, min}
 use mathlib.Core.Bool.{Bool, true, false, cond, _&&_, _||_, not}
 use mathlib.Core.List.{List, [], _∷_}
@@ -12,7 +12,7 @@ use mir.Val.{toZ}
 use Rattle.model.specs.declared.LogRecord.{LogRecord}
 use Rattle.model.specs.declared.Reading.{Reading}
 use Rattle.model.specs.declared.Error.{Error}
-use Rattle.model.specs.declared.Error.the-variants.{IllegalArgument, IllegalRecord, PositionOutOfRange, NewPositionOutOfRange, NewPositionNotAligned, UnsoundFrame}
+use Rattle.model.specs.declared.Error.the-variants.{IllegalArgument, IllegalRecord, PositionOutOfRange, NewPositionOutOfRange, NewPositionNotAligned}
 use Rattle.model.specs.declared.ReadVerdict.{ReadVerdict}
 use Rattle.model.specs.declared.ReadVerdict.the-variants.{Read, Closed, Refuse}
 use Rattle.model.specs.declared.Outcome.{Outcome}
@@ -27,6 +27,7 @@ use Rattle.model.specs.declared.EndOfStream.{EndOfStream}
 use Rattle.model.specs.declared.EndOfStream.the-variants.{Is, Refused as EndRefused}
 use Rattle.model.specs.Bytes.{long}
 use Rattle.model.specs.DataFrameHeader.{headerAt}
+use Rattle.model.specs.FrameDescriptor.{unsoundFrameAt}
 use Rattle.model.specs.LogBufferDescriptor.{partitionOf, reading, greatest, sound}
 use Rattle.model.specs.TermReader.{Walked, walk, firstUnsound, natural, goodEntries, goodActions, goodControl, laid}
 use Rattle.model.specs.TermScan.{scanFrom}
@@ -81,12 +82,16 @@ walkAt v log p end limit acts = walk (v .term) log (partitionOf p (v .term) * v 
 abbrev pub unsoundAt : Reading → List ℕ → ℕ → ℕ → ℕ → Bool
 unsoundAt v log p end limit = firstUnsound log (partitionOf p (v .term) * v .term) (v .term) end (p % v .term) limit
 
+-- its refusal: the place is the position's offset in its term
+abbrev pub unsoundFrameOf : Reading → List ℕ → ℕ → Error
+unsoundFrameOf v log p = unsoundFrameAt log (partitionOf p (v .term) * v .term) (p % v .term)
+
 -- ---- poll, bounded_poll, controlled_poll: one call, with where it ends, its fragment limit, its actions and what row 1 asks
 
 unfoldable pub pollVerdict : Reading → List ℕ → Image → Bool → ℕ → ℕ → ReadVerdict
 pollVerdict v log i good end limit =
     readable good v (length log) i
-    (refuseIf (unsoundAt v log (long (i .position)) end limit) UnsoundFrame
+    (refuseIf (unsoundAt v log (long (i .position)) end limit) (unsoundFrameOf v log (long (i .position)))
     Read)
 
 -- a closed image answers 0 and stays
@@ -142,7 +147,7 @@ unfoldable pub peekVerdict : Reading → List ℕ → Image → ℕ → List ℕ
 peekVerdict v log i slots acts start bound =
     readable (goodEntries slots (length acts) && (goodActions acts && leb (length acts) 2147483647)) v (length log) i
     (reachable v (long (i .position)) start
-    (refuseIf (unsoundAt v log start (endOffset v start bound) (length acts)) UnsoundFrame
+    (refuseIf (unsoundAt v log start (endOffset v start bound) (length acts)) (unsoundFrameOf v log start)
     Read))
 
 -- a closed image answers the start; the result is the position after the last whole message or padding

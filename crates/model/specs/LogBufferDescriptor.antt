@@ -18,7 +18,8 @@ use mir.Val.{toZ}
 use Rattle.model.specs.declared.LogRecord.{LogRecord}
 use Rattle.model.specs.declared.Reading.{Reading}
 use Rattle.model.specs.declared.Place.{Place}
-use Rattle.model.specs.declared.Error.the-variants.{IllegalArgument, IllegalRecord, LastTerm, UnsoundFrame}
+use Rattle.model.specs.declared.Error.{Error}
+use Rattle.model.specs.declared.Error.the-variants.{IllegalArgument, IllegalRecord, LastTerm}
 use Rattle.model.specs.declared.Verdict.{Verdict}
 use Rattle.model.specs.declared.Verdict.the-variants.{Pass, Refuse}
 use Rattle.model.specs.declared.Positioned.{Positioned}
@@ -171,12 +172,12 @@ abbrev pub placeOf : LogRecord → ℤ → ℤ → Place
 placeOf r partition offset = record { read = reading r; partition = word partition; offset = word offset }
 
 -- The rows with which the calls of readers, claims and the assembler begin, before their own: 1 for an illegal argument, then 2 for an
--- unsound record. Row 17, where the first frame is looked at and is unsound.
+-- unsound record. Then 22 or 23, which this is, where the first frame is looked at and is unsound.
 abbrev pub firstRows : Bool → Bool → Verdict → Verdict
 firstRows good sound own = cond good (cond sound own (Refuse IllegalRecord)) (Refuse IllegalArgument)
 
-abbrev pub row17 : Bool → Verdict
-row17 unsound = cond unsound (Refuse UnsoundFrame) Pass
+abbrev pub frameRow : Bool → Error → Verdict
+frameRow unsound e = cond unsound (Refuse e) Pass
 
 -- ---- the record, changed
 

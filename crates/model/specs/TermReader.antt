@@ -29,9 +29,9 @@ use Rattle.model.specs.declared.TermRead.the-variants.{Outcome, Refused}
 use Rattle.model.specs.declared.Located.{Located}
 use Rattle.model.specs.Bytes.{word}
 use Rattle.model.specs.Parts.{locatedBy}
-use Rattle.model.specs.FrameDescriptor.{align, lengthAt, frameAt, isUnsound, flagsAt, ends}
+use Rattle.model.specs.FrameDescriptor.{align, lengthAt, frameAt, isUnsound, unsoundFrameAt, flagsAt, ends}
 use Rattle.model.specs.DataFrameHeader.{Header, headerAt}
-use Rattle.model.specs.LogBufferDescriptor.{biased, positionOf, reading, sound, withinTerm, goodPartition, goodOffset, firstRows, row17}
+use Rattle.model.specs.LogBufferDescriptor.{biased, positionOf, reading, sound, withinTerm, goodPartition, goodOffset, firstRows, frameRow}
 
 -- ---- the walk
 
@@ -82,7 +82,7 @@ handedBy action at n whole w =
 -- one frame, and `go` from the offset after it with so many fragments to come and these actions; a walk stops at an unsound frame
 abbrev pub over : Frame → Bool → ℕ → ℕ → List ℕ → (ℕ → ℕ → List ℕ → Walked) → Walked
 over Absent whole at limit acts go = still
-over Unsound whole at limit acts go = still
+over (Unsound n) whole at limit acts go = still
 over (Padding n) whole at limit acts go = passed (align n) (go (at + align n) (suc limit) acts)
 over (Data n) whole at limit acts go = handedBy (nextAction acts) at n whole (go (at + align n) limit (restActions acts))
 
@@ -96,7 +96,7 @@ walk (suc fuel) log base term end at (suc limit) acts =
     (over (frameAt (drop (base + at) log) (term - at)) (ends (flagsAt (drop (base + at) log))) at limit acts
     (λ a l more. walk fuel log base term end a l more))
 
--- whether the first frame is looked at and is unsound (17)
+-- whether the first frame is looked at and is unsound (22, 23)
 abbrev pub firstUnsound : List ℕ → ℕ → ℕ → ℕ → ℕ → ℕ → Bool
 firstUnsound log base term end at limit = ltb at end && (ltb 0 limit && isUnsound (frameAt (drop (base + at) log) (term - at)))
 
@@ -147,7 +147,7 @@ goodHandler acts limit = eqb (length acts) 0 || goodControl acts limit
 unfoldable pub framesVerdict : List ℕ → ℕ → ℕ → ℕ → ℕ → ℕ → List ℕ → ℕ → Verdict
 framesVerdict log base term end at limit acts slots =
     cond (goodWalk (length log) base term end at limit slots && goodHandler acts limit)
-    (row17 (firstUnsound log base term end at limit))
+    (frameRow (firstUnsound log base term end at limit) (unsoundFrameAt log base at))
     (Refuse IllegalArgument)
 
 abbrev pub walkOf : Walked → Walk
@@ -166,7 +166,7 @@ unfoldable pub framesEntries : List ℕ → ℕ → ℕ → ℕ → ℕ → ℕ 
 framesEntries log base term end at limit acts slots =
     entriesBy slots (walk term log base term end at limit acts) (framesVerdict log base term end at limit acts (length slots))
 
--- ---- `read`: record, log, partition, offset, fragment limit, lent entries. In order: 1, 2, 17.
+-- ---- `read`: record, log, partition, offset, fragment limit, lent entries. In order: 1, 2, 22 or 23.
 
 -- Where it may start: the place of a frame, or the term's end, where nothing is left to read.
 abbrev pub goodStart : ℕ → Reading → Bool
@@ -175,7 +175,7 @@ goodStart at v = eqb (at % 32) 0 && withinTerm at v
 unfoldable pub readVerdict : Reading → List ℕ → ℕ → ℕ → ℕ → ℕ → Verdict
 readVerdict v log k at limit slots =
     firstRows (goodPartition k && (goodStart at v && goodEntries slots limit)) (sound v (length log))
-    (row17 (firstUnsound log (k * v .term) (v .term) (v .term) at limit))
+    (frameRow (firstUnsound log (k * v .term) (v .term) (v .term) at limit) (unsoundFrameAt log (k * v .term) at))
 
 abbrev pub readWalk : Reading → List ℕ → ℕ → ℕ → ℕ → Walked
 readWalk v log k at limit = walk (v .term) log (k * v .term) (v .term) (v .term) at limit []

@@ -1,5 +1,5 @@
 -- The scans of a term: `scan`, `scan_for_gap`, `scan_for_availability` ("Reading" in document 01, second paragraph). Each meets an
--- unsound frame as readers do: 17 at the first frame, else it stops before it. In order: 1, 2, 17. Read Image next.
+-- unsound frame as readers do: 22 or 23 at the first frame, else it stops before it. In order: 1, 2, 22 or 23. Read Image next.
 use Prim.Native.Nat.{ℕ, zero, suc, _+_, _-_, _*_, _%_, min}
 use mathlib.Core.Bool.{Bool, true, false, cond, _&&_, _||_}
 use mathlib.Core.List.{List}
@@ -7,6 +7,7 @@ use lib.Dec.{eqb, leb, ltb}
 use lib.ListN.{length, drop}
 use lib.IntN.{ℤ, pos}
 use Rattle.model.specs.declared.LogRecord.{LogRecord}
+use Rattle.model.specs.declared.Error.{Error}
 use Rattle.model.specs.declared.Verdict.{Verdict}
 use Rattle.model.specs.declared.Verdict.the-variants.{Pass, Refuse}
 use Rattle.model.specs.declared.Frame.{Frame}
@@ -18,19 +19,19 @@ use Rattle.model.specs.declared.GapScanned.the-variants.{Gap, NoGap, Ref
 use Rattle.model.specs.declared.AvailabilityScanned.{AvailabilityScanned}
 use Rattle.model.specs.declared.AvailabilityScanned.the-variants.{Outcome, Refused as AvailabilityRefused}
 use Rattle.model.specs.Bytes.{word, u32}
-use Rattle.model.specs.FrameDescriptor.{align, isWriting, lengthAt, frameAt, isUnsound}
-use Rattle.model.specs.LogBufferDescriptor.{reading, sound, goodPartition, goodOffset, withinTerm, firstRows, row17}
+use Rattle.model.specs.FrameDescriptor.{align, isWriting, lengthAt, frameAt, isUnsound, unsoundFrameAt}
+use Rattle.model.specs.LogBufferDescriptor.{reading, sound, goodPartition, goodOffset, withinTerm, firstRows, frameRow}
 use Rattle.model.specs.TermReader.{natural}
 
--- the ladder of the three, with what row 1 asks and what row 17 looks at
-unfoldable pub scanVerdict : Bool → Bool → Bool → Verdict
-scanVerdict good sound first = firstRows good sound (row17 first)
+-- the ladder of the three, with what row 1 asks, whether the first frame is unsound, and its refusal
+unfoldable pub scanVerdict : Bool → Bool → Bool → Error → Verdict
+scanVerdict good sound first e = firstRows good sound (frameRow first e)
 
 -- ---- scan: whole data frames up to the limit; a padding frame only at the start, even one that ends past the limit
 
 abbrev pub scanOver : Frame → Bool → ℕ → ℕ → (ℕ → ℕ) → ℕ
 scanOver Absent first at limit go = at
-scanOver Unsound first at limit go = at
+scanOver (Unsound n) first at limit go = at
 scanOver (Padding n) first at limit go = cond first (at + align n) at
 scanOver (Data n) first at limit go = cond (leb (at + align n) limit) (go (at + align n)) at
 
@@ -45,6 +46,7 @@ unfoldable pub scanJudge : LogRecord → List ℕ → ℕ → ℕ → ℤ → Ve
 scanJudge r log k at limit =
     scanVerdict (goodPartition k && (goodOffset at (reading r) && withinTerm (natural limit) (reading r))) (sound (reading r) (length log))
     (ltb at (natural limit) && isUnsound (frameAt (drop (k * reading r .term + at) log) (reading r .term - at)))
+    (unsoundFrameAt log (k * reading r .term) at)
 
 abbrev pub scanBy : ℕ → Verdict → Scanned
 scanBy at Pass = Offset at
@@ -65,7 +67,7 @@ pub record Rebuilt : Type 0 where
 
 abbrev pub gapOver : Frame → ℕ → ℕ → (ℕ → Rebuilt) → Rebuilt
 gapOver Absent at high go = record { at = at; stopped = false }
-gapOver Unsound at high go = record { at = at; stopped = true }
+gapOver (Unsound n) at high go = record { at = at; stopped = true }
 gapOver (Padding n) at high go = cond (leb high (at + align n)) (record { at = at + align n; stopped = false }) (go (at + align n))
 gapOver (Data n) at high go = cond (leb high (at + align n)) (record { at = at + align n; stopped = false }) (go (at + align n))
 
@@ -89,6 +91,7 @@ unfoldable pub gapJudge : LogRecord → List ℕ → ℕ → ℕ → ℤ → Ver
 gapJudge r log k at high =
     scanVerdict (goodPartition k && (goodOffset at (reading r) && goodMark high r)) (sound (reading r) (length log))
     (isUnsound (frameAt (drop (k * reading r .term + at) log) (reading r .term - at)))
+    (unsoundFrameAt log (k * reading r .term) at)
 
 -- the gap's term id as given, its offset, its length, and whether it starts on a frame being written
 abbrev pub gapAt : LogRecord → List ℕ → ℕ → ℤ → ℕ → Rebuilt → GapScanned
@@ -123,7 +126,7 @@ counted available size padding most go =
 
 abbrev pub availableOver : Frame → ℕ → ℕ → ℕ → (ℕ → ℕ → Available) → Available
 availableOver Absent available padding most go = record { available = available; padding = padding }
-availableOver Unsound available padding most go = record { available = available; padding = padding }
+availableOver (Unsound n) available padding most go = record { available = available; padding = padding }
 availableOver (Padding n) available padding most go = counted available 32 (align n - 32) most go
 availableOver (Data n) available padding most go = counted available (align n) padding most go
 
@@ -138,6 +141,7 @@ unfoldable pub availabilityJudge : LogRecord → List ℕ → ℕ → ℕ → Ve
 availabilityJudge r log k at =
     scanVerdict (goodPartition k && goodOffset at (reading r)) (sound (reading r) (length log))
     (isUnsound (frameAt (drop (k * reading r .term + at) log) (reading r .term - at)))
+    (unsoundFrameAt log (k * reading r .term) at)
 
 abbrev pub availabilityBy : Available → Verdict → AvailabilityScanned
 availabilityBy a Pass = Outcome (pos (a .padding * 4294967296 + a .available))

@@ -26,7 +26,8 @@ pub struct Claim {
     pub term_id: i32,
 }
 
-// The refusals, in the order of document 01's table; specs/Errors.antt gives each its number. The Rust's names where it has one.
+// The refusals, in the order of document 01's table, and then as document 02 adds them; specs/Errors.antt gives each its number. The Rust's names
+// where it has one. A refusal of a frame carries its place, its offset in its term.
 pub enum Error {
     IllegalArgument,
     IllegalRecord,
@@ -44,8 +45,9 @@ pub enum Error {
     ClaimMismatch,
     NewPositionOutOfRange,
     NewPositionNotAligned,
-    UnsoundFrame,
     AssemblyFull,
+    FrameTooShort(u32),
+    FramePastTerm(u32),
 }
 
 // The record's numbers as they are judged, none of them signed, with one partition's tail taken apart. Term ids have 2^31 added; any
@@ -174,10 +176,10 @@ pub enum FrameLengthRead {
     Refused(Error),
 }
 
-// What stands at a place of a log: no finished frame, an unsound one, or the length of a padding or a data frame.
+// What stands at a place of a log: no finished frame, or the length of an unsound one, of a padding or of a data frame.
 pub enum Frame {
     Absent,
-    Unsound,
+    Unsound(usize),
     Padding(usize),
     Data(usize),
 }
