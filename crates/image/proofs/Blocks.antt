@@ -15,7 +15,6 @@ use Rattle.model.specs.declared.LogRecord.{LogRecord}
 use Rattle.model.specs.declared.Reading.{Reading}
 use Rattle.model.specs.declared.Place.{Place}
 use Rattle.model.specs.declared.Error.{Error}
-use Rattle.model.specs.declared.Error.the-variants.{UnsoundFrame}
 use Rattle.model.specs.declared.Verdict.the-variants.{Pass, Refuse}
 use Rattle.model.specs.declared.ReadVerdict.{ReadVerdict}
 use Rattle.model.specs.declared.ReadVerdict.the-variants.{Read}
@@ -32,8 +31,8 @@ use Rattle.model.specs.DataFrameHeader.{headerAt}
 use Rattle.model.specs.FrameDescriptor.{align, frameAt}
 use Rattle.model.specs.LogBufferDescriptor.{reading, sound, partitionOf, goodPartition, goodOffset, withinTerm, placeOf}
 use Rattle.model.specs.TermReader.{natural, fieldsOf, headerBy, headerCall}
-use Rattle.model.specs.TermScan.{scanOver, scanFrom, scanBy, scanOf}
-use Rattle.model.specs.Image.{Image as State, movedTo, refuseIf, readable, unsoundAt, pollVerdict, blockEnd, blockLength, blockBy, blockPollOf}
+use Rattle.model.specs.TermScan.{scanOver, scanFrom, scanBy, scanRefusal, scanOf}
+use Rattle.model.specs.Image.{Image as State, movedTo, refuseIf, readable, unsoundAt, unsoundFrameOf, pollVerdict, blockEnd, blockLength, blockBy, blockPollOf}
 use Rattle.model.proofs.FrameLaws.{Lies, lies}
 use Rattle.model.proofs.HeaderRows.{header-by}
 use Rattle.model.proofs.Rows.{no-row}
@@ -53,7 +52,7 @@ module _ (log : List ℕ) (base term limit at : ℕ) (here : at ≤ term) where
   over-in : (x : Frame) (b : Bool) (go : ℕ → ℕ) → frameAt (drop (base + at) log) (term - at) ≡ x → ((a : ℕ) → a ≤ term → (a ≤ go a) × (go a ≤ term))
       → (at ≤ scanOver x b at limit go) × (scanOver x b at limit go ≤ term)
   over-in Absent b go e h = (omega arith, here)
-  over-in Unsound b go e h = (omega arith, here)
+  over-in (Unsound n) b go e h = (omega arith, here)
   over-in (Padding n) b go e h =
       let k : Lies n (term - at) = lies (drop (base + at) log) (term - at) (Padding n) e refl in
       between b (at + align n) at at term (omega arith, omega (arith, k .inside)) (omega arith, here)
@@ -117,7 +116,7 @@ module _ (r : LogRecord) (log : List ℕ) (v : Reading) (p : ℕ) (ev : v ≡ re
       cc
 
   pub scan-is : (end : ℕ) → end ≤ v .term
-      → scanBy (scanFrom (v .term) log (partitionOf p (v .term) * v .term) (v .term) end true (p % v .term)) (cond (unsoundAt v log p end 1) (Refuse UnsoundFrame) Pass)
+      → scanBy (scanFrom (v .term) log (partitionOf p (v .term) * v .term) (v .term) end true (p % v .term)) (cond (unsoundAt v log p end 1) (Refuse (unsoundFrameOf v log p)) Pass)
       ≡ scanOf r log (signed (p / v .term % 3)) (signed (p % v .term)) (signed end)
   scan-is end e =
       let s : end < 2147483648 = omega (arith, place .term-high) in
@@ -149,36 +148,38 @@ module _ (r : LogRecord) (log : List ℕ) (v : Reading) (p : ℕ) (ev : v ≡ re
 
 -- ---- what the scan's answer says
 
-first-of : (b : Bool) (n : ℕ) (e : Error) → scanBy n (cond b (Refuse UnsoundFrame) Pass) ≡ Refused e → b ≡ true
-first-of true n e h = refl
-first-of false n e h = absurd (let z : _≡_ {A = ℕ} 0 1 = cc in omega arith)
+first-of : (b : Bool) (n : ℕ) (u e : Error) → scanBy n (cond b (Refuse u) Pass) ≡ Refused e → (b ≡ true) × (e ≡ u)
+first-of true n u e h = (refl, cc)
+first-of false n u e h = absurd (let z : _≡_ {A = ℕ} 0 1 = cc in omega arith)
 
-offset-of : (b : Bool) (n m : ℕ) → scanBy n (cond b (Refuse UnsoundFrame) Pass) ≡ Offset m → (b ≡ false) × (n ≡ m)
-offset-of true n m h = absurd (let z : _≡_ {A = ℕ} 0 1 = cc in omega arith)
-offset-of false n m h = (refl, cc)
+offset-of : (b : Bool) (u : Error) (n m : ℕ) → scanBy n (cond b (Refuse u) Pass) ≡ Offset m → (b ≡ false) × (n ≡ m)
+offset-of true u n m h = absurd (let z : _≡_ {A = ℕ} 0 1 = cc in omega arith)
+offset-of false u n m h = (refl, cc)
 
 module _ (v : Reading) (log : List ℕ) (limit p q end : ℕ) (ep : p ≡ q) (ee : end ≡ min (v .term) (p % v .term + (p + limit - p))) (S : Scanned)
-    (answer : S ≡ scanBy (scanFrom (v .term) log (partitionOf p (v .term) * v .term) (v .term) end true (p % v .term)) (cond (unsoundAt v log p end 1) (Refuse UnsoundFrame) Pass)) where
+    (answer : S ≡ scanBy (scanFrom (v .term) log (partitionOf p (v .term) * v .term) (v .term) end true (p % v .term)) (cond (unsoundAt v log p end 1) (Refuse (unsoundFrameOf v log p)) Pass)) where
   abbrev stops : ℕ → ℕ → ℕ
   stops x e = scanFrom (v .term) log (partitionOf x (v .term) * v .term) (v .term) e true (x % v .term)
 
   end-is : end ≡ blockEnd v q limit
   end-is = let d : p + limit - p ≡ limit = omega arith in ee ∙ ap (λ (x : ℕ). min (v .term) (p % v .term + x)) d ∙ ap (λ (x : ℕ). blockEnd v x limit) ep
 
-  pub block-unsound : (e : Error) → S ≡ Refused e → unsoundAt v log q (blockEnd v q limit) 1 ≡ true
-  block-unsound e h = ap₂ (λ (x y : ℕ). unsoundAt v log x y 1) (sym ep) (sym end-is) ∙ first-of _ (stops p end) e (sym answer ∙ h)
+  pub block-unsound : (e : Error) → S ≡ Refused e → (unsoundAt v log q (blockEnd v q limit) 1 ≡ true) × (scanRefusal S ≡ unsoundFrameOf v log q)
+  block-unsound e h =
+      let u = first-of (unsoundAt v log p end 1) (stops p end) (unsoundFrameOf v log p) e (sym answer ∙ h) in
+      (ap₂ (λ (x y : ℕ). unsoundAt v log x y 1) (sym ep) (sym end-is) ∙ u .0, ap scanRefusal h ∙ u .1 ∙ ap (unsoundFrameOf v log) ep)
 
   pub block-sound : (m : ℕ) → S ≡ Offset m → unsoundAt v log q (blockEnd v q limit) 1 ≡ false
-  block-sound m h = ap₂ (λ (x y : ℕ). unsoundAt v log x y 1) (sym ep) (sym end-is) ∙ offset-of (unsoundAt v log p end 1) (stops p end) m (sym answer ∙ h) .0
+  block-sound m h = ap₂ (λ (x y : ℕ). unsoundAt v log x y 1) (sym ep) (sym end-is) ∙ offset-of (unsoundAt v log p end 1) (unsoundFrameOf v log p) (stops p end) m (sym answer ∙ h) .0
 
   pub block-size : (m : ℕ) → S ≡ Offset m → m - p % v .term ≡ blockLength v log q limit
   block-size m h =
-      ap (λ (x : ℕ). x - p % v .term) (sym (offset-of (unsoundAt v log p end 1) (stops p end) m (sym answer ∙ h) .1))
+      ap (λ (x : ℕ). x - p % v .term) (sym (offset-of (unsoundAt v log p end 1) (unsoundFrameOf v log p) (stops p end) m (sym answer ∙ h) .1))
       ∙ ap₂ (λ (x y : ℕ). stops x y - x % v .term) ep end-is
 
   pub block-in : (m : ℕ) → p % v .term ≤ v .term → S ≡ Offset m → (p % v .term ≤ m) × (m ≤ v .term)
   block-in m l h =
-      let e = offset-of (unsoundAt v log p end 1) (stops p end) m (sym answer ∙ h) .1 in
+      let e = offset-of (unsoundAt v log p end 1) (unsoundFrameOf v log p) (stops p end) m (sym answer ∙ h) .1 in
       let k = scan-in (v .term) log (partitionOf p (v .term) * v .term) (v .term) end true (p % v .term) l in
       (omega (arith, k .0), omega (arith, k .1))
 
@@ -198,12 +199,12 @@ module _ (v : Reading) (log : List ℕ) (i : State) (limit n : ℕ) (en : n ≡ 
       ap (λ (z : ℤ). Block (p % v .term) n (i .session) z) ei ∙ sym (ap (λ (b : Bool). some b p n) (ne-eqb n 0 h)) ∙ ap₂ (λ (x m : ℕ). some (eqb m 0) x m) ep en
 
 pub block-kept : (v : Reading) (log : List ℕ) (i : State) (limit : ℕ) → movedTo i (blockRead v log i limit .next .position) ≡ blockRead v log i limit .next
-block-kept v log i limit = only-moved i (blockLength v log (long (i .position)) limit) (refuseIf (unsoundAt v log (long (i .position)) (blockEnd v (long (i .position)) limit) 1) UnsoundFrame Read)
+block-kept v log i limit = only-moved i (blockLength v log (long (i .position)) limit) (refuseIf (unsoundAt v log (long (i .position)) (blockEnd v (long (i .position)) limit) 1) (unsoundFrameOf v log (long (i .position))) Read)
 
 -- ---- the call, over the code's numbers
 
 pub as-block : (r : LogRecord) (log : List ℕ) (i : State) (bytes : ℤ) (v : Reading) (limit : ℕ) → v ≡ reading r → limit ≡ natural bytes → (x : ReadVerdict) → x ≡ readable true v (length log) i Read
-    → blockSaid v log i limit (after x (refuseIf (unsoundAt v log (long (i .position)) (blockEnd v (long (i .position)) limit) 1) UnsoundFrame Read)) ≡ blockPollOf r log i bytes
+    → blockSaid v log i limit (after x (refuseIf (unsoundAt v log (long (i .position)) (blockEnd v (long (i .position)) limit) 1) (unsoundFrameOf v log (long (i .position))) Read)) ≡ blockPollOf r log i bytes
 unfolding blockPollOf
 as-block r log i bytes v limit ev el x ex =
     ap (blockSaid v log i limit) (poll-after v log i true (blockEnd v (long (i .position)) limit) 1 x ex)

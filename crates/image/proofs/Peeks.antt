@@ -10,13 +10,13 @@ use lib.ListN.{length}
 use lib.IntN.{ℤ}
 use Rattle.model.specs.declared.LogRecord.{LogRecord}
 use Rattle.model.specs.declared.Reading.{Reading}
-use Rattle.model.specs.declared.Error.the-variants.{NewPositionOutOfRange, NewPositionNotAligned, UnsoundFrame}
+use Rattle.model.specs.declared.Error.the-variants.{NewPositionOutOfRange, NewPositionNotAligned}
 use Rattle.model.specs.declared.ReadVerdict.{ReadVerdict}
 use Rattle.model.specs.declared.ReadVerdict.the-variants.{Read, Closed, Refuse}
 use Rattle.model.specs.Bytes.{long}
 use Rattle.model.specs.LogBufferDescriptor.{reading, greatest}
 use Rattle.model.specs.TermReader.{Walked, natural, goodEntries, goodActions}
-use Rattle.model.specs.Image.{Image as State, refuseIf, readable, reachable, endOffset, walkAt, unsoundAt, slotsBy, peekVerdict, peekedBy, peekOf, peekSlots}
+use Rattle.model.specs.Image.{Image as State, refuseIf, readable, reachable, endOffset, walkAt, unsoundAt, unsoundFrameOf, slotsBy, peekVerdict, peekedBy, peekOf, peekSlots}
 use Rattle.image.proofs.Rungs.{after, Readable, readable-after, readable-read}
 
 -- ---- rows 15 and 16 after the others
@@ -92,8 +92,8 @@ module _ (r : LogRecord) (log : List ℕ) (i : State) (slots : List ℤ) (acts :
     (eb : b ≡ natural bound) (ee : end ≡ min (v .term) (p % v .term + (b - p)))
     (eg : good ≡ (goodEntries (length slots) (length acts) && (goodActions acts && (leb (length acts) 2147483647 && leb (length acts) (length acts))))) (x : ReadVerdict)
     (ex : x ≡ readable good v (length log) i (reachable v (long (i .position)) p Read)) where
-  abbrev row17 : ReadVerdict
-  row17 = refuseIf (unsoundAt v log p end (length acts)) UnsoundFrame Read
+  abbrev frameRow : ReadVerdict
+  frameRow = refuseIf (unsoundAt v log p end (length acts)) (unsoundFrameOf v log p) Read
 
   abbrev walked : Walked
   walked = walkAt v log p end (length acts) acts
@@ -101,19 +101,19 @@ module _ (r : LogRecord) (log : List ℕ) (i : State) (slots : List ℤ) (acts :
   good-is : good ≡ (goodEntries (length slots) (length acts) && (goodActions acts && leb (length acts) 2147483647))
   good-is = eg ∙ ap (λ (t : Bool). goodEntries (length slots) (length acts) && (goodActions acts && t)) (at-most-itself (length acts))
 
-  verdict-is : after x row17 ≡ peekVerdict (reading r) log i (length slots) acts (long start) (natural bound)
+  verdict-is : after x frameRow ≡ peekVerdict (reading r) log i (length slots) acts (long start) (natural bound)
   unfolding peekVerdict
   verdict-is =
       let f : Reading → ℕ → ℕ → Bool → ReadVerdict = λ (u : Reading) (q c : ℕ) (g : Bool). readable g u (length log) i (reachable u (long (i .position)) q
-      (refuseIf (unsoundAt u log q (endOffset u q c) (length acts)) UnsoundFrame Read)) in
-      let j : ℕ → ReadVerdict = λ (e : ℕ). readable good v (length log) i (reachable v (long (i .position)) p (refuseIf (unsoundAt v log p e (length acts)) UnsoundFrame Read)) in
-      reach-after good v (length log) i p x ex row17 ∙ ap j ee ∙ ap₂ (λ (u : Reading) (q : ℕ). f u q b good) ev ep ∙ ap₂ (f (reading r) (long start)) eb good-is
+      (refuseIf (unsoundAt u log q (endOffset u q c) (length acts)) (unsoundFrameOf u log q) Read)) in
+      let j : ℕ → ReadVerdict = λ (e : ℕ). readable good v (length log) i (reachable v (long (i .position)) p (refuseIf (unsoundAt v log p e (length acts)) (unsoundFrameOf v log p) Read)) in
+      reach-after good v (length log) i p x ex frameRow ∙ ap j ee ∙ ap₂ (λ (u : Reading) (q : ℕ). f u q b good) ev ep ∙ ap₂ (f (reading r) (long start)) eb good-is
 
   walk-is : walked ≡ walkAt (reading r) log (long start) (endOffset (reading r) (long start) (natural bound)) (length acts) acts
   walk-is =
       let w : Reading → ℕ → ℕ → Walked = λ (u : Reading) (q c : ℕ). walkAt u log q (endOffset u q c) (length acts) acts in
       ap (λ (e : ℕ). walkAt v log p e (length acts) acts) ee ∙ ap₂ (λ (u : Reading) (q : ℕ). w u q b) ev ep ∙ ap (w (reading r) (long start)) eb
 
-  pub as-peek : (peekedBy start walked (after x row17) ≡ peekOf r log i slots acts start bound) × (slotsBy slots walked (after x row17) ≡ peekSlots r log i slots acts start bound)
+  pub as-peek : (peekedBy start walked (after x frameRow) ≡ peekOf r log i slots acts start bound) × (slotsBy slots walked (after x frameRow) ≡ peekSlots r log i slots acts start bound)
   unfolding peekOf peekSlots
   as-peek = (ap₂ (peekedBy start) walk-is verdict-is, ap₂ (slotsBy slots) walk-is verdict-is)

@@ -8,7 +8,6 @@ use borrow.Author.Tests.{leb-true}
 use lib.Dec.{leb}
 use Rattle.model.specs.declared.Reading.{Reading}
 use Rattle.model.specs.declared.Error.{Error}
-use Rattle.model.specs.declared.Error.the-variants.{UnsoundFrame}
 use Rattle.model.specs.declared.Verdict.the-variants.{Pass, Refuse}
 use Rattle.model.specs.declared.Walk.{Walk}
 use Rattle.model.specs.declared.FramesRead.the-variants.{Walked as AllWalked, Refused as WalkRefused}
@@ -57,10 +56,10 @@ walk-good v n p end limit slots h a e g =
     sym (good-walk-by n _ (v .term) end (p % v .term) limit slots (k .inside) (k .term-high) (k .term-32) e (k .at-32) (leb-true _ _ (f .0))) ∙ f .1
 
 -- what a walk's answer says of its first frame
-pub walked-first : (b : Bool) (w : Walked) (x : Walk) → framesBy w (cond b (Refuse UnsoundFrame) Pass) ≡ AllWalked x → (b ≡ false) × (walkOf w ≡ x)
-walked-first true w x h = absurd (let z : _≡_ {A = ℕ} 0 1 = cc in omega arith)
-walked-first false w x h = (refl, cc)
+pub walked-first : (b : Bool) (w : Walked) (u : Error) (x : Walk) → framesBy w (cond b (Refuse u) Pass) ≡ AllWalked x → (b ≡ false) × (walkOf w ≡ x)
+walked-first true w u x h = absurd (let z : _≡_ {A = ℕ} 0 1 = cc in omega arith)
+walked-first false w u x h = (refl, cc)
 
-pub refused-first : (b : Bool) (w : Walked) (e : Error) → framesBy w (cond b (Refuse UnsoundFrame) Pass) ≡ WalkRefused e → b ≡ true
-refused-first true w e h = refl
-refused-first false w e h = absurd (let z : _≡_ {A = ℕ} 0 1 = cc in omega arith)
+pub refused-first : (b : Bool) (w : Walked) (u e : Error) → framesBy w (cond b (Refuse u) Pass) ≡ WalkRefused e → (b ≡ true) × (e ≡ u)
+refused-first true w u e h = (refl, cc)
+refused-first false w u e h = absurd (let z : _≡_ {A = ℕ} 0 1 = cc in omega arith)

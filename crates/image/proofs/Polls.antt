@@ -10,7 +10,6 @@ use lib.IntN.{ℤ}
 use Rattle.model.specs.declared.LogRecord.{LogRecord}
 use Rattle.model.specs.declared.Reading.{Reading}
 use Rattle.model.specs.declared.Error.{Error}
-use Rattle.model.specs.declared.Error.the-variants.{UnsoundFrame}
 use Rattle.model.specs.declared.Verdict.the-variants.{Pass, Refuse as VerdictRefuse}
 use Rattle.model.specs.declared.ReadVerdict.{ReadVerdict}
 use Rattle.model.specs.declared.ReadVerdict.the-variants.{Read, Closed, Refuse}
@@ -19,8 +18,8 @@ use Rattle.model.specs.declared.FramesRead.{FramesRead}
 use Rattle.model.specs.declared.FramesRead.the-variants.{Walked as AllWalked, Refused as WalkRefused}
 use Rattle.model.specs.Bytes.{long}
 use Rattle.model.specs.LogBufferDescriptor.{reading}
-use Rattle.model.specs.TermReader.{walkOf, framesBy, entriesBy, laid, natural, goodEntries, goodActions}
-use Rattle.model.specs.Image.{Image as State, PollReply, movedTo, refuseIf, readable, walkAt, unsoundAt, endOffset, pollReply, pollVerdict, pollOf, boundedPollOf, controlledPollOf}
+use Rattle.model.specs.TermReader.{walkOf, framesBy, framesRefusal, entriesBy, laid, natural, goodEntries, goodActions}
+use Rattle.model.specs.Image.{Image as State, PollReply, movedTo, refuseIf, readable, walkAt, unsoundAt, unsoundFrameOf, endOffset, pollReply, pollVerdict, pollOf, boundedPollOf, controlledPollOf}
 use Rattle.model.proofs.ReadLaws.{walk-moved}
 use Rattle.model.proofs.Sound.{sound-true}
 use Rattle.image.specs.declared.PollReply.{PollReply as Reply}
@@ -32,23 +31,26 @@ use Rattle.image.proofs.Places.{walked-first, refused-first}
 
 -- the answer F of a walk that left the lent entries as `out`, from a position p
 module _ (v : Reading) (log : List ℕ) (slots : List ℤ) (end limit : ℕ) (acts : List ℕ) (p q : ℕ) (same : p ≡ q) (F : FramesRead) (out : List ℤ)
-    (answer : F ≡ framesBy (walkAt v log p end limit acts) (cond (unsoundAt v log p end limit) (VerdictRefuse UnsoundFrame) Pass))
-    (left : out ≡ entriesBy slots (walkAt v log p end limit acts) (cond (unsoundAt v log p end limit) (VerdictRefuse UnsoundFrame) Pass)) where
-  pub frames-unsound : (e : Error) → F ≡ WalkRefused e → (unsoundAt v log q end limit ≡ true) × (out ≡ slots)
+    (answer : F ≡ framesBy (walkAt v log p end limit acts) (cond (unsoundAt v log p end limit) (VerdictRefuse (unsoundFrameOf v log p)) Pass))
+    (left : out ≡ entriesBy slots (walkAt v log p end limit acts) (cond (unsoundAt v log p end limit) (VerdictRefuse (unsoundFrameOf v log p)) Pass)) where
+  pub frames-unsound : (e : Error) → F ≡ WalkRefused e → (unsoundAt v log q end limit ≡ true) × ((out ≡ slots) × (framesRefusal F ≡ unsoundFrameOf v log q))
   frames-unsound e h =
-      let u = refused-first (unsoundAt v log p end limit) (walkAt v log p end limit acts) e (sym answer ∙ h) in (
-        ap (λ (x : ℕ). unsoundAt v log x end limit) (sym same) ∙ u,
-        left ∙ ap (λ (t : Bool). entriesBy slots (walkAt v log p end limit acts) (cond t (VerdictRefuse UnsoundFrame) Pass)) u,
+      let u = refused-first (unsoundAt v log p end limit) (walkAt v log p end limit acts) (unsoundFrameOf v log p) e (sym answer ∙ h) in (
+        ap (λ (x : ℕ). unsoundAt v log x end limit) (sym same) ∙ u .0,
+        (
+          left ∙ ap (λ (t : Bool). entriesBy slots (walkAt v log p end limit acts) (cond t (VerdictRefuse (unsoundFrameOf v log p)) Pass)) (u .0),
+          ap framesRefusal h ∙ u .1 ∙ ap (unsoundFrameOf v log) same,
+        ),
       )
 
   pub frames-walked : (w : Walk) → F ≡ AllWalked w
       → (unsoundAt v log q end limit ≡ false) × ((walkOf (walkAt v log q end limit acts) ≡ w) × (out ≡ laid slots (walkAt v log q end limit acts .entries)))
   frames-walked w h =
-      let u = walked-first (unsoundAt v log p end limit) (walkAt v log p end limit acts) w (sym answer ∙ h) in (
+      let u = walked-first (unsoundAt v log p end limit) (walkAt v log p end limit acts) (unsoundFrameOf v log p) w (sym answer ∙ h) in (
         ap (λ (x : ℕ). unsoundAt v log x end limit) (sym same) ∙ u .0,
         (
           ap (λ (x : ℕ). walkOf (walkAt v log x end limit acts)) (sym same) ∙ u .1,
-          left ∙ ap (λ (t : Bool). entriesBy slots (walkAt v log p end limit acts) (cond t (VerdictRefuse UnsoundFrame) Pass)) (u .0)
+          left ∙ ap (λ (t : Bool). entriesBy slots (walkAt v log p end limit acts) (cond t (VerdictRefuse (unsoundFrameOf v log p)) Pass)) (u .0)
               ∙ ap (λ (x : ℕ). laid slots (walkAt v log x end limit acts .entries)) same,
         ),
       )
@@ -72,7 +74,7 @@ module _ (v : Reading) (log : List ℕ) (i : State) (slots : List ℤ) (good : B
 
   -- a verdict that lets nothing be read decides, wherever the call ends
   decided : (e : ℕ) (x : ReadVerdict) → x ≡ readable good v (length log) i Read
-      → ending e ≡ pollReply i slots (walkAt v log (long (i .position)) e limit acts) (after x (refuseIf (unsoundAt v log (long (i .position)) e limit) UnsoundFrame Read))
+      → ending e ≡ pollReply i slots (walkAt v log (long (i .position)) e limit acts) (after x (refuseIf (unsoundAt v log (long (i .position)) e limit) (unsoundFrameOf v log (long (i .position))) Read))
   decided e x h = ap (pollReply i slots (walkAt v log (long (i .position)) e limit acts)) (sym (poll-after v log i good e limit x h))
 
   to-term : ending (endOffset v (long (i .position)) 9223372036854775807) ≡ ending (v .term)

@@ -8,12 +8,12 @@ use borrow.Author.Tests.{leb-true, eqb-true, le-leb, lt-leb, le-ltb, lt-ltb, eq-
 use lib.Dec.{leb}
 use lib.ListN.{length}
 use Rattle.model.specs.declared.Reading.{Reading}
-use Rattle.model.specs.declared.Error.the-variants.{IllegalArgument, IllegalRecord, PositionOutOfRange, NewPositionOutOfRange, NewPositionNotAligned, UnsoundFrame}
+use Rattle.model.specs.declared.Error.the-variants.{IllegalArgument, IllegalRecord, PositionOutOfRange, NewPositionOutOfRange, NewPositionNotAligned}
 use Rattle.model.specs.declared.ReadVerdict.{ReadVerdict}
 use Rattle.model.specs.declared.ReadVerdict.the-variants.{Read, Closed, Refuse}
 use Rattle.model.specs.Bytes.{long}
 use Rattle.model.specs.LogBufferDescriptor.{sound, greatest}
-use Rattle.model.specs.Image.{Image as State, refuseIf, goodPosition, readable, reachable, unsoundAt, pollVerdict}
+use Rattle.model.specs.Image.{Image as State, refuseIf, goodPosition, readable, reachable, unsoundAt, unsoundFrameOf, pollVerdict}
 use Rattle.model.proofs.Both.{and-true}
 
 -- a verdict, and where it lets the call go on, what follows it
@@ -100,13 +100,13 @@ module _ (v : Reading) (p q : ℕ) (e : p ≡ q) where
 
 module _ (v : Reading) (log : List ℕ) (i : State) (good : Bool) (end limit : ℕ) where
   pub poll-after : (x : ReadVerdict) → x ≡ readable good v (length log) i Read
-      → after x (refuseIf (unsoundAt v log (long (i .position)) end limit) UnsoundFrame Read) ≡ pollVerdict v log i good end limit
+      → after x (refuseIf (unsoundAt v log (long (i .position)) end limit) (unsoundFrameOf v log (long (i .position))) Read) ≡ pollVerdict v log i good end limit
   unfolding pollVerdict
   poll-after x h = readable-after good v (length log) i x _ h
 
   pub poll-by : (b : Bool) → unsoundAt v log (long (i .position)) end limit ≡ b → Read ≡ readable good v (length log) i Read
-      → refuseIf b UnsoundFrame Read ≡ pollVerdict v log i good end limit
-  poll-by b e h = ap (λ (t : Bool). refuseIf t UnsoundFrame Read) (sym e) ∙ poll-after Read h
+      → refuseIf b (unsoundFrameOf v log (long (i .position))) Read ≡ pollVerdict v log i good end limit
+  poll-by b e h = ap (λ (t : Bool). refuseIf t (unsoundFrameOf v log (long (i .position))) Read) (sym e) ∙ poll-after Read h
 
 -- ---- rows 15 and 16
 

@@ -8,10 +8,9 @@ use lib.IntN.{ℤ}
 use Rattle.model.specs.declared.Reading.{Reading}
 use Rattle.model.specs.declared.ReadVerdict.{ReadVerdict}
 use Rattle.model.specs.declared.ReadVerdict.the-variants.{Read}
-use Rattle.model.specs.declared.Error.the-variants.{UnsoundFrame}
 use Rattle.model.specs.declared.Peeked.{Peeked}
 use Rattle.model.specs.Bytes.{long}
-use Rattle.model.specs.Image.{Image as State, PollReply as PollSaid, BlockReply as BlockSaid, ImageReply as ImageSaid, refuseIf, unsoundAt, blockEnd, blockLength, blockBy, imageBy, walkAt, endOffset, pollReply, pollVerdict}
+use Rattle.model.specs.Image.{Image as State, PollReply as PollSaid, BlockReply as BlockSaid, ImageReply as ImageSaid, refuseIf, unsoundAt, unsoundFrameOf, blockEnd, blockLength, blockBy, imageBy, walkAt, endOffset, pollReply, pollVerdict}
 use Rattle.image.specs.declared.Image.{Image}
 use Rattle.image.specs.declared.PollReply.{PollReply}
 use Rattle.image.specs.declared.PeekReply.{PeekReply}
@@ -58,10 +57,10 @@ pub record TermLength (term : ℕ) : Type 0 where
   pub high : term ≤ 1073741824
   pub one-bit : ones term ≡ 1
 
--- a block poll by its verdict, and once only row 17 is left to judge
+-- a block poll by its verdict, and once only the first frame is left to judge
 abbrev pub blockSaid : Reading → List ℕ → State → ℕ → ReadVerdict → BlockSaid
 blockSaid v log i limit x =
     record { answer = blockBy v log i (blockLength v log (long (i .position)) limit) x; next = imageBy i (blockLength v log (long (i .position)) limit) x }
 
 abbrev pub blockRead : Reading → List ℕ → State → ℕ → BlockSaid
-blockRead v log i limit = blockSaid v log i limit (refuseIf (unsoundAt v log (long (i .position)) (blockEnd v (long (i .position)) limit) 1) UnsoundFrame Read)
+blockRead v log i limit = blockSaid v log i limit (refuseIf (unsoundAt v log (long (i .position)) (blockEnd v (long (i .position)) limit) 1) (unsoundFrameOf v log (long (i .position))) Read)

@@ -3,7 +3,6 @@ ghost use mathlib.Core.Path.{_≡_};
 ghost use mathlib.Core.Bool.{cond, true};
 ghost use Prim.Native.Nat.{_+_, _*_, _%_, _≤_, _<_};
 ghost use lib.ListN.{length, drop};
-ghost use Rattle.model.specs.declared.Error.the-variants.{UnsoundFrame};
 ghost use Rattle.model.specs.declared.Verdict.the-variants.{Pass, Refuse};
 ghost use mir.Syntax.{w32};
 ghost use mir.Val.{toZ};
@@ -11,7 +10,7 @@ ghost use Rattle.model.specs.Bytes.{long};
 ghost use Rattle.model.specs.DataFrameHeader.{headerAt};
 ghost use Rattle.model.specs.LogBufferDescriptor.{reading, sound, greatest, partitionOf};
 ghost use Rattle.model.specs.TermScan.{scanFrom, scanBy};
-ghost use Rattle.model.specs.Image.{unsoundAt};
+ghost use Rattle.model.specs.Image.{unsoundAt, unsoundFrameOf};
 ghost use Rattle.image.specs.Images.{stateOf, blockTo, blockRead};
 use crate::Image;
 use crate::limits;
@@ -19,7 +18,6 @@ use logbuffer::cast;
 use logbuffer::header;
 use logbuffer::term_scan;
 use model::BlockPolled;
-use model::Error;
 use model::HeaderRead;
 use model::LogRecord;
 use model::Reading;
@@ -34,7 +32,7 @@ pub struct BlockTo {
 // The scan from a position of a sound log up to an offset of its term.
 fn scan_at(rec: LogRecord, v: Reading, log: &[u8], p: usize, end: usize) -> Scanned
     requires { ⌜ (v ≡ reading rec) × ((sound v (length (now log)) ≡ true) × ((p % 32 ≡ 0) × (end ≤ v .term))) ⌝ }
-    ensures { λ r. ⌜ r ≡ scanBy (scanFrom (v .term) (now (log .entry)) (partitionOf p (v .term) * v .term) (v .term) end true (p % v .term)) (cond (unsoundAt v (now (log .entry)) p end 1) (Refuse UnsoundFrame) Pass) ⌝ }
+    ensures { λ r. ⌜ r ≡ scanBy (scanFrom (v .term) (now (log .entry)) (partitionOf p (v .term) * v .term) (v .term) end true (p % v .term)) (cond (unsoundAt v (now (log .entry)) p end 1) (Refuse (unsoundFrameOf v (now (log .entry)) p)) Pass) ⌝ }
 {
     let term = v.term;
     term_scan::scan(
@@ -77,10 +75,11 @@ pub(crate) fn block_at(
     let term = v.term;
     let p = cast::long(image.position);
     let end = limits::end_offset(term, p, p + limit);
-    let Scanned::Offset(stop) = scan_at(rec, v, log, p, end) else {
+    let scanned = scan_at(rec, v, log, p, end);
+    let Scanned::Offset(stop) = scanned else {
         return BlockTo {
             position: image.position,
-            answer: BlockPolled::Refused(Error::UnsoundFrame),
+            answer: BlockPolled::Refused(term_scan::refusal(scanned)),
         };
     };
     let at = limits::offset_of(term, p);

@@ -3,18 +3,16 @@ ghost use mathlib.Core.Path.{_≡_};
 ghost use mathlib.Core.Bool.{cond, true};
 ghost use Prim.Native.Nat.{_%_, _≤_};
 ghost use lib.ListN.{length};
-ghost use Rattle.model.specs.declared.Error.the-variants.{UnsoundFrame};
 ghost use Rattle.model.specs.declared.Verdict.the-variants.{Pass, Refuse};
 ghost use Rattle.model.specs.LogBufferDescriptor.{sound};
 ghost use Rattle.model.specs.TermReader.{goodEntries, goodHandler, framesBy, entriesBy};
-ghost use Rattle.model.specs.Image.{walkAt, unsoundAt};
+ghost use Rattle.model.specs.Image.{walkAt, unsoundAt, unsoundFrameOf};
 ghost use Rattle.image.specs.Images.{stateOf, polledTo, pollUpTo};
 use crate::Image;
 use crate::ladder;
 use crate::limits;
 use logbuffer::cast;
 use logbuffer::term_reader;
-use model::Error;
 use model::FramesRead;
 use model::Polled;
 use model::ReadVerdict;
@@ -37,8 +35,8 @@ pub(crate) fn frames_at(
     actions: &[u8],
 ) -> FramesRead
     requires { ⌜ (sound v (length (now log)) ≡ true) × ((p % 32 ≡ 0) × ((end ≤ v .term) × ((goodEntries (length (now entries)) limit ≡ true) × (goodHandler (now actions) limit ≡ true)))) ⌝ }
-    ensures { λ r. ⌜ r ≡ framesBy (walkAt v (now (log .entry)) p end limit (now (actions .entry))) (cond (unsoundAt v (now (log .entry)) p end limit) (Refuse UnsoundFrame) Pass) ⌝ }
-    ensures { λ _. ⌜ now (entries .exit) ≡ entriesBy (now (entries .entry)) (walkAt v (now (log .entry)) p end limit (now (actions .entry))) (cond (unsoundAt v (now (log .entry)) p end limit) (Refuse UnsoundFrame) Pass) ⌝ }
+    ensures { λ r. ⌜ r ≡ framesBy (walkAt v (now (log .entry)) p end limit (now (actions .entry))) (cond (unsoundAt v (now (log .entry)) p end limit) (Refuse (unsoundFrameOf v (now (log .entry)) p)) Pass) ⌝ }
+    ensures { λ _. ⌜ now (entries .exit) ≡ entriesBy (now (entries .entry)) (walkAt v (now (log .entry)) p end limit (now (actions .entry))) (cond (unsoundAt v (now (log .entry)) p end limit) (Refuse (unsoundFrameOf v (now (log .entry)) p)) Pass) ⌝ }
 {
     let term = v.term;
     term_reader::read_frames(
@@ -80,11 +78,11 @@ pub(crate) fn poll_frames(
         ReadVerdict::Read => {
             let p = cast::long(image.position);
             let end = limits::end_offset(v.term, p, bound);
-            let FramesRead::Walked(walked) = frames_at(v, log, entries, p, end, limit, actions)
-            else {
+            let frames = frames_at(v, log, entries, p, end, limit, actions);
+            let FramesRead::Walked(walked) = frames else {
                 return PolledTo {
                     position: image.position,
-                    answer: Polled::Refused(Error::UnsoundFrame),
+                    answer: Polled::Refused(term_reader::refusal(frames)),
                 };
             };
             PolledTo {

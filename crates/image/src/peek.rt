@@ -8,7 +8,7 @@ use crate::ladder;
 use crate::limits;
 use logbuffer::cast;
 use logbuffer::log_buffer_descriptor;
-use model::Error;
+use logbuffer::term_reader;
 use model::FramesRead;
 use model::LogRecord;
 use model::Peeked;
@@ -36,9 +36,9 @@ pub(crate) fn peek_frames(
         ReadVerdict::Closed => Peeked::Position(start, 0),
         ReadVerdict::Read => {
             let end = limits::end_offset(v.term, p, limits::natural_position(limit_position));
-            let FramesRead::Walked(walked) = frames::frames_at(v, log, entries, p, end, n, actions)
-            else {
-                return Peeked::Refused(Error::UnsoundFrame);
+            let read = frames::frames_at(v, log, entries, p, end, n, actions);
+            let FramesRead::Walked(walked) = read else {
+                return Peeked::Refused(term_reader::refusal(read));
             };
             Peeked::Position((p + walked.settled) as i64, walked.entries)
         }

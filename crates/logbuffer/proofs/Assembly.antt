@@ -22,8 +22,8 @@ use Rattle.model.specs.declared.FrameLength.the-variants.{Free, Writing, Finish
 use Rattle.model.specs.declared.Joining.{Joining}
 use Rattle.model.specs.declared.Joining.the-variants.{Through, Ignore, Full, TooLong, Join, Complete}
 use Rattle.model.specs.Bytes.{u32, i32}
-use Rattle.model.specs.FrameDescriptor.{align, frameLength, isFinished, lengthAt, unsoundLength, flagsAt, begins, ends}
-use Rattle.model.specs.LogBufferDescriptor.{sound, goodPartition, goodOffset, placeOf as placeRead, firstRows, row17}
+use Rattle.model.specs.FrameDescriptor.{align, frameLength, isFinished, lengthAt, unsoundLength, unsoundFrameAt, flagsAt, begins, ends}
+use Rattle.model.specs.LogBufferDescriptor.{sound, goodPartition, goodOffset, placeOf as placeRead, firstRows, frameRow}
 use Rattle.model.specs.FragmentAssembler.{Sessions, Assembly, entered, placeOf, joining, sessionsBy, bufferBy, assembledBy, joinedAt, goodFrame, goodAssembly, assembleVerdict, assembleBy, assembleOf}
 use types.Run.{OneOf}
 use denote.Enum.Declared.{tagOf}
@@ -85,13 +85,13 @@ module _ (v : Reading) (log : List ℕ) (lent k at : ℕ) where
       let m : k * v .term ≤ 2 * v .term = mul-le-mul-right (v .term) (leb-true _ _ (p .0)) in
       omega (arith, leb-true (at + 1) (v .term) (t .0), leb-true (v .term) 2147483647 (t .1))
 
-  -- ---- rows 1, 2, 17
+  -- ---- rows 1, 2, 22 and 23
 
   abbrev rows : Verdict
   rows = firstRows (goodAssembly v log lent k at) (sound v (length log)) Pass
 
   abbrev frame-row : Verdict
-  frame-row = row17 (unsoundLength (u32 (drop (k * v .term + at) log)) (v .term - at))
+  frame-row = frameRow (unsoundLength (u32 (drop (k * v .term + at) log)) (v .term - at)) (unsoundFrameAt log (k * v .term) at)
 
   pub verdict-refused : {e : Error} → rows ≡ Refuse e → Refuse e ≡ assembleVerdict v log lent k at
   unfolding assembleVerdict

@@ -207,7 +207,7 @@ fn good_assembly(p: Place, log: &[u8], lent: usize) -> bool
     good_frame(log, p.partition * p.read.term + p.offset)
 }
 
-// Rows 1, 2, 17.
+// Rows 1, 2, 22 and 23.
 fn assemble_verdict(p: Place, log: &[u8], lent: usize) -> Verdict
     requires { ⌜ p .offset < 4294967296 ⌝ }
     ensures { λ r. ⌜ r ≡ assembleVerdict (p .read) (now (log .entry)) lent (p .partition) (p .offset) ⌝ }
@@ -217,11 +217,9 @@ fn assemble_verdict(p: Place, log: &[u8], lent: usize) -> Verdict
         return Verdict::Refuse(e);
     }
     let term = p.read.term;
-    if unsound_length(
-        frame_descriptor::finished_length(log, p.partition * term + p.offset),
-        term - p.offset,
-    ) {
-        return Verdict::Refuse(Error::UnsoundFrame);
+    let length = frame_descriptor::finished_length(log, p.partition * term + p.offset);
+    if unsound_length(length, term - p.offset) {
+        return Verdict::Refuse(frame_descriptor::unsound_frame(length, p.offset as u32));
     }
     Verdict::Pass
 }

@@ -1,12 +1,12 @@
-// Frames as readers meet them: the length word by its sign, which is asked for nowhere else, the frame at a place, the end of a message, the
-// longest message.
+// Frames as readers meet them: the length word by its sign, which is asked for nowhere else, the frame at a place, the refusal of an unsound one, the
+// end of a message, the longest message.
 ghost use mathlib.Core.Path.{_≡_};
 ghost use mathlib.Core.Bool.{true};
 ghost use Prim.Native.Nat.{_+_, _/_, _≤_, _<_, min};
 ghost use lib.ListN.{length, drop, getD};
 ghost use Rattle.model.specs.Bytes.{word, u16 as halfOf, u32 as wordOf};
 ghost use lib.Dec.{eqb};
-ghost use Rattle.model.specs.FrameDescriptor.{frameLength, isFinished, isWriting, lengthAt, frameAt, flagsAt, ends};
+ghost use Rattle.model.specs.FrameDescriptor.{frameLength, isFinished, isWriting, lengthAt, frameAt, unsoundFrame, flagsAt, ends};
 ghost use Rattle.model.specs.TermReader.{lengthCall};
 use crate::argument;
 use crate::cast;
@@ -15,6 +15,7 @@ use crate::data_frame_header::HDR_TYPE_PAD;
 use crate::data_frame_header::HEADER_LENGTH;
 use crate::data_frame_header::TYPE_FIELD_OFFSET;
 use crate::field;
+use model::Error;
 use model::Frame;
 use model::FrameLength;
 use model::FrameLengthRead;
@@ -165,10 +166,10 @@ pub fn frame_at(log: &[u8], at: usize, room: usize) -> Frame
         FrameLength::Writing(_) => Frame::Absent,
         FrameLength::Finished(n) => {
             if n < HEADER_LENGTH {
-                return Frame::Unsound;
+                return Frame::Unsound(n);
             }
             if room < (n + ALIGNMENT_MASK) / FRAME_ALIGNMENT * FRAME_ALIGNMENT {
-                return Frame::Unsound;
+                return Frame::Unsound(n);
             }
             if frame_type(log, at) == HDR_TYPE_PAD {
                 Frame::Padding(n)
@@ -177,6 +178,16 @@ pub fn frame_at(log: &[u8], at: usize, room: usize) -> Frame
             }
         }
     }
+}
+
+// The refusal of an unsound frame, by its length and its offset in its term: too short for a header, or past the term's end.
+pub fn unsound_frame(length: usize, place: u32) -> Error
+    ensures { λ r. ⌜ r ≡ unsoundFrame length place ⌝ }
+{
+    if length < HEADER_LENGTH {
+        return Error::FrameTooShort(place);
+    }
+    Error::FramePastTerm(place)
 }
 
 // Whether the frame at an index ends a message.

@@ -5,10 +5,10 @@ ghost use Prim.Native.Nat.{_+_, _*_, _≤_, _<_};
 ghost use lib.ListN.{length, drop};
 ghost use denote.Ref.{ptr};
 ghost use Rattle.logbuffer.specs.Lent.{startOf};
-ghost use Rattle.model.specs.declared.Error.the-variants.{UnsoundFrame};
 ghost use Rattle.model.specs.declared.Verdict.the-variants.{Pass, Refuse};
+ghost use Rattle.model.specs.FrameDescriptor.{unsoundFrameAt};
 ghost use Rattle.model.specs.LogBufferDescriptor.{goodPartition};
-ghost use Rattle.model.specs.TermReader.{nextAction, walk, firstUnsound, goodWalk, goodHandler, goodEntries, goodStart, entriesBy, framesBy, framesOf, framesEntries, readOf, readEntries, goodView, viewOf};
+ghost use Rattle.model.specs.TermReader.{nextAction, walk, firstUnsound, goodWalk, goodHandler, goodEntries, goodStart, entriesBy, framesBy, framesRefusal, framesOf, framesEntries, readOf, readEntries, goodView, viewOf};
 ghost use Rattle.model.specs.Parts.{partOf, locatedNumber};
 use crate::argument;
 use crate::cast;
@@ -103,8 +103,8 @@ fn walk_frames(
     entries: &mut [i32],
 ) -> FramesRead
     requires { ⌜ (base + term ≤ length (now log)) × ((term ≤ 1073741824) × ((end ≤ term) × (2 * limit ≤ length (now entries)))) ⌝ }
-    ensures { λ r. ⌜ r ≡ framesBy (walk term (now (log .entry)) base term end at limit (now (actions .entry))) (cond (firstUnsound (now (log .entry)) base term end at limit) (Refuse UnsoundFrame) Pass) ⌝ }
-    ensures { λ _. ⌜ now (entries .exit) ≡ entriesBy (now (entries .entry)) (walk term (now (log .entry)) base term end at limit (now (actions .entry))) (cond (firstUnsound (now (log .entry)) base term end at limit) (Refuse UnsoundFrame) Pass) ⌝ }
+    ensures { λ r. ⌜ r ≡ framesBy (walk term (now (log .entry)) base term end at limit (now (actions .entry))) (cond (firstUnsound (now (log .entry)) base term end at limit) (Refuse (unsoundFrameAt (now (log .entry)) base at)) Pass) ⌝ }
+    ensures { λ _. ⌜ now (entries .exit) ≡ entriesBy (now (entries .entry)) (walk term (now (log .entry)) base term end at limit (now (actions .entry))) (cond (firstUnsound (now (log .entry)) base term end at limit) (Refuse (unsoundFrameAt (now (log .entry)) base at)) Pass) ⌝ }
 {
     let mut offset = at;
     let mut moved: usize = 0;
@@ -121,9 +121,9 @@ fn walk_frames(
             Frame::Absent => {
                 break;
             }
-            Frame::Unsound => {
+            Frame::Unsound(found) => {
                 if offset == at {
-                    return FramesRead::Refused(Error::UnsoundFrame);
+                    return FramesRead::Refused(frame_descriptor::unsound_frame(found, at as u32));
                 }
                 break;
             }
@@ -167,7 +167,7 @@ fn walk_frames(
 
 // A walk over frames for any numbers: log, where the term starts, its length, the end, the offset, the fragment limit, the handler's
 // answers, if it has one, and the lent entries, two numbers each. 1 where the numbers do not fit each other or the answers are not as row 1
-// asks, 17 where the first frame is unsound.
+// asks, 22 or 23 where the first frame is unsound.
 pub fn read_frames(
     log: &[u8],
     base: usize,
@@ -196,6 +196,16 @@ pub fn read_frames(
         return FramesRead::Refused(Error::IllegalArgument);
     }
     walk_frames(log, base, term, end, at, fragment_limit, actions, entries)
+}
+
+// The refusal of a walk, where a caller takes it apart by `let .. else`. A walk that was not refused has none, and 1 stands for it.
+pub fn refusal(frames: FramesRead) -> Error
+    ensures { λ r. ⌜ r ≡ framesRefusal frames ⌝ }
+{
+    match frames {
+        FramesRead::Walked(_) => Error::IllegalArgument,
+        FramesRead::Refused(e) => e,
+    }
 }
 
 // Row 1 of `read`.
@@ -232,17 +242,9 @@ pub fn read(
     let term = p.read.term;
     let at = p.offset;
     let base = p.partition * term;
-    let FramesRead::Walked(walked) = read_frames(
-        log,
-        base,
-        term,
-        term,
-        at,
-        most,
-        &log[0..0],
-        entries,
-    ) else {
-        return TermRead::Refused(Error::UnsoundFrame);
+    let frames = read_frames(log, base, term, term, at, most, &log[0..0], entries);
+    let FramesRead::Walked(walked) = frames else {
+        return TermRead::Refused(refusal(frames));
     };
     TermRead::Outcome(at + walked.moved, walked.fragments)
 }

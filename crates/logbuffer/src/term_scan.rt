@@ -4,11 +4,10 @@ ghost use mathlib.Core.Bool.{cond, _&&_, true};
 ghost use Prim.Native.Nat.{_+_, _-_, _*_, _%_, _≤_, _<_, min};
 ghost use lib.Dec.{eqb, ltb};
 ghost use lib.ListN.{length, drop};
-ghost use Rattle.model.specs.declared.Error.the-variants.{UnsoundFrame};
 ghost use Rattle.model.specs.declared.Verdict.the-variants.{Pass, Refuse};
-ghost use Rattle.model.specs.FrameDescriptor.{frameAt, isUnsound};
+ghost use Rattle.model.specs.FrameDescriptor.{frameAt, isUnsound, unsoundFrameAt};
 ghost use Rattle.model.specs.LogBufferDescriptor.{goodPartition, goodOffset, withinTerm};
-ghost use Rattle.model.specs.TermScan.{scanFrom, scanBy, scanOf, rebuild, gapLength, gapBy, gapOf, availableFrom, availabilityBy, availabilityOf};
+ghost use Rattle.model.specs.TermScan.{scanFrom, scanBy, scanRefusal, scanOf, rebuild, gapLength, gapBy, gapOf, availableFrom, availabilityBy, availabilityOf};
 ghost use Rattle.model.proofs.GapLaws.{gapFound};
 ghost use Rattle.model.proofs.AvailableLaws.{outcome as outcomeOf};
 use crate::argument;
@@ -30,7 +29,7 @@ use model::Verdict;
 // Whole data frames up to the limit; a padding frame only at the start, even one that ends past the limit.
 fn scan_frames(log: &[u8], base: usize, term: usize, limit: usize, at: usize) -> Scanned
     requires { ⌜ (base + term ≤ length (now log)) × ((term ≤ 1073741824) × ((at < term) × (limit ≤ term))) ⌝ }
-    ensures { λ r. ⌜ r ≡ scanBy (scanFrom term (now (log .entry)) base term limit true at) (cond (ltb at limit && isUnsound (frameAt (drop (base + at) (now (log .entry))) (term - at))) (Refuse UnsoundFrame) Pass) ⌝ }
+    ensures { λ r. ⌜ r ≡ scanBy (scanFrom term (now (log .entry)) base term limit true at) (cond (ltb at limit && isUnsound (frameAt (drop (base + at) (now (log .entry))) (term - at))) (Refuse (unsoundFrameAt (now (log .entry)) base at)) Pass) ⌝ }
 {
     let mut offset = at;
     loop {
@@ -41,9 +40,9 @@ fn scan_frames(log: &[u8], base: usize, term: usize, limit: usize, at: usize) ->
             Frame::Absent => {
                 break;
             }
-            Frame::Unsound => {
+            Frame::Unsound(found) => {
                 if offset == at {
-                    return Scanned::Refused(Error::UnsoundFrame);
+                    return Scanned::Refused(frame_descriptor::unsound_frame(found, at as u32));
                 }
                 break;
             }
@@ -93,6 +92,16 @@ pub fn scan(rec: LogRecord, log: &[u8], partition: i32, offset: i32, limit: i32)
     }
 }
 
+// The refusal of a scan, where a caller takes it apart by `let .. else`. A scan that was not refused has none, and 1 stands for it.
+pub fn refusal(scanned: Scanned) -> Error
+    ensures { λ r. ⌜ r ≡ scanRefusal scanned ⌝ }
+{
+    match scanned {
+        Scanned::Offset(_) => Error::IllegalArgument,
+        Scanned::Refused(e) => e,
+    }
+}
+
 // ---- scan_for_gap
 
 // The gap's length from a free place on: 32 at a time to the first nonzero word, or to the high mark.
@@ -123,7 +132,7 @@ fn gap_frames(
     at: usize,
 ) -> GapScanned
     requires { ⌜ (base + term ≤ length (now log)) × ((term ≤ 1073741824) × ((high ≤ term) × ((high % 32 ≡ 0) × ((at % 32 ≡ 0) × (at < term))))) ⌝ }
-    ensures { λ r. ⌜ r ≡ gapBy (gapFound «term_id» (now (log .entry)) base term high (rebuild term (now (log .entry)) base term high at)) (cond (isUnsound (frameAt (drop (base + at) (now (log .entry))) (term - at))) (Refuse UnsoundFrame) Pass) ⌝ }
+    ensures { λ r. ⌜ r ≡ gapBy (gapFound «term_id» (now (log .entry)) base term high (rebuild term (now (log .entry)) base term high at)) (cond (isUnsound (frameAt (drop (base + at) (now (log .entry))) (term - at))) (Refuse (unsoundFrameAt (now (log .entry)) base at)) Pass) ⌝ }
 {
     let mut offset = at;
     loop {
@@ -131,9 +140,9 @@ fn gap_frames(
             Frame::Absent => {
                 break;
             }
-            Frame::Unsound => {
+            Frame::Unsound(found) => {
                 if offset == at {
-                    return GapScanned::Refused(Error::UnsoundFrame);
+                    return GapScanned::Refused(frame_descriptor::unsound_frame(found, at as u32));
                 }
                 return GapScanned::NoGap(offset);
             }
@@ -215,7 +224,7 @@ fn available_frames(
     most: usize,
 ) -> AvailabilityScanned
     requires { ⌜ (base + term ≤ length (now log)) × ((term ≤ 1073741824) × ((at < term) × (most ≤ term - at))) ⌝ }
-    ensures { λ r. ⌜ r ≡ availabilityBy (availableFrom term (now (log .entry)) base term at most 0 0) (cond (isUnsound (frameAt (drop (base + at) (now (log .entry))) (term - at))) (Refuse UnsoundFrame) Pass) ⌝ }
+    ensures { λ r. ⌜ r ≡ availabilityBy (availableFrom term (now (log .entry)) base term at most 0 0) (cond (isUnsound (frameAt (drop (base + at) (now (log .entry))) (term - at))) (Refuse (unsoundFrameAt (now (log .entry)) base at)) Pass) ⌝ }
 {
     let mut available: usize = 0;
     let mut padding: usize = 0;
@@ -224,9 +233,9 @@ fn available_frames(
             Frame::Absent => {
                 break;
             }
-            Frame::Unsound => {
+            Frame::Unsound(found) => {
                 if available == 0 {
-                    return AvailabilityScanned::Refused(Error::UnsoundFrame);
+                    return AvailabilityScanned::Refused(frame_descriptor::unsound_frame(found, at as u32));
                 }
                 return outcome(available, padding);
             }

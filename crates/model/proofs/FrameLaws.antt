@@ -7,6 +7,7 @@ use native.Mathlib.Omega.{arith}
 use borrow.Author.Tests.{ltb-true, ltb-false, lt-ltb, le-ltb, eq-eqb, ne-eqb}
 use lib.Dec.{eqb, ltb}
 use lib.ListN.{drop}
+use Rattle.model.specs.declared.Error.the-variants.{FrameTooShort, FramePastTerm}
 use Rattle.model.specs.declared.FrameLength.{FrameLength}
 use Rattle.model.specs.declared.FrameLength.the-variants.{Free, Writing, Finished}
 use Rattle.model.specs.declared.Frame.{Frame}
@@ -83,6 +84,14 @@ unsound-word s room m e = go (eqb (u32 s) 0) (ltb (u32 s) 2147483648) e
 
 pub unsound-refusal : (log : List ℕ) (base term at m : ℕ) → frameAt (drop (base + at) log) (term - at) ≡ Unsound m → unsoundFrame m at ≡ unsoundFrameAt log base at
 unsound-refusal log base term at m e = ap (λ (n : ℕ). unsoundFrame n at) (unsound-word (drop (base + at) log) (term - at) m e)
+
+pub refusal-short : (n place : ℕ) → n < 32 → FrameTooShort place ≡ unsoundFrame n place
+unfolding unsoundFrame
+refusal-short n place h = rw (lt-ltb n 32 h)
+
+pub refusal-long : (n place : ℕ) → 32 ≤ n → FramePastTerm place ≡ unsoundFrame n place
+unfolding unsoundFrame
+refusal-long n place h = rw (le-ltb n 32 h)
 
 -- ---- the length word, by cases, and back
 

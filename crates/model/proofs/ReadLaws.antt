@@ -149,15 +149,8 @@ module _ (r : LogRecord) (log : List ℕ) (partition offset limit : ℤ) (slots 
       let b = by-verdict (rows-then (goodRead p most (length slots)) (sound (p .read) (length log)) (frameRow first refusal) h) in
       (ap (readFrom (p .offset)) (sym (f .0)) ∙ by-first first (walkAt p most) ∙ b .0, sym (f .1) ∙ b .1)
 
--- where the walk goes at all, it refuses only the first frame, and moves inside the term
+-- where the walk goes at all, it moves inside the term
 module _ (log : List ℕ) (base term end at limit : ℕ) (acts : List ℕ) (slots : List ℤ) (h : goodWalk (length log) base term end at limit (length slots) ≡ true) (g : goodHandler acts limit ≡ true) where
-  pub frames-refuse : (e : Error) → framesOf log base term end at limit acts slots ≡ WalkRefused e → e ≡ unsoundFrameAt log base at
-  frames-refuse e q = go (firstUnsound log base term end at limit) (frames-by log base term end at limit acts slots h g .0 ∙ q)
-    where
-      go : (b : Bool) → framesBy (walk term log base term end at limit acts) (cond b (Refuse (unsoundFrameAt log base at)) Pass) ≡ WalkRefused e → e ≡ unsoundFrameAt log base at
-      go true t = cc
-      go false t = absurd (let z : _≡_ {A = ℕ} 0 1 = cc in omega arith)
-
   pub frames-moved : (w : Walk) → framesOf log base term end at limit acts slots ≡ AllWalked w → w .moved ≤ term - at
   frames-moved w q = go (firstUnsound log base term end at limit) (frames-by log base term end at limit acts slots h g .0 ∙ q)
     where

@@ -10,6 +10,7 @@ use mir.Syntax.{w32, w64}
 use mir.Val.{toZ}
 use Rattle.model.specs.declared.LogRecord.{LogRecord}
 use Rattle.model.specs.declared.Reading.{Reading}
+use Rattle.model.specs.declared.Error.{Error}
 use Rattle.model.specs.declared.Error.the-variants.{IllegalArgument}
 use Rattle.model.specs.declared.Verdict.{Verdict}
 use Rattle.model.specs.declared.Verdict.the-variants.{Pass, Refuse}
@@ -156,6 +157,11 @@ walkOf w = record { entries = length (w .entries); fragments = w .fragments; mov
 abbrev pub framesBy : Walked → Verdict → FramesRead
 framesBy w Pass = AllWalked (walkOf w)
 framesBy w (Refuse e) = WalkRefused e
+
+-- the refusal of a walk that was refused; of any other there is none, and 1 stands for it
+abbrev pub framesRefusal : FramesRead → Error
+framesRefusal (AllWalked w) = IllegalArgument
+framesRefusal (WalkRefused e) = e
 
 -- log, where the term starts, its length, the end, the offset, the fragment limit, the actions, the lent entries
 unfoldable pub framesOf : List ℕ → ℕ → ℕ → ℕ → ℕ → ℕ → List ℕ → List ℤ → FramesRead

@@ -8,6 +8,7 @@ use lib.ListN.{length, drop}
 use lib.IntN.{ℤ, pos}
 use Rattle.model.specs.declared.LogRecord.{LogRecord}
 use Rattle.model.specs.declared.Error.{Error}
+use Rattle.model.specs.declared.Error.the-variants.{IllegalArgument}
 use Rattle.model.specs.declared.Verdict.{Verdict}
 use Rattle.model.specs.declared.Verdict.the-variants.{Pass, Refuse}
 use Rattle.model.specs.declared.Frame.{Frame}
@@ -51,6 +52,11 @@ scanJudge r log k at limit =
 abbrev pub scanBy : ℕ → Verdict → Scanned
 scanBy at Pass = Offset at
 scanBy at (Refuse e) = Refused e
+
+-- the refusal of a scan that was refused; of any other there is none, and 1 stands for it
+abbrev pub scanRefusal : Scanned → Error
+scanRefusal (Offset n) = IllegalArgument
+scanRefusal (Refused e) = e
 
 unfoldable pub scanOf : LogRecord → List ℕ → ℤ → ℤ → ℤ → Scanned
 scanOf r log partition offset limit =

@@ -12,9 +12,9 @@ use Rattle.model.specs.declared.BlockPolled.{BlockPolled}
 use Rattle.model.specs.declared.BlockPolled.the-variants.{Block, Refused}
 use Rattle.model.specs.declared.ReadVerdict.{ReadVerdict}
 use Rattle.model.specs.declared.ReadVerdict.the-variants.{Read}
-use Rattle.model.specs.declared.Error.the-variants.{UnsoundFrame}
+use Rattle.model.specs.declared.Error.{Error}
 use Rattle.model.specs.Bytes.{long}
-use Rattle.model.specs.Image.{refuseIf, unsoundAt, blockEnd, blockLength}
+use Rattle.model.specs.Image.{refuseIf, unsoundAt, unsoundFrameOf, blockEnd, blockLength}
 use Rattle.logbuffer.proofs.Signed.{long-by}
 use Rattle.image.specs.declared.block.BlockTo.{BlockTo}
 use Rattle.image.specs.Images.{stateOf, blockTo, blockSaid}
@@ -40,36 +40,36 @@ p-high : (c : tie.After-long) → c .long .result ≤ 2305843009213693952
 p-high c = omega (arith, p-is c, c .before .before .before .pre .1 .1 .0, place c .term-high)
 
 -- the offset that the scan came to
-stop-in : (c : tie.After-known-told) → (c .before .before .before .before .before .long .result % c .before .before .before .before .before .before .before .before .args .v .term ≤ c .before .stop .given .0 .0) × (c .before .stop .given .0 .0 ≤ c .before .before .before .before .before .before .before .before .args .v .term)
+stop-in : (c : tie.After-known-told) → (c .before .before .before .before .before .long .result % c .before .before .before .before .before .before .before .before .args .v .term ≤ c .before .scanned .given .0 .0) × (c .before .scanned .given .0 .0 ≤ c .before .before .before .before .before .before .before .before .args .v .term)
 stop-in c =
     let a = c .before .before .before .before .before .before .before .before .args in
-    block-in (a .v) (a .log .now) (a .limit) _ _ _ (p-is (c .before .before .before .before .before)) (c .before .before .before .before .end-offset .ensures) _ (c .before .before .before .scan-at .ensures) _ (omega (arith, place (c .before .before .before .before .before) .below)) (c .before .stop .given .1)
+    block-in (a .v) (a .log .now) (a .limit) _ _ _ (p-is (c .before .before .before .before .before)) (c .before .before .before .before .end-offset .ensures) _ (c .before .before .before .scan-at .ensures) _ (omega (arith, place (c .before .before .before .before .before) .below)) (c .before .scanned .given .1)
 
-size-is : (c : tie.After-known-told) → c .before .stop .given .0 .0 - c .before .before .before .before .before .long .result % c .before .before .before .before .before .before .before .before .args .v .term ≡ blockLength (c .before .before .before .before .before .before .before .before .args .v) (c .before .before .before .before .before .before .before .before .args .log .now) (long (c .before .before .before .before .before .before .before .before .args .image .position)) (c .before .before .before .before .before .before .before .before .args .limit)
-size-is c = let a = c .before .before .before .before .before .before .before .before .args in block-size (a .v) (a .log .now) (a .limit) _ _ _ (p-is (c .before .before .before .before .before)) (c .before .before .before .before .end-offset .ensures) _ (c .before .before .before .scan-at .ensures) _ (c .before .stop .given .1)
+size-is : (c : tie.After-known-told) → c .before .scanned .given .0 .0 - c .before .before .before .before .before .long .result % c .before .before .before .before .before .before .before .before .args .v .term ≡ blockLength (c .before .before .before .before .before .before .before .before .args .v) (c .before .before .before .before .before .before .before .before .args .log .now) (long (c .before .before .before .before .before .before .before .before .args .image .position)) (c .before .before .before .before .before .before .before .before .args .limit)
+size-is c = let a = c .before .before .before .before .before .before .before .before .args in block-size (a .v) (a .log .now) (a .limit) _ _ _ (p-is (c .before .before .before .before .before)) (c .before .before .before .before .end-offset .ensures) _ (c .before .before .before .scan-at .ensures) _ (c .before .scanned .given .1)
 
 -- the position after the block
 abbrev to : (c : tie.After-known-told) → ℕ
-to c = c .before .before .before .before .before .long .result + (c .before .stop .given .0 .0 - c .before .before .before .before .before .long .result % c .before .before .before .before .before .before .before .before .args .v .term)
+to c = c .before .before .before .before .before .long .result + (c .before .scanned .given .0 .0 - c .before .before .before .before .before .long .result % c .before .before .before .before .before .before .before .before .args .v .term)
 
 to-high : (c : tie.After-known-told) → to c ≤ 4611686018427387904
 to-high c = omega (arith, p-high (c .before .before .before .before .before), stop-in c .1, place (c .before .before .before .before .before) .term-high)
 
 -- the same by the offset as the code has it
-size-at : (c : tie.After-offset-of) → c .before .before .stop .given .0 .0 - c .offset-of .result ≡ blockLength (c .before .before .before .before .before .before .before .before .before .args .v) (c .before .before .before .before .before .before .before .before .before .args .log .now) (long (c .before .before .before .before .before .before .before .before .before .args .image .position)) (c .before .before .before .before .before .before .before .before .before .args .limit)
-size-at c = ap (λ (x : ℕ). c .before .before .stop .given .0 .0 - x) (c .offset-of .ensures) ∙ size-is (c .before)
+size-at : (c : tie.After-offset-of) → c .before .before .scanned .given .0 .0 - c .offset-of .result ≡ blockLength (c .before .before .before .before .before .before .before .before .before .args .v) (c .before .before .before .before .before .before .before .before .before .args .log .now) (long (c .before .before .before .before .before .before .before .before .before .args .image .position)) (c .before .before .before .before .before .before .before .before .before .args .limit)
+size-at c = ap (λ (x : ℕ). c .before .before .scanned .given .0 .0 - x) (c .offset-of .ensures) ∙ size-is (c .before)
 
-position-is : (c : tie.After-offset-of) → toZ w64 (c .before .before .before .before .before .before .long .result + (c .before .before .stop .given .0 .0 - c .offset-of .result)) ≡ pos (long (c .before .before .before .before .before .before .before .before .before .args .image .position) + blockLength (c .before .before .before .before .before .before .before .before .before .args .v) (c .before .before .before .before .before .before .before .before .before .args .log .now) (long (c .before .before .before .before .before .before .before .before .before .args .image .position)) (c .before .before .before .before .before .before .before .before .before .args .limit))
+position-is : (c : tie.After-offset-of) → toZ w64 (c .before .before .before .before .before .before .long .result + (c .before .before .scanned .given .0 .0 - c .offset-of .result)) ≡ pos (long (c .before .before .before .before .before .before .before .before .before .args .image .position) + blockLength (c .before .before .before .before .before .before .before .before .before .args .v) (c .before .before .before .before .before .before .before .before .before .args .log .now) (long (c .before .before .before .before .before .before .before .before .before .args .image .position)) (c .before .before .before .before .before .before .before .before .before .args .limit))
 position-is c = toZ-pos w64 (omega (arith, to-high (c .before), c .offset-of .ensures)) ∙ ap₂ (λ (x y : ℕ). pos (x + y)) (p-is (c .before .before .before .before .before .before)) (size-at c)
 
 abbrev said : (s : tie.Start) → ReadVerdict → BlockTo
 said s x = blockTo (blockSaid (s .args .v) (s .args .log .now) (stateOf (s .args .image)) (s .args .limit) x)
 
-abbrev judged : Bool → ReadVerdict
-judged b = refuseIf b UnsoundFrame Read
+abbrev judged : (s : tie.Start) → Bool → ReadVerdict
+judged s b = refuseIf b (unsoundFrameOf (s .args .v) (s .args .log .now) (long (s .args .image .position))) Read
 
-sound-is : (c : tie.After-known-told) → judged false ≡ judged (unsoundAt (c .before .before .before .before .before .before .before .before .args .v) (c .before .before .before .before .before .before .before .before .args .log .now) (long (c .before .before .before .before .before .before .before .before .args .image .position)) (blockEnd (c .before .before .before .before .before .before .before .before .args .v) (long (c .before .before .before .before .before .before .before .before .args .image .position)) (c .before .before .before .before .before .before .before .before .args .limit)) 1)
-sound-is c = let a = c .before .before .before .before .before .before .before .before .args in ap judged (sym (block-sound (a .v) (a .log .now) (a .limit) _ _ _ (p-is (c .before .before .before .before .before)) (c .before .before .before .before .end-offset .ensures) _ (c .before .before .before .scan-at .ensures) _ (c .before .stop .given .1)))
+sound-is : (c : tie.After-known-told) → judged (c .before .before .before .before .before .before .before .before) false ≡ judged (c .before .before .before .before .before .before .before .before) (unsoundAt (c .before .before .before .before .before .before .before .before .args .v) (c .before .before .before .before .before .before .before .before .args .log .now) (long (c .before .before .before .before .before .before .before .before .args .image .position)) (blockEnd (c .before .before .before .before .before .before .before .before .args .v) (long (c .before .before .before .before .before .before .before .before .args .image .position)) (c .before .before .before .before .before .before .before .before .args .limit)) 1)
+sound-is c = let a = c .before .before .before .before .before .before .before .before .args in ap (judged (c .before .before .before .before .before .before .before .before)) (sym (block-sound (a .v) (a .log .now) (a .limit) _ _ _ (p-is (c .before .before .before .before .before)) (c .before .before .before .before .end-offset .ensures) _ (c .before .before .before .scan-at .ensures) _ (c .before .scanned .given .1)))
 
 add-end-offset : tie.Need-add-end-offset
 add-end-offset c = omega (arith, p-high c, c .before .before .before .pre .1 .1 .1 .1)
@@ -82,11 +82,13 @@ scan-at-requires c κs = let s = c .before .before .before .before in (s .pre .0
 
 returns : tie.Need-returns
 returns c =
-    let s = c .before .before .before .before .before .before .before .before in
+    let d = c .before in
+    let s = d .before .before .before .before .before .before .before .before in
     let a = s .args in
     let f : SFits w64 (a .image .position) = search needs in
-    let u = block-unsound (a .v) (a .log .now) (a .limit) _ _ _ (p-is (c .before .before .before .before .before)) (c .before .before .before .before .end-offset .ensures) _ (c .before .before .before .scan-at .ensures) _ (c .before .enum-told .given .1) in
-    ap {B = BlockTo} (λ (z : ℤ). record { position = z; answer = Refused UnsoundFrame }) (toZ-ofZ f) ∙ ap (λ (b : Bool). said s (judged b)) (sym u)
+    let u = block-unsound (a .v) (a .log .now) (a .limit) _ _ _ (p-is (d .before .before .before .before .before)) (d .before .before .before .before .end-offset .ensures) _ (d .before .before .before .scan-at .ensures) _ (d .before .enum-told .given .1) in
+    ap {B = BlockTo} (λ (z : ℤ). record { position = z; answer = Refused (d .refusal .result) }) (toZ-ofZ f)
+    ∙ ap {B = BlockTo} (λ (y : Error). record { position = a .image .position; answer = Refused y }) (d .refusal .ensures ∙ u .1) ∙ ap (λ (b : Bool). said s (judged s b)) (sym (u .0))
 
 offset-of-requires : tie.Need-offset-of-requires
 offset-of-requires c κs = term-length _ _ (c .before .before .before .before .before .before .before .before .pre .1 .0)
@@ -114,7 +116,7 @@ returns-3 c =
     let s = c .before .before .before .before .before .before .before .before .before .before .before .before in
     let q = c .before .before .before in
     let made : ℤ → BlockPolled → BlockTo = λ (z : ℤ) (b : BlockPolled). record { position = z; answer = b } in
-    let n = q .before .before .stop .given .0 .0 - q .offset-of .result in
+    let n = q .before .before .scanned .given .0 .0 - q .offset-of .result in
     let told : ℕ → ℤ → ℤ → BlockPolled = λ (x : ℕ) (y z : ℤ). Block x n y z in
     let at = q .before .before .before .before .before .before .long .result % s .args .v .term in
     let f : SFits w32 (s .args .image .«session_id») = search needs in
@@ -131,6 +133,7 @@ block-at-spec =
     add-end-offset
     end-offset-requires
     scan-at-requires
+    (search needs)
     (search needs)
     (search needs)
     returns

@@ -8,7 +8,7 @@ use lib.ListN.{length}
 use lib.IntN.{ℤ}
 use mir.Syntax.{w64}
 use mir.Val.{Fits}
-use Rattle.model.specs.declared.Error.the-variants.{UnsoundFrame}
+use Rattle.model.specs.FrameDescriptor.{unsoundFrameAt}
 use Rattle.model.specs.declared.Verdict.the-variants.{Pass, Refuse}
 use Rattle.model.specs.declared.FramesRead.{FramesRead}
 use Rattle.model.specs.TermReader.{walk, firstUnsound, framesBy, entriesBy, goodWalk}
@@ -45,8 +45,8 @@ returns c =
     let g = walk-good (a .v) (length (a .log .now)) (a .p) (a .end) (a .limit) (length (a .entries .now)) (s .pre .0) (s .pre .1 .0) (s .pre .1 .1 .0) (s .pre .1 .1 .1 .0) in
     let h = ap₂ (λ (x y : ℕ). goodWalk (length (a .log .now)) (x * a .v .term) (a .v .term) (a .end) y (a .limit) (length (a .entries .now))) k at ∙ g in
     let l = frames-by (a .log .now) (c .before .before .before .before .partition-of .result * a .v .term) (a .v .term) (a .end) (c .before .before .before .offset-of .result) (a .limit) (a .actions .now) (a .entries .now) h (s .pre .1 .1 .1 .1) in
-    let said : ℕ → ℕ → FramesRead = λ (x y : ℕ). framesBy (walk (a .v .term) (a .log .now) (x * a .v .term) (a .v .term) (a .end) y (a .limit) (a .actions .now)) (cond (firstUnsound (a .log .now) (x * a .v .term) (a .v .term) (a .end) y (a .limit)) (Refuse UnsoundFrame) Pass) in
-    let wrote : ℕ → ℕ → List ℤ = λ (x y : ℕ). entriesBy (a .entries .now) (walk (a .v .term) (a .log .now) (x * a .v .term) (a .v .term) (a .end) y (a .limit) (a .actions .now)) (cond (firstUnsound (a .log .now) (x * a .v .term) (a .v .term) (a .end) y (a .limit)) (Refuse UnsoundFrame) Pass) in
+    let said : ℕ → ℕ → FramesRead = λ (x y : ℕ). framesBy (walk (a .v .term) (a .log .now) (x * a .v .term) (a .v .term) (a .end) y (a .limit) (a .actions .now)) (cond (firstUnsound (a .log .now) (x * a .v .term) (a .v .term) (a .end) y (a .limit)) (Refuse (unsoundFrameAt (a .log .now) (x * a .v .term) y)) Pass) in
+    let wrote : ℕ → ℕ → List ℤ = λ (x y : ℕ). entriesBy (a .entries .now) (walk (a .v .term) (a .log .now) (x * a .v .term) (a .v .term) (a .end) y (a .limit) (a .actions .now)) (cond (firstUnsound (a .log .now) (x * a .v .term) (a .v .term) (a .end) y (a .limit)) (Refuse (unsoundFrameAt (a .log .now) (x * a .v .term) y)) Pass) in
     (c .before .read-frames .ensures .0 ∙ sym (l .0) ∙ ap₂ said k at, c .before .read-frames .ensures .1 ∙ sym (l .1) ∙ ap₂ wrote k at)
 
 pub frames-at-spec : {M : Type 1} → statement M

@@ -12,7 +12,7 @@ use mir.Facts.{toZ-ofZ, toZ-pos}
 use Rattle.model.specs.declared.Walk.{Walk}
 use Rattle.model.specs.declared.FramesRead.the-variants.{Walked as AllWalked}
 use Rattle.model.specs.declared.Polled.the-variants.{Fragments, Refused}
-use Rattle.model.specs.declared.Error.the-variants.{UnsoundFrame}
+use Rattle.model.specs.declared.Error.{Error}
 use Rattle.model.specs.declared.ReadVerdict.{ReadVerdict}
 use Rattle.model.specs.declared.ReadVerdict.the-variants.{Read}
 use Rattle.model.specs.Bytes.{long}
@@ -85,21 +85,23 @@ frames-at-requires c κs =
 
 returns : tie.Need-returns
 returns c =
-    let f = c .before .before .before .before in
-    let s = c .before .before .before .before .before .before .before .before .before .before .before .before .before .before in
+    let d = c .before in
+    let f = d .before .before .before .before in
+    let s = d .before .before .before .before .before .before .before .before .before .before .before .before .before .before in
     let a = s .args in
     let e = f .before .before .end-offset .result in
-    let u = frames-unsound (a .v) (a .log .now) (a .entries .now) e (a .limit) (a .actions .now) (f .before .before .before .long .result) _ (p-is (f .before .before .before)) (f .frames-at .result) _ (f .frames-at .ensures .0) (f .frames-at .ensures .1) _ (c .before .enum-told3 .given .1) in
+    let u = frames-unsound (a .v) (a .log .now) (a .entries .now) e (a .limit) (a .actions .now) (f .before .before .before .long .result) _ (p-is (f .before .before .before)) (f .frames-at .result) _ (f .frames-at .ensures .0) (f .frames-at .ensures .1) _ (d .before .enum-told3 .given .1) in
     let x = poll-by (a .v) (a .log .now) (stateOf (a .image)) (a .good) e (a .limit) true (u .0) (told (f .before .before .before)) in (
-      stays s (Refused UnsoundFrame) ∙ ap (said s e) x ∙ ap (λ (n : ℕ). said s n (judged s n)) (end-is (f .before .before)),
-      u .1 ∙ ap (wrote s e) x ∙ ap (λ (n : ℕ). wrote s n (judged s n)) (end-is (f .before .before)),
+      stays s (Refused (d .refusal .result)) ∙ ap {B = PolledTo} (λ (y : Error). record { position = a .image .position; answer = Refused y }) (d .refusal .ensures ∙ u .1 .1)
+          ∙ ap (said s e) x ∙ ap (λ (n : ℕ). said s n (judged s n)) (end-is (f .before .before)),
+      u .1 .0 ∙ ap (wrote s e) x ∙ ap (λ (n : ℕ). wrote s n (judged s n)) (end-is (f .before .before)),
     )
 
 add-t23 : tie.Need-add-t23
-add-t23 c = record { fits = omega (arith, moved (c .before .before .before .before .before) _ (c .before .before .walked .given .1)) }
+add-t23 c = record { fits = omega (arith, moved (c .before .before .before .before .before) _ (c .before .before .frames .given .1)) }
 
 cast-t24 : tie.Need-cast-t24
-cast-t24 c = record { sfits = omega (arith, moved (c .before .before .before .before .before) _ (c .before .before .walked .given .1)) }
+cast-t24 c = record { sfits = omega (arith, moved (c .before .before .before .before .before) _ (c .before .before .frames .given .1)) }
 
 returns-2 : tie.Need-returns-2
 returns-2 c =
@@ -121,12 +123,12 @@ returns-4 c =
     let s = c .before .before .before .before .before .before .before .before .before .before .before .before .before .before .before in
     let a = s .args in
     let e = f .before .before .end-offset .result in
-    let w = c .before .before .walked .given .0 .0 in
-    let u = frames-walked (a .v) (a .log .now) (a .entries .now) e (a .limit) (a .actions .now) (f .before .before .before .long .result) _ (p-is (f .before .before .before)) (f .frames-at .result) _ (f .frames-at .ensures .0) (f .frames-at .ensures .1) w (c .before .before .walked .given .1) in
+    let w = c .before .before .frames .given .0 .0 in
+    let u = frames-walked (a .v) (a .log .now) (a .entries .now) e (a .limit) (a .actions .now) (f .before .before .before .long .result) _ (p-is (f .before .before .before)) (f .frames-at .result) _ (f .frames-at .ensures .0) (f .frames-at .ensures .1) w (c .before .before .frames .given .1) in
     let x = poll-by (a .v) (a .log .now) (stateOf (a .image)) (a .good) e (a .limit) false (u .0) (told (f .before .before .before)) in
     let made : ℤ → PolledTo = λ (z : ℤ). record { position = z; answer = Fragments (w .fragments) (w .entries) } in
     let to : ℕ → Walk → PolledTo = λ (q : ℕ) (y : Walk). record { position = pos (q + y .moved); answer = Fragments (y .fragments) (y .entries) } in (
-      ap made (toZ-pos w64 (omega (arith, moved f w (c .before .before .walked .given .1)))) ∙ ap₂ to (p-is (f .before .before .before)) (sym (u .1 .0)) ∙ ap (said s e) x ∙ ap (λ (n : ℕ). said s n (judged s n)) (end-is (f .before .before)),
+      ap made (toZ-pos w64 (omega (arith, moved f w (c .before .before .frames .given .1)))) ∙ ap₂ to (p-is (f .before .before .before)) (sym (u .1 .0)) ∙ ap (said s e) x ∙ ap (λ (n : ℕ). said s n (judged s n)) (end-is (f .before .before)),
       u .1 .1 ∙ ap (wrote s e) x ∙ ap (λ (n : ℕ). wrote s n (judged s n)) (end-is (f .before .before)),
     )
 
@@ -141,6 +143,7 @@ poll-frames-spec =
     (search needs)
     end-offset-requires
     frames-at-requires
+    (search needs)
     (search needs)
     (search needs)
     (search needs)

@@ -10,12 +10,12 @@ use mir.Facts.{toZ-ofZ, toZ-pos}
 use Rattle.model.specs.declared.Walk.{Walk}
 use Rattle.model.specs.declared.FramesRead.the-variants.{Walked as AllWalked}
 use Rattle.model.specs.declared.Peeked.{Peeked}
-use Rattle.model.specs.declared.Peeked.the-variants.{Position}
+use Rattle.model.specs.declared.Peeked.the-variants.{Position, Refused as PeekRefused}
+use Rattle.model.specs.declared.ReadVerdict.{ReadVerdict}
 use Rattle.model.specs.declared.ReadVerdict.the-variants.{Read}
-use Rattle.model.specs.declared.Error.the-variants.{UnsoundFrame}
 use Rattle.model.specs.Bytes.{long}
 use Rattle.model.specs.TermReader.{natural, goodEntries}
-use Rattle.model.specs.Image.{refuseIf, walkAt, peekedBy, slotsBy}
+use Rattle.model.specs.Image.{refuseIf, walkAt, unsoundFrameOf, peekedBy, slotsBy}
 use Rattle.model.proofs.Both.{and-true}
 use Rattle.model.proofs.ReaderLaws.{handled}
 use Rattle.model.proofs.Sound.{sound-true}
@@ -70,21 +70,25 @@ frames-at-requires c κs =
 
 returns : tie.Need-returns
 returns c =
-    let f = c .before .before .before in
-    let a = c .before .before .before .before .before .before .before .before .before .before .before .before .before .before .before .args in
-    let v = c .before .before .before .before .before .before .before .before .before .before .before .before .read-active .result in
-    let p = c .before .before .before .before .before .before .before .before .before .before .before .long .result in
-    let e = c .before .before .before .before .before .end-offset .result in
-    let u = frames-unsound v (a .log .now) (a .entries .now) e (length (a .actions .now)) (a .actions .now) p _ refl (f .frames-at .result) _ (f .frames-at .ensures .0) (f .frames-at .ensures .1) _ (c .enum-told3 .given .1) in
-    let k = as-peek (a .rec) (a .log .now) (stateOf (a .image)) (a .entries .now) (a .actions .now) (a .start) (a .limit-position) v p (c .before .before .before .before .before .before .natural-position .result) e (c .before .before .before .before .before .before .before .before .before .before .good-control .result) (c .before .before .before .before .before .before .before .before .before .before .before .before .read-active .ensures) (p-is (c .before .before .before .before .before .before .before .before .before)) (bound-is (c .before .before .before .before .before .before)) (c .before .before .before .before .before .end-offset .ensures) (c .before .before .before .before .before .before .before .before .before .before .good-control .ensures) Read (sym (c .before .before .before .before .before .before .before .enum-told2 .given .1) ∙ c .before .before .before .before .before .before .before .before .before .reach .ensures) in
+    let d = c .before in
+    let f = d .before .before .before in
+    let a = d .before .before .before .before .before .before .before .before .before .before .before .before .before .before .before .args in
+    let v = d .before .before .before .before .before .before .before .before .before .before .before .before .read-active .result in
+    let p = d .before .before .before .before .before .before .before .before .before .before .before .long .result in
+    let e = d .before .before .before .before .before .end-offset .result in
+    let u = frames-unsound v (a .log .now) (a .entries .now) e (length (a .actions .now)) (a .actions .now) p _ refl (f .frames-at .result) _ (f .frames-at .ensures .0) (f .frames-at .ensures .1) _ (d .enum-told3 .given .1) in
+    let k = as-peek (a .rec) (a .log .now) (stateOf (a .image)) (a .entries .now) (a .actions .now) (a .start) (a .limit-position) v p (d .before .before .before .before .before .before .natural-position .result) e (d .before .before .before .before .before .before .before .before .before .before .good-control .result) (d .before .before .before .before .before .before .before .before .before .before .before .before .read-active .ensures) (p-is (d .before .before .before .before .before .before .before .before .before)) (bound-is (d .before .before .before .before .before .before)) (d .before .before .before .before .before .end-offset .ensures) (d .before .before .before .before .before .before .before .before .before .before .good-control .ensures) Read (sym (d .before .before .before .before .before .before .before .enum-told2 .given .1) ∙ d .before .before .before .before .before .before .before .before .before .reach .ensures) in
     let w = walkAt v (a .log .now) p e (length (a .actions .now)) (a .actions .now) in
-    (ap (λ (b : Bool). peekedBy (a .start) w (refuseIf b UnsoundFrame Read)) (sym (u .0)) ∙ k .0, u .1 ∙ ap (λ (b : Bool). slotsBy (a .entries .now) w (refuseIf b UnsoundFrame Read)) (sym (u .0)) ∙ k .1)
+    let refused : Bool → ReadVerdict = λ (b : Bool). refuseIf b (unsoundFrameOf v (a .log .now) p) Read in (
+      ap PeekRefused (c .refusal .ensures ∙ u .1 .1) ∙ ap (λ (b : Bool). peekedBy (a .start) w (refused b)) (sym (u .0)) ∙ k .0,
+      u .1 .0 ∙ ap (λ (b : Bool). slotsBy (a .entries .now) w (refused b)) (sym (u .0)) ∙ k .1,
+    )
 
-add-t18 : tie.Need-add-t18
-add-t18 c = record { fits = omega (arith, settled-in (c .before .before .before .before .before) _ (c .before .before .walked .given .1)) }
+add-t19 : tie.Need-add-t19
+add-t19 c = record { fits = omega (arith, settled-in (c .before .before .before .before .before) _ (c .before .before .read .given .1)) }
 
 cast-t23 : tie.Need-cast-t23
-cast-t23 c = record { sfits = omega (arith, settled-in (c .before .before .before .before .before) _ (c .before .before .walked .given .1)) }
+cast-t23 c = record { sfits = omega (arith, settled-in (c .before .before .before .before .before) _ (c .before .before .read .given .1)) }
 
 returns-2 : tie.Need-returns-2
 returns-2 c =
@@ -104,14 +108,14 @@ returns-4 c =
     let v = c .before .before .before .before .before .before .before .before .before .before .before .before .before .before .read-active .result in
     let p = c .before .before .before .before .before .before .before .before .before .before .before .before .before .long .result in
     let e = c .before .before .before .before .before .before .before .end-offset .result in
-    let y = c .before .before .walked .given .0 .0 in
-    let u = frames-walked v (a .log .now) (a .entries .now) e (length (a .actions .now)) (a .actions .now) p _ refl (f .frames-at .result) _ (f .frames-at .ensures .0) (f .frames-at .ensures .1) y (c .before .before .walked .given .1) in
+    let y = c .before .before .read .given .0 .0 in
+    let u = frames-walked v (a .log .now) (a .entries .now) e (length (a .actions .now)) (a .actions .now) p _ refl (f .frames-at .result) _ (f .frames-at .ensures .0) (f .frames-at .ensures .1) y (c .before .before .read .given .1) in
     let k = as-peek (a .rec) (a .log .now) (stateOf (a .image)) (a .entries .now) (a .actions .now) (a .start) (a .limit-position) v p (c .before .before .before .before .before .before .before .before .natural-position .result) e (c .before .before .before .before .before .before .before .before .before .before .before .before .good-control .result) (c .before .before .before .before .before .before .before .before .before .before .before .before .before .before .read-active .ensures) (p-is (c .before .before .before .before .before .before .before .before .before .before .before)) (bound-is (c .before .before .before .before .before .before .before .before)) (c .before .before .before .before .before .before .before .end-offset .ensures) (c .before .before .before .before .before .before .before .before .before .before .before .before .good-control .ensures) Read (sym (c .before .before .before .before .before .before .before .before .before .enum-told2 .given .1) ∙ c .before .before .before .before .before .before .before .before .before .before .before .reach .ensures) in
     let w = walkAt v (a .log .now) p e (length (a .actions .now)) (a .actions .now) in
     let told : ℕ → Walk → Peeked = λ (q : ℕ) (x : Walk). Position (pos (q + x .settled)) (x .entries) in (
-      ap (λ (z : ℤ). Position z (y .entries)) (toZ-pos w64 (omega (arith, settled-in f y (c .before .before .walked .given .1)))) ∙ ap₂ told (p-is (c .before .before .before .before .before .before .before .before .before .before .before)) (sym (u .1 .0))
-          ∙ ap (λ (b : Bool). peekedBy (a .start) w (refuseIf b UnsoundFrame Read)) (sym (u .0)) ∙ k .0,
-      u .1 .1 ∙ ap (λ (b : Bool). slotsBy (a .entries .now) w (refuseIf b UnsoundFrame Read)) (sym (u .0)) ∙ k .1,
+      ap (λ (z : ℤ). Position z (y .entries)) (toZ-pos w64 (omega (arith, settled-in f y (c .before .before .read .given .1)))) ∙ ap₂ told (p-is (c .before .before .before .before .before .before .before .before .before .before .before)) (sym (u .1 .0))
+          ∙ ap (λ (b : Bool). peekedBy (a .start) w (refuseIf b (unsoundFrameOf v (a .log .now) p) Read)) (sym (u .0)) ∙ k .0,
+      u .1 .1 ∙ ap (λ (b : Bool). slotsBy (a .entries .now) w (refuseIf b (unsoundFrameOf v (a .log .now) p) Read)) (sym (u .0)) ∙ k .1,
     )
 
 pub peek-frames-spec : {M : Type 1} → statement M
@@ -131,8 +135,9 @@ peek-frames-spec =
     (search needs)
     (search needs)
     (search needs)
+    (search needs)
     returns
-    add-t18
+    add-t19
     cast-t23
     returns-2
     returns-3

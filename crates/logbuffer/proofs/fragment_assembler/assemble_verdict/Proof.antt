@@ -1,12 +1,12 @@
--- Rows 1 and 2 go by `first_rows`; row 17 looks at the frame.
+-- Rows 1 and 2 go by `first_rows`; 22 and 23 look at the frame.
 use mathlib.Core.Path.{_≡_, sym, ap, _∙_}
 use mathlib.Core.Bool.{Bool, true}
 use Prim.Native.Nat.{ℕ, _+_, _-_, _*_, _<_}
 use native.Mathlib.Omega.{arith}
 use borrow.Author.Needs.{needs}
 use lib.ListN.{length, drop}
-use Rattle.model.specs.declared.Verdict.the-variants.{Pass}
-use Rattle.model.specs.FrameDescriptor.{isFinished, lengthAt, unsoundLength}
+use Rattle.model.specs.declared.Verdict.the-variants.{Pass, Refuse}
+use Rattle.model.specs.FrameDescriptor.{isFinished, lengthAt, unsoundLength, unsoundFrame}
 use Rattle.model.specs.LogBufferDescriptor.{sound, firstRows}
 use Rattle.model.specs.FragmentAssembler.{goodAssembly}
 use Rattle.model.proofs.Choice.{cond-true, cond-false}
@@ -64,16 +64,17 @@ sub-unsound-length : tie.Need-sub-unsound-length
 sub-unsound-length c =
     omega (arith, at (c .before .before .before .before .before .before) (c .before .before .before .before .enum-told .given .1) .below)
 
--- row 17 by the length word that was read
+-- whether the frame is unsound, by the length word that was read
 abbrev asked : tie.After-first-rows → ℕ → Bool
 asked c w = unsoundLength w (st c .args .p .read .term - st c .args .p .offset)
 
 returns-2 : tie.Need-returns-2
 returns-2 c =
-    let q = c .before .before .before .before .before .before .before .before in
+    let q = c .before .before .before .before .before .before .before .before .before .before in
     let a = st q .args in
-    sym (cond-true _ _ _ (ap (asked q) (sym (c .before .before .before .finished-length .ensures .0)) ∙ sym (c .before .unsound-length .ensures) ∙ c .if1 .taken))
-    ∙ verdict-goes (a .p .read) (a .log .now) (a .lent) (a .p .partition) (a .p .offset) (rows q ∙ c .before .before .before .before .before .before .enum-told .given .1)
+    ap Refuse (c .unsound-frame .ensures ∙ ap (λ (w : ℕ). unsoundFrame w (a .p .offset)) (c .before .before .before .before .before .finished-length .ensures .0))
+    ∙ sym (cond-true _ _ _ (ap (asked q) (sym (c .before .before .before .before .before .finished-length .ensures .0)) ∙ sym (c .before .before .before .unsound-length .ensures) ∙ c .before .before .if1 .taken))
+    ∙ verdict-goes (a .p .read) (a .log .now) (a .lent) (a .p .partition) (a .p .offset) (rows q ∙ c .before .before .before .before .before .before .before .before .enum-told .given .1)
 
 returns-3 : tie.Need-returns-3
 returns-3 c =
@@ -95,6 +96,8 @@ assemble-verdict-spec =
     add-finished-length
     finished-length-requires
     sub-unsound-length
+    (search needs)
+    (search needs)
     (search needs)
     returns-2
     returns-3)

@@ -10,10 +10,10 @@ use Rattle.model.specs.declared.Place.{Place}
 use Rattle.model.specs.declared.TermRead.the-variants.{Refused}
 use Rattle.model.specs.declared.Verdict.the-variants.{Pass}
 use Rattle.model.specs.LogBufferDescriptor.{sound, placeOf, firstRows}
-use Rattle.model.specs.TermReader.{natural, goodWalk, readOf, readEntries}
+use Rattle.model.specs.TermReader.{natural, goodWalk, framesRefusal, readOf, readEntries}
 use Rattle.model.proofs.Rows.{rows-pass}
 use Rattle.model.proofs.PlaceLaws.{Started}
-use Rattle.model.proofs.ReadLaws.{goodRead, readFrom, read-placed, read-refused, read-goes, read-walk, frames-refuse, frames-moved}
+use Rattle.model.proofs.ReadLaws.{goodRead, readFrom, read-placed, read-refused, read-goes, read-walk, frames-moved}
 use Rattle.logbuffer.proofs.term_reader.read.Statement.{statement}
 use Rattle.logbuffer.proofs.term_reader.read.Tie as tie
 
@@ -75,21 +75,20 @@ walks c =
 
 returns-2 : tie.Need-returns-2
 returns-2 c =
-    let f = c .before .before .before in
-    let told = c .enum-told2 .given .1 in
-    let u = frames-refuse _ _ _ _ _ _ [] _ (walks f) refl _ (sym (f .read-frames .ensures .0) ∙ told) in
-    (ap Refused (sym u) ∙ ap (readFrom (p (num f) .offset)) (sym told) ∙ goes f .0, goes f .1)
+    let f = c .before .before .before .before in
+    let told = c .before .enum-told2 .given .1 in
+    (ap Refused (c .refusal .ensures ∙ ap framesRefusal told) ∙ ap (readFrom (p (num f) .offset)) (sym told) ∙ goes f .0, goes f .1)
 
-add-t15 : tie.Need-add-t15
-add-t15 c =
+add-t16 : tie.Need-add-t16
+add-t16 c =
     let f = c .before .before .before .before .before in
-    let m = frames-moved _ _ _ _ _ _ [] _ (walks f) refl _ (sym (f .read-frames .ensures .0) ∙ c .before .before .walked .given .1) in
+    let m = frames-moved _ _ _ _ _ _ [] _ (walks f) refl _ (sym (f .read-frames .ensures .0) ∙ c .before .before .frames .given .1) in
     omega (arith, m, place (num f) (passed f))
 
 returns-3 : tie.Need-returns-3
 returns-3 c =
     let f = c .before .before .before .before .before in
-    (ap (readFrom (p (num f) .offset)) (sym (c .before .before .walked .given .1)) ∙ goes f .0, goes f .1)
+    (ap (readFrom (p (num f) .offset)) (sym (c .before .before .frames .given .1)) ∙ goes f .0, goes f .1)
 
 pub read-spec : {M : Type 1} → statement M
 read-spec =
@@ -110,7 +109,8 @@ read-spec =
     (search needs)
     (search needs)
     (search needs)
+    (search needs)
     returns-2
-    add-t15
+    add-t16
     (search needs)
     returns-3)

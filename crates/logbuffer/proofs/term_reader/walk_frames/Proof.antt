@@ -1,7 +1,7 @@
 -- The loop keeps `Going` of model's WalkLoop: what is done joined with the walk from here is the whole walk. Each turn and each way out
 -- cites its law there.
-use mathlib.Core.Path.{_≡_, refl, sym, _∙_}
-use Prim.Native.Nat.{_+_, _-_, _*_, _/_}
+use mathlib.Core.Path.{_≡_, refl, sym, ap, _∙_}
+use Prim.Native.Nat.{ℕ, _+_, _-_, _*_, _/_}
 use native.Mathlib.Omega.{arith}
 use borrow.Author.Needs.{needs}
 use lib.ListN.{length, drop, length-set}
@@ -11,7 +11,8 @@ use mir.Val.{toZ}
 use mir.Facts.{toZ-pos}
 use Rattle.model.specs.declared.Frame.the-variants.{Padding, Data}
 use Rattle.model.specs.FrameDescriptor.{frameAt}
-use Rattle.model.proofs.FrameLaws.{Lies, lies}
+use Rattle.model.specs.declared.FramesRead.the-variants.{Refused as WalkRefused}
+use Rattle.model.proofs.FrameLaws.{Lies, lies, unsound-refusal}
 use Rattle.model.proofs.WalkLoop.{Going}
 use Rattle.model.proofs.ReaderLaws.{frames-came, frames-first}
 use Rattle.model.proofs.WalkLoop as walks
@@ -33,18 +34,18 @@ st c = c .before .before .before
 abbrev head : tie.After-frame-at Inv-loop μ-loop → tie.At-loop Inv-loop μ-loop
 head c = c .before .before .before
 
-is-padding : (c : tie.After-known-told Inv-loop μ-loop) → let l = head (c .before .before .before) in
+is-padding : (c : tie.After-known-told2 Inv-loop μ-loop) → let l = head (c .before .before .before) in
     frameAt (drop (st l .args .base + l .loop .offset) (st l .args .log .now)) (st l .args .term - l .loop .offset) ≡ Padding (c .before .n .given .0 .0)
 is-padding c = sym (c .before .before .before .frame-at .ensures) ∙ c .before .n .given .1
 
-padding-in : (c : tie.After-known-told Inv-loop μ-loop) → let l = head (c .before .before .before) in Lies (c .before .n .given .0 .0) (st l .args .term - l .loop .offset)
+padding-in : (c : tie.After-known-told2 Inv-loop μ-loop) → let l = head (c .before .before .before) in Lies (c .before .n .given .0 .0) (st l .args .term - l .loop .offset)
 padding-in c = lies _ _ (Padding (c .before .n .given .0 .0)) (is-padding c) refl
 
-is-data : (c : tie.After-known-told2 Inv-loop μ-loop) → let l = head (c .before .before .before) in
+is-data : (c : tie.After-known-told3 Inv-loop μ-loop) → let l = head (c .before .before .before) in
     frameAt (drop (st l .args .base + l .loop .offset) (st l .args .log .now)) (st l .args .term - l .loop .offset) ≡ Data (c .before .n2 .given .0 .0)
 is-data c = sym (c .before .before .before .frame-at .ensures) ∙ c .before .n2 .given .1
 
-data-in : (c : tie.After-known-told2 Inv-loop μ-loop) → let l = head (c .before .before .before) in Lies (c .before .n2 .given .0 .0) (st l .args .term - l .loop .offset)
+data-in : (c : tie.After-known-told3 Inv-loop μ-loop) → let l = head (c .before .before .before) in Lies (c .before .n2 .given .0 .0) (st l .args .term - l .loop .offset)
 data-in c = lies _ _ (Data (c .before .n2 .given .0 .0)) (is-data c) refl
 
 loop-holds : tie.Need-loop-holds Inv-loop μ-loop
@@ -54,10 +55,13 @@ loop-holds c =
 
 returns : tie.Need-returns Inv-loop μ-loop
 returns c =
-    let l = c .before .before .before .before .before .before in
+    let l = c .before .before .before .before .before .before .before .before in
     let a = st l .args in
     let w = l .loop in
-    frames-first (a .log .now) (a .base) (a .term) (a .end) (a .at) (a .limit) (a .actions .now) (a .entries .now) (w .entries) (walks.unsound-first (a .log .now) (a .base) (a .term) (a .end) (a .at) (a .limit) (a .actions .now) (a .entries .now) (w .entries) (w .offset) (w .settled) (w .count) (w .inv .1 .1) (c .if2 .taken) (omega arith) (omega arith) (sym (c .before .before .before .frame-at .ensures) ∙ c .before .enum-told2 .given .1))
+    let e = sym (c .before .before .before .before .before .frame-at .ensures) ∙ c .before .before .before .found .given .1 in
+    let z = ap (λ (o : ℕ). frameAt (drop (a .base + o) (a .log .now)) (a .term - o)) (sym (c .before .if2 .taken)) ∙ e in
+    let f = frames-first (a .log .now) (a .base) (a .term) (a .end) (a .at) (a .limit) (a .actions .now) (a .entries .now) (w .entries) (walks.unsound-first (a .log .now) (a .base) (a .term) (a .end) (a .at) (a .limit) (a .actions .now) (a .entries .now) (w .entries) (w .offset) (w .settled) (w .count) _ (w .inv .1 .1) (c .before .if2 .taken) (omega arith) (omega arith) e) in
+    (ap WalkRefused (c .unsound-frame .ensures ∙ unsound-refusal (a .log .now) (a .base) (a .term) (a .at) _ z) ∙ f .0, f .1)
 
 sub-moved : tie.Need-sub-moved Inv-loop μ-loop
 sub-moved c = omega (arith, padding-in c, c .before .before .before .before .before .before .loop .inv .1 .1 .later)
@@ -136,10 +140,10 @@ returns-5 c =
 
 returns-6 : tie.Need-returns-6 Inv-loop μ-loop
 returns-6 c =
-    let l = c .before .before .before .before .before .before in
+    let l = c .before .before .before .before .before .before .before in
     let a = st l .args in
     let w = l .loop in
-    frames-came (a .log .now) (a .base) (a .term) (a .end) (a .at) (a .limit) (a .actions .now) (a .entries .now) (w .entries) (w .count) (w .count) (w .offset - a .at) (w .moved) (w .settled) (walks.unsound (a .log .now) (a .base) (a .term) (a .end) (a .at) (a .limit) (a .actions .now) (a .entries .now) (w .entries) (w .offset) (w .settled) (w .count) (w .inv .1 .1) (sym (c .before .before .before .frame-at .ensures) ∙ c .before .enum-told2 .given .1) (c .if2 .left)) (w .inv .1 .0)
+    frames-came (a .log .now) (a .base) (a .term) (a .end) (a .at) (a .limit) (a .actions .now) (a .entries .now) (w .entries) (w .count) (w .count) (w .offset - a .at) (w .moved) (w .settled) (walks.unsound (a .log .now) (a .base) (a .term) (a .end) (a .at) (a .limit) (a .actions .now) (a .entries .now) (w .entries) (w .offset) (w .settled) (w .count) _ (w .inv .1 .1) (sym (c .before .before .before .before .frame-at .ensures) ∙ c .before .before .found .given .1) (c .if2 .left)) (w .inv .1 .0)
 
 same-length-7 : tie.Need-same-length-7 Inv-loop μ-loop
 same-length-7 c = simp length-set (search needs)
@@ -161,6 +165,8 @@ walk-frames-spec =
     Inv-loop
     μ-loop
     loop-holds
+    (search needs)
+    (search needs)
     (search needs)
     (search needs)
     (search needs)

@@ -1,11 +1,12 @@
 -- The loop keeps `Availing` of model's AvailableLaws; each way out cites its law there.
-use mathlib.Core.Path.{_≡_, refl, sym, _∙_}
+use mathlib.Core.Path.{_≡_, refl, sym, ap, _∙_}
 use Prim.Native.Nat.{_+_, _-_, _*_, _/_}
 use native.Mathlib.Omega.{arith}
 use borrow.Author.Needs.{needs}
 use lib.ListN.{drop}
 use Rattle.model.specs.declared.Frame.{Frame}
 use Rattle.model.specs.declared.Frame.the-variants.{Padding, Data}
+use Rattle.model.specs.declared.AvailabilityScanned.the-variants.{Refused}
 use Rattle.model.specs.FrameDescriptor.{frameAt}
 use Rattle.model.proofs.FrameLaws.{Lies, lies}
 use Rattle.model.proofs.AvailableLaws.{Availing}
@@ -27,10 +28,10 @@ is : (c : tie.After-frame-at Inv-loop μ-loop) (x : Frame) → c .frame-at .resu
     → frameAt (drop (st (c .before) .args .base + (st (c .before) .args .at + c .before .loop .available)) (st (c .before) .args .log .now)) (st (c .before) .args .term - (st (c .before) .args .at + c .before .loop .available)) ≡ x
 is c x e = sym (c .frame-at .ensures) ∙ e
 
-padding-in : (c : tie.After-known-told Inv-loop μ-loop) → let l = c .before .before .before .before in Lies (c .before .n .given .0 .0) (st l .args .term - (st l .args .at + l .loop .available))
+padding-in : (c : tie.After-known-told2 Inv-loop μ-loop) → let l = c .before .before .before .before in Lies (c .before .n .given .0 .0) (st l .args .term - (st l .args .at + l .loop .available))
 padding-in c = lies _ _ (Padding (c .before .n .given .0 .0)) (is (c .before .before .before) _ (c .before .n .given .1)) refl
 
-data-in : (c : tie.After-known-told2 Inv-loop μ-loop) → let l = c .before .before .before .before in Lies (c .before .n2 .given .0 .0) (st l .args .term - (st l .args .at + l .loop .available))
+data-in : (c : tie.After-known-told3 Inv-loop μ-loop) → let l = c .before .before .before .before in Lies (c .before .n2 .given .0 .0) (st l .args .term - (st l .args .at + l .loop .available))
 data-in c = lies _ _ (Data (c .before .n2 .given .0 .0)) (is (c .before .before .before) _ (c .before .n2 .given .1)) refl
 
 loop-holds : tie.Need-loop-holds Inv-loop μ-loop
@@ -38,15 +39,16 @@ loop-holds c = let a = c .before .args in laws.available-start (a .log .now) (a 
 
 returns : tie.Need-returns Inv-loop μ-loop
 returns c =
-    let l = c .before .before .before .before in
+    let l = c .before .before .before .before .before .before in
     let a = st l .args in
-    laws.available-first (a .log .now) (a .base) (a .term) (a .at) (a .most) (l .loop .available) (c .if1 .taken) (is (c .before .before .before) _ (c .before .enum-told2 .given .1))
+    ap Refused (c .unsound-frame .ensures)
+    ∙ laws.available-first (a .log .now) (a .base) (a .term) (a .at) (a .most) (l .loop .available) _ (c .before .if1 .taken) (is (c .before .before .before .before .before) _ (c .before .before .before .found .given .1))
 
 outcome-requires : tie.Need-outcome-requires Inv-loop μ-loop
-outcome-requires c κs = let i = c .before .before .before .before .loop .inv in omega (arith, i .inside, i .bounded)
+outcome-requires c κs = let i = c .before .before .before .before .before .loop .inv in omega (arith, i .inside, i .bounded)
 
 returns-2 : tie.Need-returns-2 Inv-loop μ-loop
-returns-2 c = c .outcome .ensures ∙ (let l = c .before .before .before .before .before in let a = st l .args in laws.available-unsound (a .log .now) (a .base) (a .term) (a .at) (a .most) (l .loop .available) (l .loop .padding) (l .loop .inv) (is (c .before .before .before .before) _ (c .before .before .enum-told2 .given .1)) (c .before .if1 .left))
+returns-2 c = c .outcome .ensures ∙ (let l = c .before .before .before .before .before .before in let a = st l .args in laws.available-unsound (a .log .now) (a .base) (a .term) (a .at) (a .most) (l .loop .available) (l .loop .padding) _ (l .loop .inv) (is (c .before .before .before .before .before) _ (c .before .before .before .found .given .1)) (c .before .if1 .left))
 
 add-if2 : tie.Need-add-if2 Inv-loop μ-loop
 add-if2 c = omega (arith, c .before .before .before .before .loop .inv .inside)
@@ -142,6 +144,8 @@ available-frames-spec =
     (λ c. omega (arith, c .loop .inv .inside))
     (λ c. omega (arith, c .loop .inv .inside))
     (λ c. omega (arith, c .loop .inv .inside))
+    (search needs)
+    (search needs)
     (search needs)
     (search needs)
     (search needs)

@@ -8,7 +8,7 @@ use lib.IntN.{ℤ}
 use mir.Facts.{toZ-ofZ}
 use Rattle.model.specs.declared.Frame.{Frame}
 use Rattle.model.specs.declared.Frame.the-variants.{Padding, Data}
-use Rattle.model.specs.declared.GapScanned.the-variants.{Gap}
+use Rattle.model.specs.declared.GapScanned.the-variants.{Gap, Refused}
 use Rattle.model.specs.FrameDescriptor.{frameAt}
 use Rattle.model.specs.TermScan.{gapLength}
 use Rattle.model.proofs.FrameLaws.{Lies, lies}
@@ -31,10 +31,10 @@ is : (c : tie.After-frame-at Inv-loop μ-loop) (x : Frame) → c .frame-at .resu
     → frameAt (drop (st (c .before) .args .base + c .before .loop .offset) (st (c .before) .args .log .now)) (st (c .before) .args .term - c .before .loop .offset) ≡ x
 is c x e = sym (c .frame-at .ensures) ∙ e
 
-padding-in : (c : tie.After-known-told Inv-loop μ-loop) → let l = c .before .before .before .before in Lies (c .before .n .given .0 .0) (st l .args .term - l .loop .offset)
+padding-in : (c : tie.After-known-told2 Inv-loop μ-loop) → let l = c .before .before .before .before in Lies (c .before .n .given .0 .0) (st l .args .term - l .loop .offset)
 padding-in c = lies _ _ (Padding (c .before .n .given .0 .0)) (is (c .before .before .before) _ (c .before .n .given .1)) refl
 
-data-in : (c : tie.After-known-told2 Inv-loop μ-loop) → let l = c .before .before .before .before in Lies (c .before .n2 .given .0 .0) (st l .args .term - l .loop .offset)
+data-in : (c : tie.After-known-told3 Inv-loop μ-loop) → let l = c .before .before .before .before in Lies (c .before .n2 .given .0 .0) (st l .args .term - l .loop .offset)
 data-in c = lies _ _ (Data (c .before .n2 .given .0 .0)) (is (c .before .before .before) _ (c .before .n2 .given .1)) refl
 
 loop-holds : tie.Need-loop-holds Inv-loop μ-loop
@@ -48,15 +48,16 @@ sub-frame-at c = omega (arith, c .loop .inv .inside)
 
 returns : tie.Need-returns Inv-loop μ-loop
 returns c =
-    let l = c .before .before .before .before in
+    let l = c .before .before .before .before .before .before in
     let a = st l .args in
-    laws.gap-first (a .log .now) (a .base) (a .term) (a .high) (a .at) (a .«term-id») (l .loop .offset) (c .if1 .taken) (is (c .before .before .before) _ (c .before .enum-told2 .given .1))
+    ap Refused (c .unsound-frame .ensures)
+    ∙ laws.gap-first (a .log .now) (a .base) (a .term) (a .high) (a .at) (a .«term-id») (l .loop .offset) _ (c .before .if1 .taken) (is (c .before .before .before .before .before) _ (c .before .before .before .found .given .1))
 
 returns-2 : tie.Need-returns-2 Inv-loop μ-loop
 returns-2 c =
-    let l = c .before .before .before .before in
+    let l = c .before .before .before .before .before in
     let a = st l .args in
-    laws.gap-unsound (a .log .now) (a .base) (a .term) (a .high) (a .at) (a .«term-id») (l .loop .offset) (l .loop .inv) (is (c .before .before .before) _ (c .before .enum-told2 .given .1)) (c .if1 .left)
+    laws.gap-unsound (a .log .now) (a .base) (a .term) (a .high) (a .at) (a .«term-id») (l .loop .offset) _ (l .loop .inv) (is (c .before .before .before .before) _ (c .before .before .found .given .1)) (c .if1 .left)
 
 returns-3 : tie.Need-returns-3 Inv-loop μ-loop
 returns-3 c =
@@ -118,6 +119,8 @@ gap-frames-spec =
     loop-holds
     add-frame-at
     sub-frame-at
+    (search needs)
+    (search needs)
     (search needs)
     (search needs)
     (search needs)

@@ -1,10 +1,11 @@
 -- The loop keeps `Scanning` of model's ScanLaws; each way out cites its law there.
-use mathlib.Core.Path.{_≡_, refl, sym, _∙_}
+use mathlib.Core.Path.{_≡_, refl, sym, ap, _∙_}
 use Prim.Native.Nat.{_+_, _-_}
 use native.Mathlib.Omega.{arith}
 use borrow.Author.Needs.{needs}
 use lib.ListN.{drop}
 use Rattle.model.specs.declared.Frame.the-variants.{Padding, Data}
+use Rattle.model.specs.declared.Scanned.the-variants.{Refused}
 use Rattle.model.specs.FrameDescriptor.{frameAt}
 use Rattle.model.proofs.FrameLaws.{Lies, lies}
 use Rattle.model.proofs.ScanLaws.{Scanning}
@@ -25,18 +26,18 @@ st c = c .before .before
 abbrev head : tie.After-frame-at Inv-loop μ-loop → tie.At-loop Inv-loop μ-loop
 head c = c .before .before
 
-is-padding : (c : tie.After-known-told Inv-loop μ-loop) → let l = head (c .before .before .before) in
+is-padding : (c : tie.After-known-told2 Inv-loop μ-loop) → let l = head (c .before .before .before) in
     frameAt (drop (st l .args .base + l .loop .offset) (st l .args .log .now)) (st l .args .term - l .loop .offset) ≡ Padding (c .before .n .given .0 .0)
 is-padding c = sym (c .before .before .before .frame-at .ensures) ∙ c .before .n .given .1
 
-padding-in : (c : tie.After-known-told Inv-loop μ-loop) → let l = head (c .before .before .before) in Lies (c .before .n .given .0 .0) (st l .args .term - l .loop .offset)
+padding-in : (c : tie.After-known-told2 Inv-loop μ-loop) → let l = head (c .before .before .before) in Lies (c .before .n .given .0 .0) (st l .args .term - l .loop .offset)
 padding-in c = lies _ _ (Padding (c .before .n .given .0 .0)) (is-padding c) refl
 
-is-data : (c : tie.After-known-told2 Inv-loop μ-loop) → let l = head (c .before .before .before) in
+is-data : (c : tie.After-known-told3 Inv-loop μ-loop) → let l = head (c .before .before .before) in
     frameAt (drop (st l .args .base + l .loop .offset) (st l .args .log .now)) (st l .args .term - l .loop .offset) ≡ Data (c .before .n2 .given .0 .0)
 is-data c = sym (c .before .before .before .frame-at .ensures) ∙ c .before .n2 .given .1
 
-data-in : (c : tie.After-known-told2 Inv-loop μ-loop) → let l = head (c .before .before .before) in Lies (c .before .n2 .given .0 .0) (st l .args .term - l .loop .offset)
+data-in : (c : tie.After-known-told3 Inv-loop μ-loop) → let l = head (c .before .before .before) in Lies (c .before .n2 .given .0 .0) (st l .args .term - l .loop .offset)
 data-in c = lies _ _ (Data (c .before .n2 .given .0 .0)) (is-data c) refl
 
 loop-holds : tie.Need-loop-holds Inv-loop μ-loop
@@ -44,9 +45,10 @@ loop-holds c = let a = c .before .args in laws.scan-start (a .log .now) (a .base
 
 returns : tie.Need-returns Inv-loop μ-loop
 returns c =
-    let l = c .before .before .before .before .before in
+    let l = c .before .before .before .before .before .before .before in
     let a = st l .args in
-    laws.scan-first (a .log .now) (a .base) (a .term) (a .limit) (a .at) (l .loop .offset) (c .if1 .taken) (omega arith) (sym (c .before .before .before .frame-at .ensures) ∙ c .before .enum-told2 .given .1)
+    ap Refused (c .unsound-frame .ensures)
+    ∙ laws.scan-first (a .log .now) (a .base) (a .term) (a .limit) (a .at) (l .loop .offset) _ (c .before .if1 .taken) (omega arith) (sym (c .before .before .before .before .before .frame-at .ensures) ∙ c .before .before .before .found .given .1)
 
 returns-2 : tie.Need-returns-2 Inv-loop μ-loop
 returns-2 c =
@@ -77,9 +79,9 @@ returns-4 c =
 
 returns-5 : tie.Need-returns-5 Inv-loop μ-loop
 returns-5 c =
-    let l = c .before .before .before .before .before in
+    let l = c .before .before .before .before .before .before in
     let a = st l .args in
-    laws.scan-unsound (a .log .now) (a .base) (a .term) (a .limit) (a .at) (l .loop .offset) (l .loop .inv) (sym (c .before .before .before .frame-at .ensures) ∙ c .before .enum-told2 .given .1) (c .if1 .left)
+    laws.scan-unsound (a .log .now) (a .base) (a .term) (a .limit) (a .at) (l .loop .offset) _ (l .loop .inv) (sym (c .before .before .before .before .frame-at .ensures) ∙ c .before .before .found .given .1) (c .if1 .left)
 
 returns-6 : tie.Need-returns-6 Inv-loop μ-loop
 returns-6 c =
@@ -100,6 +102,8 @@ scan-frames-spec =
     Inv-loop
     μ-loop
     loop-holds
+    (search needs)
+    (search needs)
     (search needs)
     (search needs)
     (search needs)
