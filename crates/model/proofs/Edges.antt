@@ -10,16 +10,16 @@ use lib.IntN.{ℤ, pos, negsuc}
 use lib.Count.{ones, onesIn, ones-cat}
 use Rattle.model.specs.declared.LogRecord.{LogRecord}
 use Rattle.model.specs.Bytes.{le4, u16, u32}
-use Rattle.model.specs.Answers.{outcomeTold, frameLengthTold, lengthReadTold, gapTold, positionedTold, appendedTold, readTold, polledTold, blockTold, endTold}
-use Rattle.model.specs.FrameDescriptor.{frameAt, frameLength}
+use Rattle.model.specs.Answers.{outcomeTold, frameLengthTold, lengthReadTold, scannedTold, gapTold, positionedTold, appendedTold, readTold, polledTold, blockTold, endTold, assembledTold}
+use Rattle.model.specs.FrameDescriptor.{frameAt, frameLength, unsoundFrame}
 use Rattle.model.specs.LogBufferDescriptor.{reading, readingOf, soundRecord, sound, changed, withTail, rawOf, termOffset}
 use Rattle.model.specs.TermAppender.{course, unfragmentedCourse, unfragmentedReply}
 use Rattle.model.specs.Publication.{noRecord, openRecord, windowCall}
 use Rattle.model.specs.TermReader.{walk, goodActions, readVerdict, readOf, headerVerdict, lengthCall}
-use Rattle.model.specs.TermScan.{scanFrom, scanVerdict, rebuild, gapLength, gapJudge, gapOf}
-use Rattle.model.specs.Image.{Image, newImage, readable, reachable, pollVerdict, controlledPollOf, blockPollOf, setPositionOf, endOfStreamOf, closeImageOf}
+use Rattle.model.specs.TermScan.{scanFrom, scanVerdict, scanJudge, scanOf, rebuild, gapLength, gapJudge, gapOf}
+use Rattle.model.specs.Image.{Image, newImage, readable, reachable, pollVerdict, pollOf, controlledPollOf, blockPollOf, setPositionOf, endOfStreamOf, closeImageOf}
 use Rattle.model.specs.declared.Joining.the-variants.{Join, Complete}
-use Rattle.model.specs.FragmentAssembler.{Sessions, placeIn, joining}
+use Rattle.model.specs.FragmentAssembler.{Sessions, fresh, placeIn, joining, assembleVerdict, assembleOf}
 use Rattle.model.proofs.Cases.{recordAt, tailsAt, tailAt, is}
 
 -- ---- row 2, each range at its edge and past it
@@ -351,3 +351,27 @@ module _ (rest : List ℕ) (full : length rest ≡ 196480) where
   gap-on-free : gapTold (gapOf (tailAt 64) opened (pos 0) (pos 7) (pos 64) (pos 96)) ≡ is (pos 0) (pos 64 ∷ pos 7 ∷ pos 64 ∷ pos 32 ∷ pos 0 ∷ [])
   unfolding gapOf gapJudge scanVerdict rebuild gapLength readingOf soundRecord sound rawOf ones onesIn le4 u16 u32 frameAt frameLength
   gap-on-free = simp full
+
+-- ---- bad frames by place (R-7 of document 02): a length word at 64 that no frame there has
+
+module _ (rest : List ℕ) (full : length rest ≡ 196540) where
+  abbrev bad : ℕ → List ℕ
+  bad w = replicate 64 0 ++ (le4 w ++ rest)
+
+  scan-short : scannedTold (scanOf (tailAt 128) (bad 5) (pos 0) (pos 64) (pos 65536)) ≡ is (pos 22) (pos 64 ∷ [])
+  unfolding scanOf scanJudge scanVerdict unsoundFrame readingOf soundRecord sound rawOf ones onesIn le4 u32 frameAt frameLength
+  scan-short = simp full
+
+  -- 65,472 bytes are left of the term
+  scan-past : scannedTold (scanOf (tailAt 128) (bad 65473) (pos 0) (pos 64) (pos 65536)) ≡ is (pos 23) (pos 64 ∷ [])
+  unfolding scanOf scanJudge scanVerdict unsoundFrame readingOf soundRecord sound rawOf ones onesIn le4 u32 frameAt frameLength
+  scan-past = simp full
+
+  -- the place is the offset in the term, three terms on too
+  poll-short : polledTold (pollOf (tailAt 128) (bad 31) (newImage (pos 196672) (pos 5)) (replicate 2 (pos 0)) (pos 1) .answer) ≡ is (pos 22) (pos 64 ∷ [])
+  unfolding pollOf pollVerdict readable unsoundFrame readingOf soundRecord sound rawOf ones onesIn le4 u32 frameAt frameLength
+  poll-short = simp full
+
+  assemble-past : assembledTold (assembleOf (tailAt 128) (bad 65473) fresh [] (pos 0) (pos 64) .answer) ≡ is (pos 23) (pos 64 ∷ [])
+  unfolding assembleOf assembleVerdict unsoundFrame readingOf soundRecord sound rawOf ones onesIn le4 u32 frameLength
+  assemble-past = simp full

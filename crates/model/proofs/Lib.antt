@@ -30,6 +30,7 @@ pub mod Claims
 pub mod Demand
 pub mod Corollaries
 pub mod OneByteMore
+pub mod BadFrames
 -- what the code's contracts lean on
 pub mod Append
 pub mod BufferClaim

@@ -20,3 +20,4 @@ pub mod Replay
 pub mod Demand
 pub mod Corollaries
 pub mod OneByteMore
+pub mod BadFrames
