@@ -1,11 +1,12 @@
--- Each answer as it crosses to C: document 01's number, 0 for none, and 01's values (`Answers` of the model), 0 where there are none.
+-- Each answer as it crosses to C: document 01's number, 0 for none, and 01's values (`Answers` of the model), 0 where there are none. The place of a frame
+-- that is refused crosses where an answer has its first value, or a message its start (R-7 of document 02).
 use Prim.Native.Nat.{ℕ, _-_}
 use mathlib.Core.Bool.{Bool, true, false}
 use lib.Dec.{ltb}
 use lib.IntN.{ℤ, pos, negsuc}
 use lib.ListN.{getD, length}
 use Rattle.model.specs.Answers.{Told, outcomeTold, positionedTold, offeredTold, claimedTold, locatedTold, appendedTold, appendedClaimTold, headerTold, lengthReadTold, readTold, scannedTold, gapTold, availabilityTold, polledTold, peekedTold, blockTold, endTold, assembledTold, replayedTold}
-use Rattle.model.specs.Errors.{numberOf}
+use Rattle.model.specs.Errors.{numberOf, placeOf}
 use Rattle.model.specs.TermReader.{natural}
 use Rattle.model.specs.FragmentAssembler.{Sessions}
 use Rattle.model.specs.Replay.{ReplayState}
@@ -70,7 +71,7 @@ use Rattle.capi.specs.declared.replies.AssemblyReply.{AssemblyReply}
 use Rattle.capi.specs.declared.replies.NextReply.{NextReply}
 use Rattle.capi.specs.declared.replies.CountReply.{CountReply}
 
--- the value at a place; the same where it is a size; whether it is below 0, as where an append tripped
+-- the value at an index; the same where it is a size; whether it is below 0, as where an append tripped
 abbrev pub value : ℕ → Told → ℤ
 value i t = getD (t .values) i (pos 0)
 
@@ -80,6 +81,13 @@ negative (negsuc n) = true
 
 abbrev pub size : ℕ → Told → ℕ
 size i t = natural (value i t)
+
+-- the value at an index, or, since a refusal has none, the place of the frame that it refuses
+abbrev pub valueOrPlace : ℕ → Told → ℤ
+valueOrPlace i t = getD (t .values) i (pos (t .place))
+
+abbrev pub sizeOrPlace : ℕ → Told → ℕ
+sizeOrPlace i t = natural (valueOrPlace i t)
 
 -- ---- the record's calls
 
@@ -159,10 +167,10 @@ abbrev pub frameLengthReply : FrameLengthRead → FrameLengthReply
 frameLengthReply a = record { code = lengthReadTold a .number; state = value 0 (lengthReadTold a); length = size 1 (lengthReadTold a) }
 
 abbrev pub readReply : TermRead → ReadReply
-readReply a = record { code = readTold a .number; offset = size 0 (readTold a); fragments = size 1 (readTold a) }
+readReply a = record { code = readTold a .number; offset = sizeOrPlace 0 (readTold a); fragments = size 1 (readTold a) }
 
 abbrev pub scanReply : Scanned → ScanReply
-scanReply a = record { code = scannedTold a .number; offset = size 0 (scannedTold a) }
+scanReply a = record { code = scannedTold a .number; offset = sizeOrPlace 0 (scannedTold a) }
 
 -- a gap has values of its own behind the offset that the walk came to
 abbrev pub startsWritten : GapScanned → Bool
@@ -177,23 +185,23 @@ gapReply a =
       «is_gap» = ltb 1 (length (gapTold a .values));
       «is_being_written» = startsWritten a;
       «term_id» = value 1 (gapTold a);
-      offset = size 0 (gapTold a);
+      offset = sizeOrPlace 0 (gapTold a);
       length = size 3 (gapTold a);
     }
 
 abbrev pub availabilityReply : AvailabilityScanned → AvailabilityReply
-availabilityReply a = record { code = availabilityTold a .number; outcome = value 0 (availabilityTold a) }
+availabilityReply a = record { code = availabilityTold a .number; outcome = valueOrPlace 0 (availabilityTold a) }
 
 -- ---- images
 
 abbrev pub pollBy : Image → Polled → PollReply
-pollBy nx a = record { next = nx; code = polledTold a .number; fragments = size 0 (polledTold a); entries = size 1 (polledTold a) }
+pollBy nx a = record { next = nx; code = polledTold a .number; fragments = sizeOrPlace 0 (polledTold a); entries = size 1 (polledTold a) }
 
 abbrev pub pollReply : PollSaid → PollReply
 pollReply o = pollBy (o .next) (o .answer)
 
 abbrev pub peekBy : Image → Peeked → PeekReply
-peekBy nx a = record { next = nx; code = peekedTold a .number; position = value 0 (peekedTold a); entries = size 1 (peekedTold a) }
+peekBy nx a = record { next = nx; code = peekedTold a .number; position = valueOrPlace 0 (peekedTold a); entries = size 1 (peekedTold a) }
 
 abbrev pub peekReply : PeekSaid → PeekReply
 peekReply o = peekBy (o .next) (o .answer)
@@ -203,7 +211,7 @@ blockBy nx a =
     record {
       next = nx;
       code = blockTold a .number;
-      offset = size 0 (blockTold a);
+      offset = sizeOrPlace 0 (blockTold a);
       length = size 1 (blockTold a);
       «session_id» = value 2 (blockTold a);
       «term_id» = value 3 (blockTold a);
@@ -234,7 +242,7 @@ assemblyBy nx a =
       next = nx;
       code = assembledTold a .number;
       place = value 0 (assembledTold a);
-      start = size 1 (assembledTold a);
+      start = sizeOrPlace 1 (assembledTold a);
       length = size 2 (assembledTold a);
     }
 
@@ -247,11 +255,11 @@ nextBy nx a =
       next = nx;
       code = replayedTold a .number;
       place = value 0 (replayedTold a);
-      start = size 1 (replayedTold a);
+      start = sizeOrPlace 1 (replayedTold a);
       length = size 2 (replayedTold a);
     }
 
--- a count of messages and of their bytes
+-- a count of messages and of their bytes; refused, the first is the place
 abbrev pub countReply : Counted → CountReply
 countReply (Counts m n) = record { code = pos 0; messages = m; bytes = n }
-countReply (CountRefused e) = record { code = numberOf e; messages = 0; bytes = 0 }
+countReply (CountRefused e) = record { code = numberOf e; messages = placeOf e; bytes = 0 }

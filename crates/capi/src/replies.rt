@@ -1,5 +1,6 @@
 // What crosses to C: each answer as 01's number, 0 where nothing was refused, and its values, 0 where there are none. An enum does not
-// cross, so each family of answers has its structs here, and a function for each number in them.
+// cross, so each family of answers has its structs here, and a function for each number in them. A reply refused 22 or 23 has the place of the frame in
+// its first value, which a refusal leaves free; the assembler's and a replay's has it in `start`.
 ghost use mathlib.Core.Path.{_≡_};
 ghost use Prim.Native.Nat.{_-_};
 ghost use mathlib.Core.List.{[]};
@@ -425,7 +426,7 @@ pub fn term_read(answer: TermRead) -> ReadReply
         },
         TermRead::Refused(e) => ReadReply {
             code: errors::number(e),
-            offset: 0,
+            offset: errors::place(e) as usize,
             fragments: 0,
         },
     }
@@ -441,7 +442,7 @@ pub fn scanned(answer: Scanned) -> ScanReply
         },
         Scanned::Refused(e) => ScanReply {
             code: errors::number(e),
-            offset: 0,
+            offset: errors::place(e) as usize,
         },
     }
 }
@@ -472,7 +473,7 @@ pub fn gap_scanned(answer: GapScanned) -> GapReply
             is_gap: false,
             is_being_written: false,
             term_id: 0,
-            offset: 0,
+            offset: errors::place(e) as usize,
             length: 0,
         },
     }
@@ -488,7 +489,7 @@ pub fn availability_scanned(answer: AvailabilityScanned) -> AvailabilityReply
         },
         AvailabilityScanned::Refused(e) => AvailabilityReply {
             code: errors::number(e),
-            outcome: 0,
+            outcome: errors::place(e) as i64,
         },
     }
 }
@@ -506,7 +507,7 @@ pub fn polled(next: Image, answer: Polled) -> PollReply
         Polled::Refused(e) => PollReply {
             next: next,
             code: errors::number(e),
-            fragments: 0,
+            fragments: errors::place(e) as usize,
             entries: 0,
         },
     }
@@ -525,7 +526,7 @@ pub fn peeked(next: Image, answer: Peeked) -> PeekReply
         Peeked::Refused(e) => PeekReply {
             next: next,
             code: errors::number(e),
-            position: 0,
+            position: errors::place(e) as i64,
             entries: 0,
         },
     }
@@ -546,7 +547,7 @@ pub fn block_polled(next: Image, answer: BlockPolled) -> BlockReply
         BlockPolled::Refused(e) => BlockReply {
             next: next,
             code: errors::number(e),
-            offset: 0,
+            offset: errors::place(e) as usize,
             length: 0,
             session_id: 0,
             term_id: 0,
@@ -596,7 +597,7 @@ pub fn assembled(next: FragmentAssembler, answer: Assembled) -> AssemblyReply
             next: next,
             code: errors::number(e),
             place: 0,
-            start: 0,
+            start: errors::place(e) as usize,
             length: 0,
         },
     }
@@ -631,7 +632,7 @@ pub fn replayed(next: Replay, answer: Replayed) -> NextReply
             next: next,
             code: errors::number(e),
             place: 0,
-            start: 0,
+            start: errors::place(e) as usize,
             length: 0,
         },
     }
@@ -648,7 +649,7 @@ pub fn counted(answer: Counted) -> CountReply
         },
         Counted::Refused(e) => CountReply {
             code: errors::number(e),
-            messages: 0,
+            messages: errors::place(e) as usize,
             bytes: 0,
         },
     }

@@ -3,7 +3,7 @@ use mathlib.Core.Path.{_≡_, refl, sym, ap, _∙_}
 use mathlib.Core.Logic.{_⊎_, inl, inr}
 use mathlib.Core.Bool.{Bool, true, false, cond, _&&_, _||_, not}
 use Prim.Native.Nat.{ℕ, zero, suc, _+_, _-_, _*_, _%_, min}
-use mathlib.Core.List.{List, [], _∷_}
+use mathlib.Core.List.{List, []}
 use native.Mathlib.Omega.{arith}
 use lib.Dec.{eqb, leb, ltb}
 use lib.ListN.{length, drop}
@@ -96,7 +96,7 @@ place-told : (n place : ℕ) → refused (unsoundFrame n place) ≡ inPlaceOf17 
 unfolding unsoundFrame
 place-told n place = go (ltb n 32)
   where
-    go : (b : Bool) → refused (cond b (FrameTooShort place) (FramePastTerm place)) ≡ record { number = cond b (pos 22) (pos 23); values = pos place ∷ [] }
+    go : (b : Bool) → refused (cond b (FrameTooShort place) (FramePastTerm place)) ≡ record { number = cond b (pos 22) (pos 23); values = []; place = place }
     go true = refl
     go false = refl
 

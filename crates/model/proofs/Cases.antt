@@ -59,7 +59,7 @@ bytes n = replicate n 1
 
 -- what is answered, in document 01's numbers
 abbrev pub is : ℤ → List ℤ → Told
-is number values = record { number = number; values = values }
+is number values = record { number = number; values = values; place = 0 }
 
 module _ (log : List ℕ) (full : length log ≡ 196608) where
   -- ---- offers into an empty term

@@ -10,7 +10,7 @@ use lib.IntN.{ℤ, pos, negsuc}
 use lib.Count.{ones, onesIn, ones-cat}
 use Rattle.model.specs.declared.LogRecord.{LogRecord}
 use Rattle.model.specs.Bytes.{le4, u16, u32}
-use Rattle.model.specs.Answers.{outcomeTold, frameLengthTold, lengthReadTold, scannedTold, gapTold, positionedTold, appendedTold, readTold, polledTold, blockTold, endTold, assembledTold}
+use Rattle.model.specs.Answers.{Told, outcomeTold, frameLengthTold, lengthReadTold, scannedTold, gapTold, positionedTold, appendedTold, readTold, polledTold, blockTold, endTold, assembledTold}
 use Rattle.model.specs.FrameDescriptor.{frameAt, frameLength, unsoundFrame}
 use Rattle.model.specs.LogBufferDescriptor.{reading, readingOf, soundRecord, sound, changed, withTail, rawOf, termOffset}
 use Rattle.model.specs.TermAppender.{course, unfragmentedCourse, unfragmentedReply}
@@ -358,20 +358,23 @@ module _ (rest : List ℕ) (full : length rest ≡ 196540) where
   abbrev bad : ℕ → List ℕ
   bad w = replicate 64 0 ++ (le4 w ++ rest)
 
-  scan-short : scannedTold (scanOf (tailAt 128) (bad 5) (pos 0) (pos 64) (pos 65536)) ≡ is (pos 22) (pos 64 ∷ [])
+  abbrev refused64 : ℤ → Told
+  refused64 number = record { number = number; values = []; place = 64 }
+
+  scan-short : scannedTold (scanOf (tailAt 128) (bad 5) (pos 0) (pos 64) (pos 65536)) ≡ refused64 (pos 22)
   unfolding scanOf scanJudge scanVerdict unsoundFrame readingOf soundRecord sound rawOf ones onesIn le4 u32 frameAt frameLength
   scan-short = simp full
 
   -- 65,472 bytes are left of the term
-  scan-past : scannedTold (scanOf (tailAt 128) (bad 65473) (pos 0) (pos 64) (pos 65536)) ≡ is (pos 23) (pos 64 ∷ [])
+  scan-past : scannedTold (scanOf (tailAt 128) (bad 65473) (pos 0) (pos 64) (pos 65536)) ≡ refused64 (pos 23)
   unfolding scanOf scanJudge scanVerdict unsoundFrame readingOf soundRecord sound rawOf ones onesIn le4 u32 frameAt frameLength
   scan-past = simp full
 
   -- the place is the offset in the term, three terms on too
-  poll-short : polledTold (pollOf (tailAt 128) (bad 31) (newImage (pos 196672) (pos 5)) (replicate 2 (pos 0)) (pos 1) .answer) ≡ is (pos 22) (pos 64 ∷ [])
+  poll-short : polledTold (pollOf (tailAt 128) (bad 31) (newImage (pos 196672) (pos 5)) (replicate 2 (pos 0)) (pos 1) .answer) ≡ refused64 (pos 22)
   unfolding pollOf pollVerdict readable unsoundFrame readingOf soundRecord sound rawOf ones onesIn le4 u32 frameAt frameLength
   poll-short = simp full
 
-  assemble-past : assembledTold (assembleOf (tailAt 128) (bad 65473) fresh [] (pos 0) (pos 64) .answer) ≡ is (pos 23) (pos 64 ∷ [])
+  assemble-past : assembledTold (assembleOf (tailAt 128) (bad 65473) fresh [] (pos 0) (pos 64) .answer) ≡ refused64 (pos 23)
   unfolding assembleOf assembleVerdict unsoundFrame readingOf soundRecord sound rawOf ones onesIn le4 u32 frameLength
   assemble-past = simp full

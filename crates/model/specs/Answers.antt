@@ -1,5 +1,6 @@
--- Document 01's number and values for each case of each answer: 0 and the values for an answer, and for a refusal its number and
--- what values it has: the place of a frame with 22 and 23, else none. The contracts say which case is answered, these what that case is in the papers.
+-- Document 01's number and values for each case of each answer: 0 and the values for an answer, and for a refusal its number and no
+-- values; and the place of the frame that is refused, which 22 and 23 tell (R-7 of document 02). The contracts say which case is answered, these what
+-- that case is in the papers.
 use Prim.Native.Nat.{ℕ}
 use mathlib.Core.Bool.{cond}
 use mathlib.Core.List.{List, [], _∷_}
@@ -54,18 +55,20 @@ use Rattle.model.specs.declared.Assembled.{Assembled}
 use Rattle.model.specs.declared.Assembled.the-variants.{Nothing as AssembledNothing, Fragment as AssembledFragment, Message as AssembledMessage, Refused as AssembledRefused}
 use Rattle.model.specs.declared.Replayed.{Replayed}
 use Rattle.model.specs.declared.Replayed.the-variants.{InLog as ReplayedInLog, InBuffer as ReplayedInBuffer, End as ReplayedEnd, Refused as ReplayedRefused}
-use Rattle.model.specs.Errors.{numberOf, valuesOf}
+use Rattle.model.specs.Errors.{numberOf, placeOf}
 use Rattle.model.specs.FrameDescriptor.{unsoundFrame}
 
+-- the place is an offset in a term; it is 0 where no frame is refused
 pub record Told : Type 0 where
   pub number : ℤ
   pub values : List ℤ
+  pub place : ℕ
 
 abbrev pub answered : List ℤ → Told
-answered values = record { number = pos 0; values = values }
+answered values = record { number = pos 0; values = values; place = 0 }
 
 abbrev pub refused : Error → Told
-refused e = record { number = numberOf e; values = valuesOf e }
+refused e = record { number = numberOf e; values = []; place = placeOf e }
 
 -- a claim's record: partition, offset, frame length, term id
 abbrev pub claimValues : Claim → List ℤ

@@ -5,7 +5,7 @@ use mathlib.Core.Path.{_≡_}
 use mathlib.Core.Logic.{_⊎_}
 use Prim.Native.Nat.{ℕ, _+_, _-_, _*_, _%_, min}
 use mathlib.Core.Bool.{Bool, true, cond, _&&_, _||_, not}
-use mathlib.Core.List.{List, [], _∷_}
+use mathlib.Core.List.{List, []}
 use lib.Dec.{eqb, leb, ltb}
 use lib.ListN.{length, drop}
 use lib.IntN.{ℤ, pos}
@@ -193,11 +193,11 @@ saying for17 by (refusedBy e) = refused e
 
 -- as document 01 had it
 abbrev pub answerBefore : LogRecord → List ℕ → Reads → Told
-answerBefore r log c = saying (record { number = pos 17; values = [] }) (answerBy r log c) (before r log c)
+answerBefore r log c = saying (record { number = pos 17; values = []; place = 0 }) (answerBy r log c) (before r log c)
 
 -- 22 where the frame's length is below 32, else 23, and the place
 abbrev pub inPlaceOf17 : ℕ → ℕ → Told
-inPlaceOf17 n place = record { number = cond (ltb n 32) (pos 22) (pos 23); values = pos place ∷ [] }
+inPlaceOf17 n place = record { number = cond (ltb n 32) (pos 22) (pos 23); values = []; place = place }
 
 -- for every record, log and reading call: `answerBefore` with 17 replaced
 unfoldable pub BadFrames : Type 0

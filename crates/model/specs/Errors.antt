@@ -1,7 +1,6 @@
--- Document 01's number of each refusal ("Answers, by number"), as document 02 amends them, and the values that a refusal has.
+-- Document 01's number of each refusal ("Answers, by number"), as document 02 amends them, and the place that a refusal carries.
 use Prim.Native.Nat.{ℕ}
-use mathlib.Core.List.{List, [], _∷_}
-use lib.IntN.{ℤ, pos, negsuc}
+use lib.IntN.{ℤ, pos}
 use Rattle.model.specs.declared.Error.{Error}
 use Rattle.model.specs.declared.Error.the-variants.{IllegalArgument, IllegalRecord, PositionOutOfRange, ExceedsMaxPayloadLength, PublicationClosed, AdminAction, MaxPositionExceeded, BackPressured, NotConnected, ExceedsMaxMessageLength, TailOverflow, LastTerm, ActionPossiblyDelayed, ClaimMismatch, NewPositionOutOfRange, NewPositionNotAligned, AssemblyFull, FrameTooShort, FramePastTerm}
 
@@ -26,33 +25,24 @@ numberOf AssemblyFull = pos 18
 numberOf (FrameTooShort place) = pos 22
 numberOf (FramePastTerm place) = pos 23
 
--- The values of a refusal: with 22 and 23 the place of the frame, its offset in its term (R-7 of document 02), and with any other none.
-abbrev pub valuesOf : Error → List ℤ
-valuesOf IllegalArgument = []
-valuesOf IllegalRecord = []
-valuesOf PositionOutOfRange = []
-valuesOf ExceedsMaxPayloadLength = []
-valuesOf PublicationClosed = []
-valuesOf AdminAction = []
-valuesOf MaxPositionExceeded = []
-valuesOf BackPressured = []
-valuesOf NotConnected = []
-valuesOf ExceedsMaxMessageLength = []
-valuesOf TailOverflow = []
-valuesOf LastTerm = []
-valuesOf ActionPossiblyDelayed = []
-valuesOf ClaimMismatch = []
-valuesOf NewPositionOutOfRange = []
-valuesOf NewPositionNotAligned = []
-valuesOf AssemblyFull = []
-valuesOf (FrameTooShort place) = pos place ∷ []
-valuesOf (FramePastTerm place) = pos place ∷ []
-
--- the place as one number, 0 where there is none
-abbrev placeIn : List ℤ → ℕ
-placeIn [] = 0
-placeIn (pos n ∷ zs) = n
-placeIn (negsuc n ∷ zs) = 0
-
+-- The place that 22 and 23 carry, the frame's offset in its term (R-7 of document 02); 0 where no frame is refused.
 abbrev pub placeOf : Error → ℕ
-placeOf e = placeIn (valuesOf e)
+placeOf IllegalArgument = 0
+placeOf IllegalRecord = 0
+placeOf PositionOutOfRange = 0
+placeOf ExceedsMaxPayloadLength = 0
+placeOf PublicationClosed = 0
+placeOf AdminAction = 0
+placeOf MaxPositionExceeded = 0
+placeOf BackPressured = 0
+placeOf NotConnected = 0
+placeOf ExceedsMaxMessageLength = 0
+placeOf TailOverflow = 0
+placeOf LastTerm = 0
+placeOf ActionPossiblyDelayed = 0
+placeOf ClaimMismatch = 0
+placeOf NewPositionOutOfRange = 0
+placeOf NewPositionNotAligned = 0
+placeOf AssemblyFull = 0
+placeOf (FrameTooShort place) = place
+placeOf (FramePastTerm place) = place

@@ -1,4 +1,4 @@
--- Case by case on the answer; a refusal's number is that of its error.
+-- Case by case on the answer; a refusal's number and place are those of its error.
 use borrow.Author.Needs.{needs}
 use Rattle.capi.proofs.replies.replayed.Statement.{statement}
 use Rattle.capi.proofs.replies.replayed.Tie as tie
@@ -13,12 +13,13 @@ returns-3 : tie.Need-returns-3
 returns-3 c = rw (c .before .answer2 .given .1)
 
 returns-4 : tie.Need-returns-4
-returns-4 c = search (needs, ← c .number .ensures, c .before .before .answer3 .given .1)
+returns-4 c = search (needs, ← c .before .number .ensures, ← c .place .ensures, c .before .before .before .answer3 .given .1)
 
 pub replayed-spec : {M : Type 1} → statement M
 replayed-spec =
     tie.close
     (tie.spec
+    (search needs)
     (search needs)
     (search needs)
     (search needs)
