@@ -26,7 +26,7 @@ by-word s room = go (eqb (u32 s) 0) (ltb (u32 s) 2147483648)
     w : ℕ
     w = u32 s
 
-    judged : (unsound padding : Bool) → sizeBy (cond unsound Unsound (cond padding (Padding w) (Data w))) ≡ cond unsound 0 (align w)
+    judged : (unsound padding : Bool) → sizeBy (cond unsound (Unsound w) (cond padding (Padding w) (Data w))) ≡ cond unsound 0 (align w)
     judged true p = refl
     judged false true = refl
     judged false false = refl

@@ -15,7 +15,7 @@ pub(crate) fn size(s: &[u8], at: usize, room: usize) -> usize
 {
     match frame_descriptor::frame_at(s, at, room) {
         Frame::Absent => 0,
-        Frame::Unsound => 0,
+        Frame::Unsound(_) => 0,
         Frame::Padding(n) => (n + ALIGNMENT_MASK) / FRAME_ALIGNMENT * FRAME_ALIGNMENT,
         Frame::Data(n) => (n + ALIGNMENT_MASK) / FRAME_ALIGNMENT * FRAME_ALIGNMENT,
     }
