@@ -11,6 +11,8 @@
  *   overlap another one of the same call. A bool must hold 0 or 1. Nothing else is asked: any number and any bytes may be handed in.
  * - `code` is 0, or the number of the refusal below. Where it is not 0 the other values of a reply are 0, and `next` is what the call
  *   leaves: what it was given, unless the refusal's line or the call's says otherwise.
+ * - With 22 and 23 a reply tells the place of the frame, its offset in its term: in `offset` of a read, a scan, a gap scan and a block, in `outcome`
+ *   of an availability scan, in `fragments` of a poll, in `position` of a peek, in `start` of the assembler and a replay, in `messages` of a count.
  *
  * Refusals, by number (docs/ERRORS.md says what to do about each)
  *    1  an argument is out of its range               10  message longer than payload limit and message limit
@@ -22,10 +24,12 @@
  *       rotated: call again (tail, padding, rotation stay)
  *    7  the greatest position is reached (after a     16  new position not a multiple of 32
  *       trip, tail and padding stay)
- *    8  back pressure: the limit is reached           17  the first frame is unsound
+ *    8  back pressure: the limit is reached           17  retired: no call answers it
  *    9  the same, and not connected                   18  assembler: a 17th session; or fragments longer than their part
  *                                                         (their session stays entered, emptied)
  *                                                     21  a find card, or bytes, that break its format
+ *                                                     22  the first frame has a length of 1 to 31 (with its place)
+ *                                                     23  the first frame runs past its term's end (with its place)
  *                                                     26  frames that do not fill the term; shelf bytes that no term gives
  *
  * An example
@@ -384,7 +388,7 @@ struct logbuffer_header_reply logbuffer_header_fields(struct logbuffer_record re
 struct logbuffer_frame_length_reply logbuffer_frame_length(struct logbuffer_record rec, const uint8_t *log, size_t log_length,
                                                            int32_t partition, int32_t offset);
 
-/* Hands out (offset, length) of each body as two numbers in entries, at most fragment_limit of them. Refuses 1, 2, 17. */
+/* Hands out (offset, length) of each body as two numbers in entries, at most fragment_limit of them. Refuses 1, 2, 22, 23. */
 struct logbuffer_read_reply logbuffer_read(struct logbuffer_record rec, const uint8_t *log, size_t log_length, int32_t partition,
                                            int32_t offset, int32_t fragment_limit, int32_t *entries, size_t entries_length);
 
@@ -395,7 +399,7 @@ int32_t logbuffer_view_number(struct logbuffer_record rec, const uint8_t *log, s
                               int32_t length);
 
 /* The end of the finished frames up to a limit, of which padding is taken only as the first, and then alone and even where it ends past
- * the limit; the gap in them up to a high mark; the bytes available for sending, and the padding after them. Each refuses 1, 2, 17. */
+ * the limit; the gap in them up to a high mark; the bytes available for sending, and the padding after them. Each refuses 1, 2, 22, 23. */
 struct logbuffer_scan_reply logbuffer_scan(struct logbuffer_record rec, const uint8_t *log, size_t log_length, int32_t partition,
                                            int32_t offset, int32_t limit);
 struct logbuffer_gap_reply logbuffer_scan_for_gap(struct logbuffer_record rec, const uint8_t *log, size_t log_length, int32_t partition,
@@ -409,7 +413,7 @@ struct logbuffer_availability_reply logbuffer_scan_for_availability(struct logbu
 struct logbuffer_image logbuffer_image_new(int64_t position, int32_t session_id);
 
 /* Reads fragments up to the end of the term and moves past them; entries as in logbuffer_read, in the term of the position before the
- * call. Refuses 1, 2, 3, 17. The second reads no frame that begins at or past a position. The third takes an answer for each fragment: 1
+ * call. Refuses 1, 2, 3, 22, 23. The second reads no frame that begins at or past a position. The third takes an answer for each fragment: 1
  * abort, 2 break, 3 commit, 4 continue. */
 struct logbuffer_poll_reply logbuffer_image_poll(struct logbuffer_image image, struct logbuffer_record rec, const uint8_t *log,
                                                  size_t log_length, int32_t *entries, size_t entries_length, int32_t fragment_limit);
@@ -422,14 +426,14 @@ struct logbuffer_poll_reply logbuffer_image_controlled_poll(struct logbuffer_ima
                                                             int32_t fragment_limit);
 
 /* Reads from a start at or after the image's position without moving it, at most one fragment for each action, and answers the position
- * after the last whole message or padding, which counts also between the fragments of a message. Refuses 1, 2, 3, 15, 16, 17. */
+ * after the last whole message or padding, which counts also between the fragments of a message. Refuses 1, 2, 3, 15, 16, 22, 23. */
 struct logbuffer_peek_reply logbuffer_image_controlled_peek(struct logbuffer_image image, struct logbuffer_record rec,
                                                             const uint8_t *log, size_t log_length, int32_t *entries,
                                                             size_t entries_length, const uint8_t *actions, size_t actions_length,
                                                             int64_t start, int64_t limit_position);
 
 /* Moves past whole frames of together at most limit bytes and answers where they lie. Padding is taken only as the first frame, and then
- * alone and even where it is longer than the limit. Refuses 2, 3, 17. */
+ * alone and even where it is longer than the limit. Refuses 2, 3, 22, 23. */
 struct logbuffer_block_reply logbuffer_image_block_poll(struct logbuffer_image image, struct logbuffer_record rec, const uint8_t *log,
                                                         size_t log_length, int32_t limit);
 
@@ -452,7 +456,7 @@ struct logbuffer_image_reply logbuffer_image_close(struct logbuffer_image image,
 struct logbuffer_assembler logbuffer_assembler_new(void);
 
 /* Takes the frame at an offset of a partition. An unfragmented message lies in the log, one put together lies in the buffer, until the
- * next call. Refuses 1, 2, 17, 18. After 18 for fragments longer than their part that session stays entered, emptied, and the rest of the
+ * next call. Refuses 1, 2, 22, 23, 18. After 18 for fragments longer than their part that session stays entered, emptied, and the rest of the
  * message is ignored; 18 for a 17th session changes nothing. */
 struct logbuffer_assembly_reply logbuffer_assembler_on_fragment(struct logbuffer_assembler assembler, struct logbuffer_record rec,
                                                                 const uint8_t *log, size_t log_length, uint8_t *buffer,
@@ -462,7 +466,7 @@ struct logbuffer_assembly_reply logbuffer_assembler_on_fragment(struct logbuffer
 struct logbuffer_replay logbuffer_replay_new(int32_t session_id);
 
 /* The next message; LOGBUFFER_NOTHING at the end, which is also before the first claim still open. It polls a fragment at a time into the
- * assembler, over the same buffer from call to call, and what it read before a refusal stays read. Refuses 2, 3, 17 as a poll does, and
+ * assembler, over the same buffer from call to call, and what it read before a refusal stays read. Refuses 2, 3, 22, 23 as a poll does, and
  * then stands before the frame that it could not read: called again it refuses again. Refuses 1 (buffer over 2147483647) and 18 as the
  * assembler does, and then stands behind that frame: called again it goes on with the next message. */
 struct logbuffer_next_reply logbuffer_replay_next(struct logbuffer_replay replay, struct logbuffer_record rec, const uint8_t *log,

@@ -1,4 +1,4 @@
-//! The assembler's part of `domain.rs`, from document 01: its bookkeeping, and where a fragment or a replay is refused 17 or 18.
+//! The assembler's part of `domain.rs`, from document 01: its bookkeeping, and where a fragment or a replay is refused 18, 22 or 23.
 
 use crate::calls::{Assembler, Call, Image};
 use crate::domain::{align, State, Verdict};
@@ -57,7 +57,7 @@ fn on_fragment(s: &State, partition: i32, offset: i32) -> Verdict {
     let (partition, offset) = (partition as i64, offset as i64);
     let (length, _, is_sound) = s.frame(partition, offset);
     if !is_sound {
-        return Verdict::Refused(17);
+        return s.bad_frame(partition, offset);
     }
     let (flags, session) = s.flags(partition, offset);
     match fragment(s.assembler, flags, session, length as usize - 32, s.buffer / 16).code {
@@ -77,7 +77,7 @@ fn replay(s: &State, image: &Image, assembler: &Assembler, buffer: usize, whole:
         let (partition, offset) = (at / s.term() % 3, at % s.term());
         let (length, is_padding, is_sound) = s.frame(partition, offset);
         if length > 0 && !is_sound {
-            return Verdict::Refused(17);
+            return s.bad_frame(partition, offset);
         }
         if length <= 0 || at >= 3 * s.term() {
             return Verdict::Inside;

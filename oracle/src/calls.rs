@@ -147,6 +147,11 @@ impl Answer {
         Answer { code, ..Answer::default() }
     }
 
+    /// 22 or 23, and the place of the frame, its offset in its term.
+    pub fn bad_frame(code: i32, place: i64) -> Self {
+        Answer { code, ..Answer::of(&[place]) }
+    }
+
     pub fn of(values: &[i64]) -> Self {
         let mut answer = Answer::default();
         answer.values[..values.len()].copy_from_slice(values);

@@ -22,6 +22,8 @@ pub enum Verdict {
     Inside,
     /// Refused by a number that is outside the domain.
     Refused(i32),
+    /// The first frame is unsound: 22 or 23, with its offset in its term (R-7 of document 02).
+    BadFrame(i32, i64),
     /// Not refused, and outside: a peek without bytes, or a `bounded_poll` far below the position. Nothing is read.
     Empty,
     /// Let through, but a sum of the Rust overflows.
@@ -32,7 +34,7 @@ pub enum Verdict {
     ClosedAndLong,
 }
 
-use Verdict::{ClosedAndLong, Empty, Inside, Refused, Stopped};
+use Verdict::{BadFrame, ClosedAndLong, Empty, Inside, Refused, Stopped};
 
 const MOST: i64 = 2_147_483_647;
 
@@ -105,9 +107,15 @@ impl State<'_> {
         (length, is_padding, !is_unsound)
     }
 
+    /// The refusal of an unsound frame: by its length, and with its place.
+    pub fn bad_frame(&self, partition: i64, offset: i64) -> Verdict {
+        let length = self.frame(partition, offset).0;
+        BadFrame(if length < 32 { 22 } else { 23 }, offset)
+    }
+
     fn unsound(&self, partition: i64, offset: i64, is_first: bool) -> Verdict {
         if is_first {
-            Refused(17)
+            self.bad_frame(partition, offset)
         } else {
             Stopped((partition * self.term_length() + offset) as usize)
         }

@@ -207,7 +207,7 @@ impl Port {
         let group = group.or_else(|| self.claims(call)).or_else(|| self.appending(call));
         let group = group.or_else(|| self.frames(call)).or_else(|| self.scans(call)).or_else(|| self.polling(call));
         let group = group.or_else(|| self.imaging(call)).or_else(|| self.assembling(call)).or_else(|| numbers(call));
-        group.expect("every call has a group")
+        placed_first(call, group.expect("every call has a group"))
     }
 
     fn by_hand(&mut self, call: &Call) -> Option<Answer> {
@@ -533,6 +533,25 @@ impl Port {
         };
         Answer { code, bytes, ..Answer::of(&[place, shown, length]) }
     }
+}
+
+/// A reply refused 22 or 23 has the place in its first number, a gap's in its offset, the assembler's and a replay's in its start. It is told as the first
+/// value here, and the number is -3 where any other number of the reply is not 0.
+fn placed_first(call: &Call, mut answer: Answer) -> Answer {
+    if ![22, 23].contains(&answer.code) {
+        return answer;
+    }
+    let k = match call {
+        Call::ScanForGap { .. } => 2,
+        Call::OnFragment { .. } | Call::ReplayNext => 1,
+        _ => 0,
+    };
+    let place = std::mem::take(&mut answer.values[k]);
+    if answer.values.iter().any(|value| *value != 0) {
+        answer.code = -3;
+    }
+    answer.values[0] = place;
+    answer
 }
 
 /// A call's number and its companion's: -1 where they differ.

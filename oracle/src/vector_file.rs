@@ -265,7 +265,11 @@ impl Told {
     fn results(&self) -> Vec<i64> {
         let (code, values) = (self.answer.code as i64, &self.answer.values);
         if code != 0 && !self.tells_image() {
-            return if matches!(self.call, Call::View { .. }) { vec![code, 1] } else { vec![code] };
+            return match self.call {
+                Call::View { .. } => vec![code, 1],
+                _ if code >= 22 => vec![code, values[0]],
+                _ => vec![code],
+            };
         }
         match &self.call {
             Call::Position | Call::PublicationLimit | Call::AvailableWindow | Call::Offer { .. } => self.first(1),

@@ -99,7 +99,8 @@ impl World {
         let told = match verdict {
             Verdict::Inside => self.inside(call, &answer)?,
             Verdict::Stopped(at) => self.stopped(call, &answer, at)?,
-            Verdict::Refused(number) => self.refused(call, &answer, number)?,
+            Verdict::Refused(number) => self.refused(call, &answer, Answer::refusal(number))?,
+            Verdict::BadFrame(number, place) => self.refused(call, &answer, Answer::bad_frame(number, place))?,
             Verdict::Empty => self.empty(call, &answer)?,
             Verdict::Overflows => self.overflows(call)?,
             Verdict::ClosedAndLong => self.closed_and_long(call, &answer)?,
@@ -160,8 +161,9 @@ impl World {
         Ok(Told::Stopped)
     }
 
-    fn refused(&mut self, call: &Call, answer: &Answer, number: i32) -> Result<Told, String> {
-        same(answer, &Answer { entries: lent(call), ..Answer::refusal(number) }, "01")?;
+    fn refused(&mut self, call: &Call, answer: &Answer, expected: Answer) -> Result<Told, String> {
+        let number = expected.code;
+        same(answer, &Answer { entries: lent(call), ..expected }, "the papers")?;
         match call {
             // Tail and padding stay: so they do in the Rust, which overflows only after them.
             Call::Offer { .. } | Call::TryClaim { .. } if number == 12 => {
@@ -173,7 +175,7 @@ impl World {
                 self.original.set_assembler(&self.port.assembler, self.port.buffer.get());
             }
             // A replay may have moved before the frame that it refuses; 01 leaves that open.
-            Call::ReplayNext if number >= 17 => {
+            Call::ReplayNext if number >= 18 => {
                 let replay = self.port.replay;
                 self.original.set_replay(replay.image, &replay.assembler, self.port.replay_buffer.get());
             }

@@ -6,7 +6,7 @@
  *   its body, or in its header behind the type, it comes back with zeros from the cut on. A cut before that leaves type 0, which is
  *   padding; and an end fragment cut before its session id is one of another session. Neither gives a message.
  * - A length word that is cut through shows a shorter length, or an open claim's as one above 0, with type 0. The replay then ends there,
- *   or refuses 17. */
+ *   or refuses 22 with the frame's place. */
 #include "replayed.h"
 
 enum { MOST = 128, TYPE = 7, ID = 13, HEADER = 32 };
@@ -121,7 +121,9 @@ static struct message zeroed(struct message m, size_t kept) {
     return (struct message){bytes, m.length};
 }
 
-/* The messages that the cut at c leaves, and how many bytes of the frame that it goes through, 0 for none. */
+/* The messages that the cut at c leaves, and how many bytes of the frame that it goes through, 0 for none; `cut_at` is where that frame starts. */
+static size_t cut_at;
+
 static size_t left_by(size_t c, struct message *list, size_t *through) {
     size_t count = 0;
     *through = 0;
@@ -129,6 +131,7 @@ static size_t left_by(size_t c, struct message *list, size_t *through) {
         struct frame f = frames[i];
         bool whole = c >= f.start + f.length;
         *through = whole ? 0 : c - f.start;
+        cut_at = f.start;
         if (f.message < 0 || !f.ends || (!whole && *through < (size_t)(f.begins ? TYPE : ID))) {
             continue;
         }
@@ -148,9 +151,9 @@ static void cut(size_t c) {
     memcpy(half, log_bytes, c);
     memset(half + c, 0, LOG - c);
     int32_t code = replayed(rec, half, list, count, c);
-    expect(code == 0 || (code == 17 && through > 0 && through < 4), "the replay is refused", c);
+    expect(code == 0 || (code == 22 && through > 0 && through < 4 && place == cut_at % TERM), "the replay is refused", c);
     cuts++;
-    refusals += code == 17;
+    refusals += code == 22;
     zero_tails += through != 0 && count > 0 && list[count - 1].bytes != messages[count - 1].bytes;
 }
 
@@ -162,11 +165,11 @@ int main(void) {
     for (size_t c = 0; c < last; c += 97) {
         cut(c);
     }
-    printf("%zu cuts, each 97 bytes apart, before the last 8 frames: %zu messages with zeros, %zu refused 17\n", cuts, zero_tails, refusals);
+    printf("%zu cuts, each 97 bytes apart, before the last 8 frames: %zu messages with zeros, %zu refused 22\n", cuts, zero_tails, refusals);
     cuts = zero_tails = refusals = 0;
     for (size_t c = last; c <= end; c++) {
         cut(c);
     }
-    printf("%zu cuts at every byte of them: %zu messages with zeros, %zu refused 17\n", cuts, zero_tails, refusals);
+    printf("%zu cuts at every byte of them: %zu messages with zeros, %zu refused 22\n", cuts, zero_tails, refusals);
     return 0;
 }

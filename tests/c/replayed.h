@@ -26,6 +26,8 @@ static void expect(int holds, const char *what, size_t where) {
     }
 }
 
+static size_t place; /* of the frame that the last replay was refused at: its offset in its term */
+
 /* Replays a log up to its end or a refusal, holds each message to the list, and answers the refusal's number. */
 static int32_t replayed(struct logbuffer_record rec, const uint8_t *log, const struct message *list, size_t count, size_t where) {
     struct logbuffer_replay at = logbuffer_replay_new(SESSION);
@@ -34,7 +36,8 @@ static int32_t replayed(struct logbuffer_record rec, const uint8_t *log, const s
         if (n.code != 0 || n.place == LOGBUFFER_NOTHING) {
             expect(i == count, "not as many messages as there should be", where);
             struct logbuffer_count_reply c = logbuffer_replay_count(rec, log, LOG, buffer, sizeof buffer, SESSION);
-            expect(c.code == n.code && (c.code != 0 || c.messages == count), "the count is another", where);
+            place = n.start;
+            expect(c.code == n.code && c.messages == (c.code != 0 ? place : count), "the count is another", where);
             return n.code;
         }
         const uint8_t *bytes = (n.place == LOGBUFFER_IN_LOG ? log : buffer) + n.start;

@@ -43,7 +43,7 @@ impl Assembler {
 
     /// Takes the next fragment of a log and answers the message that it ends, if it ends one. Refuses [`Error::AssemblyFull`] for a 17th
     /// session, which changes nothing, or for a message longer than its part, of which nothing is then held; and for a fragment of another
-    /// log [`Error::IllegalArgument`] or [`Error::UnsoundFrame`] where no such frame lies here.
+    /// log [`Error::IllegalArgument`], [`Error::FrameTooShort`] or [`Error::FramePastTerm`] where no such frame lies here.
     ///
     /// ```
     /// use logbuffer::{Assembler, Error, Log};
@@ -61,7 +61,7 @@ impl Assembler {
         let (partition, offset) = (fragment.partition, fragment.offset);
         let reply = sys::assembler_on_fragment(self.sessions, log.record, &log.bytes, &mut self.buffer, partition, offset);
         self.sessions = reply.next;
-        Error::check(reply.code)?;
+        Error::check_frame(reply.code, partition, reply.start)?;
         Ok(match reply.place {
             sys::IN_LOG => Some(log.view(partition, reply.start as i32, reply.length as i32)?),
             sys::IN_BUFFER => Some(&self.buffer[reply.start..reply.start + reply.length]),

@@ -2,8 +2,26 @@
 
 use std::fmt;
 
+/// Where a frame lies that was refused: its offset in its term, and the term's partition where the call knows it.
+#[derive(Clone, Copy, Debug, Default, PartialEq, Eq, Hash, PartialOrd, Ord)]
+pub struct Place {
+    /// Partition 0, 1 or 2; [`Log::count`](crate::Log::count) does not know it.
+    pub partition: Option<i32>,
+    /// The offset in the term, a multiple of 32.
+    pub offset: i32,
+}
+
+impl fmt::Display for Place {
+    fn fmt(&self, f: &mut fmt::Formatter<'_>) -> fmt::Result {
+        match self.partition {
+            Some(partition) => write!(f, "offset {} of partition {partition}", self.offset),
+            None => write!(f, "offset {} of its term", self.offset),
+        }
+    }
+}
+
 macro_rules! refusals {
-    ($($number:literal $name:ident $cause:literal $remedy:literal)*) => {
+    ($($number:literal $name:ident $cause:literal $remedy:literal)* frames $($at:literal $frame:ident $what:literal $then:literal)*) => {
         /// Why a call was refused. Unless the remedy says that something stays, a refused call has changed nothing.
         ///
         /// ```
@@ -14,14 +32,23 @@ macro_rules! refusals {
         /// assert_eq!(error.to_string(), "the publication is closed: stop writing; reading, commits and aborts still work");
         /// ```
         #[derive(Clone, Copy, Debug, PartialEq, Eq, Hash, PartialOrd, Ord)]
-        #[repr(i32)]
         pub enum Error {
-            $(#[doc = concat!("No. ", $number, ": ", $cause, ". Next: ", $remedy, ".")] $name = $number,)*
+            $(#[doc = concat!("No. ", $number, ": ", $cause, ". Next: ", $remedy, ".")] $name,)*
+            $(#[doc = concat!("No. ", $at, ", with the frame's place: ", $what, ". Next: ", $then, ".")] $frame(Place),)*
         }
 
         impl Error {
-            /// Every refusal, by number.
-            pub const ALL: [Error; 20] = [$(Error::$name),*];
+            /// Every refusal, by number; those of a frame at offset 0.
+            pub const ALL: [Error; 21] = [$(Error::$name,)* $(Error::$frame(Place { partition: None, offset: 0 })),*];
+
+            /// The refusal's number: 1 to 18 without 17, which is retired, 21 for a card, 22 and 23 for a frame, 26 for the shelf.
+            ///
+            /// ```
+            /// assert_eq!(logbuffer::Error::BackPressured.number(), 8);
+            /// ```
+            pub fn number(self) -> i32 {
+                match self { $(Error::$name => $number,)* $(Error::$frame(_) => $at,)* }
+            }
 
             /// What the refusal is given for, in one line.
             ///
@@ -29,7 +56,7 @@ macro_rules! refusals {
             /// assert_eq!(logbuffer::Error::BackPressured.cause(), "the publication limit is reached");
             /// ```
             pub fn cause(self) -> &'static str {
-                match self { $(Error::$name => $cause,)* }
+                match self { $(Error::$name => $cause,)* $(Error::$frame(_) => $what,)* }
             }
 
             /// What the call has left, if anything, and what to do next, in one line.
@@ -38,7 +65,7 @@ macro_rules! refusals {
             /// assert_eq!(logbuffer::Error::NewPositionNotAligned.remedy(), "set the position of a frame");
             /// ```
             pub fn remedy(self) -> &'static str {
-                match self { $(Error::$name => $remedy,)* }
+                match self { $(Error::$name => $remedy,)* $(Error::$frame(_) => $then,)* }
             }
         }
     };
@@ -94,9 +121,6 @@ refusals! {
     16 NewPositionNotAligned
         "the new position is not a multiple of 32"
         "set the position of a frame"
-    17 UnsoundFrame
-        "the first frame has a length of 1 to 31 or ends past its term"
-        "the log was damaged at the reader's position: what lies before is good, go on in the next term"
     18 AssemblyFull
         "begin frame of a 17th session, or fragments longer together than their part of the buffer"
         "a session of too long fragments stays entered, emptied; a 17th changes nothing: lend 16 times the longest message, or a fresh assembler"
@@ -106,19 +130,34 @@ refusals! {
     26 NotFilled
         "frames that do not fill the term, or shelf bytes that no term of that length gives"
         "of a term, wait until it is full and every claim in it is committed or aborted; of a shelf, it was damaged or is of another term length"
+    frames
+    22 FrameTooShort
+        "the first frame has a length of 1 to 31"
+        "the log was damaged at that place: what lies before is good, mend the frame there or go on in the next term"
+    23 FramePastTerm
+        "the first frame runs past its term's end"
+        "the log was damaged at that place: what lies before is good, mend the frame there or go on in the next term"
 }
 
 impl Error {
-    /// The refusal's number: 1 to 18, 21 for a card, 26 for the shelf.
+    /// Where the frame lies that was refused, with 22 and 23.
     ///
     /// ```
-    /// assert_eq!(logbuffer::Error::BackPressured.number(), 8);
+    /// use logbuffer::{Error, Place};
+    ///
+    /// let place = Place { partition: Some(1), offset: 64 };
+    /// assert_eq!(Error::FrameTooShort(place).place(), Some(place));
+    /// assert!(Error::FrameTooShort(place).to_string().starts_with("the first frame has a length of 1 to 31, at offset 64 of partition 1: "));
+    /// assert_eq!(Error::BackPressured.place(), None);
     /// ```
-    pub fn number(self) -> i32 {
-        self as i32
+    pub fn place(self) -> Option<Place> {
+        match self {
+            Error::FrameTooShort(place) | Error::FramePastTerm(place) => Some(place),
+            _ => None,
+        }
     }
 
-    /// The refusal of a number; none for any but those of [`ALL`](Error::ALL).
+    /// The refusal of a number; none for any but those of [`ALL`](Error::ALL). A number does not tell a frame's place: it is at offset 0.
     ///
     /// ```
     /// use logbuffer::Error;
@@ -136,11 +175,24 @@ impl Error {
             _ => Err(Error::from_number(code).expect("the C face answers 0 or a refusal's number")),
         }
     }
+
+    /// The same of a call that reads frames, whose reply has the offset of a frame that it refuses.
+    pub(crate) fn check_frame(code: i32, partition: impl Into<Option<i32>>, offset: usize) -> Result<(), Error> {
+        let place = || Place { partition: partition.into(), offset: offset as i32 };
+        match code {
+            22 => Err(Error::FrameTooShort(place())),
+            23 => Err(Error::FramePastTerm(place())),
+            _ => Error::check(code),
+        }
+    }
 }
 
 impl fmt::Display for Error {
     fn fmt(&self, f: &mut fmt::Formatter<'_>) -> fmt::Result {
-        write!(f, "{}: {}", self.cause(), self.remedy())
+        match self.place() {
+            Some(place) => write!(f, "{}, at {place}: {}", self.cause(), self.remedy()),
+            None => write!(f, "{}: {}", self.cause(), self.remedy()),
+        }
     }
 }
 

@@ -54,7 +54,7 @@ pub use assembler::Assembler;
 pub use builder::Builder;
 pub use card::Card;
 pub use claim::{Claim, OpenClaim};
-pub use error::Error;
+pub use error::{Error, Place};
 pub use log::Log;
 pub use poller::{Action, Block, Fragment, Fragments, Poller};
 pub use replay::{Count, Replay};

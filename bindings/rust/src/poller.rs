@@ -77,7 +77,7 @@ pub struct Block<'a> {
 /// reader, for a message may end past the limit.
 ///
 /// Its calls refuse a position that is negative, over the greatest, or not a multiple of 32 with [`Error::PositionOutOfRange`], and a
-/// damaged frame at their start with [`Error::UnsoundFrame`].
+/// damaged frame at their start with [`Error::FrameTooShort`] or [`Error::FramePastTerm`] and its place.
 ///
 /// ```
 /// let mut log = logbuffer::Log::builder().open()?;
@@ -179,7 +179,7 @@ impl Poller {
         }
         let limit = actions.len() as i32;
         let reply = sys::image_controlled_poll(self.image, log.record, &log.bytes, &mut self.entries, &actions, limit);
-        Error::check(reply.code)?;
+        Error::check_frame(reply.code, partition, reply.fragments)?;
         self.image = reply.next;
         Ok(reply.fragments)
     }
@@ -213,7 +213,7 @@ impl Poller {
         let peek = |image: &mut Image, entries: &mut [i32], actions: &[u8]| {
             let reply = sys::image_controlled_peek(*image, log.record, &log.bytes, entries, actions, start, limit_position);
             *image = reply.next;
-            Error::check(reply.code).map(|()| reply)
+            Error::check_frame(reply.code, log.partition_of(start), reply.position as usize).map(|()| reply)
         };
         let first = peek(&mut self.image, &mut self.entries, &onward)?;
         let actions = self.ask(log, log.partition_of(start), first.entries, handler)?;
@@ -238,7 +238,7 @@ impl Poller {
         let limit = limit.min(i32::MAX as usize).min(log.written_after(self.image.position)) as i32;
         let partition = log.partition_of(self.image.position);
         let reply = sys::image_block_poll(self.image, log.record, &log.bytes, limit);
-        Error::check(reply.code)?;
+        Error::check_frame(reply.code, partition, reply.offset)?;
         self.image = reply.next;
         if reply.length == 0 {
             return Ok(None);
@@ -355,7 +355,8 @@ impl Poller {
         let limit_position = limit_position.min(log.publisher_position());
         let limit = self.reserve(log, self.image.position, limit) as i32;
         let reply = sys::image_bounded_poll(self.image, log.record, &log.bytes, &mut self.entries, limit_position, limit);
-        Error::check(reply.code).map(|()| (reply.next, reply.entries))
+        let partition = log.partition_of(self.image.position);
+        Error::check_frame(reply.code, partition, reply.fragments).map(|()| (reply.next, reply.entries))
     }
 
     /// Makes room for as many entries as a limit asks for, or as frames can lie between a position and the publisher's, or in a term, if

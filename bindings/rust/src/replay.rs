@@ -8,7 +8,7 @@ use crate::{Error, Log};
 /// While the publisher's position is short of three terms these are the messages accepted, in order, byte for byte. Further on the first
 /// terms are written anew, and a replay is of no use: follow the log with a [`Poller`](crate::Poller).
 ///
-/// It ends with the first refusal: [`Error::UnsoundFrame`] or [`Error::AssemblyFull`], which only a log damaged or made by hand brings.
+/// It ends with the first refusal: [`Error::FrameTooShort`], [`Error::FramePastTerm`] or [`Error::AssemblyFull`], which only a log damaged or made by hand brings.
 ///
 /// ```
 /// let mut log = logbuffer::Log::builder().mtu_length(96).open()?;
@@ -58,7 +58,8 @@ impl Replay<'_> {
         let reply = sys::replay_next(self.replay, self.log.record, &self.log.bytes, &mut self.buffer);
         self.replay = reply.next;
         let message = reply.start..reply.start + reply.length;
-        match (Error::check(reply.code), reply.place) {
+        let partition = self.log.partition_of(self.replay.image.position);
+        match (Error::check_frame(reply.code, partition, reply.start), reply.place) {
             (Ok(()), sys::IN_LOG) => Some(Ok(&self.log.bytes[message])),
             (Ok(()), sys::IN_BUFFER) => Some(Ok(&self.buffer[message])),
             (answer, _) => {
@@ -107,7 +108,7 @@ impl Log {
     /// ```
     pub fn count(&self) -> Result<Count, Error> {
         let reply = sys::replay_count(self.record, &self.bytes, &mut self.assembly_buffer(), self.record.session_id);
-        Error::check(reply.code).map(|()| Count { messages: reply.messages, bytes: reply.bytes })
+        Error::check_frame(reply.code, None, reply.messages).map(|()| Count { messages: reply.messages, bytes: reply.bytes })
     }
 
     /// The longest body of one frame: mtu - 32.

@@ -72,7 +72,8 @@ impl Log {
     }
 
     /// The end of the finished frames of a partition, from an offset up to a limit. Refuses [`Error::IllegalArgument`] for a partition
-    /// not 0 to 2, an offset not a multiple of 32 below the term length, or a limit past the term, and [`Error::UnsoundFrame`].
+    /// not 0 to 2, an offset not a multiple of 32 below the term length, or a limit past the term, and [`Error::FrameTooShort`] or
+    /// [`Error::FramePastTerm`], with the place, where the first frame is damaged.
     ///
     /// ```
     /// let mut log = logbuffer::Log::builder().open()?;
@@ -82,7 +83,7 @@ impl Log {
     /// ```
     pub fn scan(&self, partition: i32, offset: i32, limit: i32) -> Result<usize, Error> {
         let reply = sys::scan(self.record, &self.bytes, partition, offset, limit);
-        Error::check(reply.code).map(|()| reply.offset)
+        Error::check_frame(reply.code, partition, reply.offset).map(|()| reply.offset)
     }
 
     /// The first gap in a partition from an offset up to a high mark, a multiple of 32 up to the term length; `term_id` is handed back
@@ -103,7 +104,7 @@ impl Log {
     /// ```
     pub fn scan_for_gap(&self, partition: i32, term_id: i32, offset: i32, high_mark: i32) -> Result<GapScan, Error> {
         let reply = sys::scan_for_gap(self.record, &self.bytes, partition, term_id, offset, high_mark);
-        Error::check(reply.code)?;
+        Error::check_frame(reply.code, partition, reply.offset)?;
         Ok(match reply.is_gap {
             true => GapScan::Gap {
                 term_id: reply.term_id,
@@ -127,7 +128,7 @@ impl Log {
     /// ```
     pub fn scan_for_availability(&self, partition: i32, offset: i32, maximum: i32) -> Result<Availability, Error> {
         let reply = sys::scan_for_availability(self.record, &self.bytes, partition, offset, maximum);
-        Error::check(reply.code)?;
+        Error::check_frame(reply.code, partition, reply.outcome as usize)?;
         // The answer is padding * 2^32 + available.
         Ok(Availability { available: reply.outcome as u32 as usize, padding: (reply.outcome >> 32) as usize })
     }

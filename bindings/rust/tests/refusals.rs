@@ -4,7 +4,7 @@
 mod common;
 
 use common::{log, made, put_frame, raw_tail, TERM};
-use logbuffer::{Action, Assembler, Error, Log};
+use logbuffer::{Action, Assembler, Error, Log, Place};
 
 #[test]
 fn illegal_argument_1() {
@@ -210,23 +210,45 @@ fn new_position_out_of_range_15_and_not_aligned_16() {
     assert_eq!(log.poller(0).controlled_peek(&log, 65_568, i64::MAX, 0, |_| Action::Continue), Err(Error::NewPositionOutOfRange));
 }
 
-#[test]
-fn unsound_frame_17() {
+/// A log whose second frame, at 64, has this length.
+fn damaged(length: i32) -> Log {
     let mut log = log();
+    log.offer(b"coin").unwrap();
     log.offer(b"").unwrap();
     let (record, mut bytes) = log.into_parts();
-    put_frame(&mut bytes, 0, 5, 0xc0, 11);
-    let log = Log::from_parts(record, bytes).unwrap();
-    let mut poller = log.poller(0);
-    assert_eq!(poller.poll(&log, 1, |_| ()), Err(Error::UnsoundFrame));
-    assert_eq!(poller.block_poll(&log, 64), Err(Error::UnsoundFrame));
-    assert_eq!(poller.controlled_peek(&log, 0, i64::MAX, 1, |_| Action::Continue), Err(Error::UnsoundFrame));
-    assert_eq!(poller.fragments(&log).collect::<Vec<_>>(), [Err(Error::UnsoundFrame)]);
-    assert_eq!(log.replay().collect::<Vec<_>>(), [Err(Error::UnsoundFrame)]);
-    assert_eq!(log.count(), Err(Error::UnsoundFrame));
-    assert_eq!(log.scan(0, 0, 64), Err(Error::UnsoundFrame));
-    assert_eq!(log.scan_for_gap(0, 7, 0, 64), Err(Error::UnsoundFrame));
-    assert_eq!(log.scan_for_availability(0, 0, 64), Err(Error::UnsoundFrame));
+    put_frame(&mut bytes, 64, length, 0xc0, 11);
+    Log::from_parts(record, bytes).unwrap()
+}
+
+fn refuses_frame(log: &Log, refused: impl Fn(Place) -> Error) {
+    let offset = 64;
+    let error = refused(Place { partition: Some(0), offset });
+    let mut poller = log.poller(64);
+    assert_eq!(poller.poll(log, 1, |_| ()), Err(error));
+    assert_eq!(poller.controlled_poll(log, 1, |_| Action::Continue), Err(error));
+    assert_eq!(poller.block_poll(log, 64), Err(error));
+    assert_eq!(poller.controlled_peek(log, 64, i64::MAX, 1, |_| Action::Continue), Err(error));
+    assert_eq!(log.poller(0).controlled_peek(log, 64, i64::MAX, 1, |_| Action::Continue), Err(error));
+    assert_eq!(poller.fragments(log).collect::<Vec<_>>(), [Err(error)]);
+    assert_eq!(log.replay().collect::<Vec<_>>(), [Ok(b"coin".to_vec()), Err(error)]);
+    assert_eq!(log.count(), Err(refused(Place { partition: None, offset })));
+    assert_eq!(log.scan(0, 64, 128), Err(error));
+    assert_eq!(log.scan_for_gap(0, 7, 64, 128), Err(error));
+    assert_eq!(log.scan_for_availability(0, 64, 64), Err(error));
+    assert_eq!(error.place(), Some(Place { partition: Some(0), offset }));
+    assert!(error.to_string().contains(", at offset 64 of partition 0: "));
+}
+
+#[test]
+fn frame_too_short_22() {
+    refuses_frame(&damaged(5), Error::FrameTooShort);
+    refuses_frame(&damaged(31), Error::FrameTooShort);
+}
+
+#[test]
+fn frame_past_term_23() {
+    refuses_frame(&damaged(65_473), Error::FramePastTerm);
+    refuses_frame(&damaged(i32::MAX), Error::FramePastTerm);
 }
 
 #[test]

@@ -88,6 +88,13 @@ pub fn publisher(rec: LogRecord) {
     }
 }
 
+// A cause, and the offset in its term of the frame that it is found at.
+fn at(cause: &[u8], place: u32) {
+    put(cause);
+    put(b", at offset ");
+    number(place as usize);
+}
+
 // The causes of docs/ERRORS.md. Number 6 has another, count and term id that differ, which no call made here leaves.
 fn words(error: Error) {
     match error {
@@ -115,11 +122,10 @@ fn words(error: Error) {
             b"the new position is before the current one or past the term's end",
         ),
         Error::NewPositionNotAligned => put(b"the new position is not a multiple of 32"),
-        Error::UnsoundFrame => put(
-            b"the first frame has a length of 1 to 31 or ends past its term",
-        ),
         Error::AssemblyFull => put(
             b"begin frame of a 17th session, or fragments longer together than their part of the buffer",
         ),
+        Error::FrameTooShort(place) => at(b"the first frame has a length of 1 to 31", place),
+        Error::FramePastTerm(place) => at(b"the first frame runs past its term's end", place),
     }
 }

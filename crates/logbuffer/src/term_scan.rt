@@ -235,7 +235,10 @@ fn available_frames(
             }
             Frame::Unsound(found) => {
                 if available == 0 {
-                    return AvailabilityScanned::Refused(frame_descriptor::unsound_frame(found, at as u32));
+                    return AvailabilityScanned::Refused(frame_descriptor::unsound_frame(
+                        found,
+                        at as u32,
+                    ));
                 }
                 return outcome(available, padding);
             }

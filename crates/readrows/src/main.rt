@@ -1,5 +1,6 @@
 // The rows of document 01's table that calls on an image can give, each on its small input, and what a closed image, a peek and a block
-// answer. A line is a name, the refusal's number or 0, and the numbers answered; then the next position, and the first entries.
+// answer. A line is a name, the refusal's number or 0, and the numbers answered, or the place of a frame that is refused; then the next position, and
+// the first entries.
 use image::BlockReply;
 use image::Image;
 use image::ImageReply;
@@ -21,7 +22,11 @@ fn put(n: usize) {
 }
 
 fn refused(e: Error) {
-    put(cast::word(errors::number(e)));
+    let number = errors::number(e);
+    put(cast::word(number));
+    if number >= 22 {
+        put(errors::place(e) as usize);
+    }
 }
 
 fn position(i: Image) {
@@ -181,9 +186,28 @@ fn rows(log: &[u8]) {
     show_image(b"15 from 64 to 32:", later.set_position(rec, log, 32));
     show_image(b"16 from 64 to 72:", later.set_position(rec, log, 72));
     show_poll(
-        b"17 length 5:",
+        b"22 length 5:",
         Image::new(224, 11).poll(rec, log, &mut entries, 4),
         &entries,
+    );
+    show_poll(
+        b"23 past the term:",
+        Image::new(65504, 11).poll(rec, log, &mut entries, 4),
+        &entries,
+    );
+    show_poll(
+        b"22 three terms on:",
+        Image::new(196832, 11).poll(rec, log, &mut entries, 4),
+        &entries,
+    );
+    show_peek(
+        b"22 in a peek:",
+        Image::new(160, 11).controlled_peek(rec, log, &mut entries, b"\x04", 224, 65536),
+        &entries,
+    );
+    show_block(
+        b"22 in a block:",
+        Image::new(224, 11).block_poll(rec, log, 64),
     );
 }
 
@@ -266,6 +290,7 @@ fn main() {
     frame(&mut log, 128, 32, 192, 1);
     frame(&mut log, 160, 64, 192, 0);
     frame(&mut log, 224, 5, 192, 1);
+    frame(&mut log, 65504, 33, 192, 1);
     rows(&log);
     reads(&log);
     moves(&log);

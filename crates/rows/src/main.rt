@@ -133,7 +133,7 @@ fn last_terms() {
     );
 }
 
-// Row 13: an appender given another term id. Row 17: a frame of length 5.
+// Row 13: an appender given another term id. Rows 22 and 23, with the place: a frame of length 5, and one of 33 bytes in the last 32 of its term.
 fn leaves() {
     let mut log = [0u8; 196608];
     let message = [4u8; 8];
@@ -143,22 +143,28 @@ fn leaves() {
         b"append, given 8",
         term_appender::append_unfragmented_message(rec, &mut log, 0, &message, 0, 8),
     );
-    log[0] = 5;
-    print::scanned(b"scan", rec, term_scan::scan(rec, &log, 0, 0, 65536));
+    log[64] = 5;
+    log[65504] = 33;
+    print::scanned(b"scan", rec, term_scan::scan(rec, &log, 0, 64, 65536));
+    print::scanned(
+        b"scan past the term",
+        rec,
+        term_scan::scan(rec, &log, 0, 65504, 65536),
+    );
     print::term_read(
         b"read",
         rec,
-        term_reader::read(rec, &log, 0, 0, 4, &mut entries),
+        term_reader::read(rec, &log, 0, 64, 4, &mut entries),
     );
     print::gap_scanned(
         b"scan_for_gap",
         rec,
-        term_scan::scan_for_gap(rec, &log, 0, 7, 0, 64),
+        term_scan::scan_for_gap(rec, &log, 0, 7, 64, 128),
     );
     print::available(
         b"scan_for_availability",
         rec,
-        term_scan::scan_for_availability(rec, &log, 0, 0, 64),
+        term_scan::scan_for_availability(rec, &log, 0, 64, 64),
     );
 }
 

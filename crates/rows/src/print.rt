@@ -1,4 +1,4 @@
-// A line for an answer: its call, its number, its value, and the active term count of the record after it.
+// A line for an answer: its call, its number, its value, and the active term count of the record after it. The value of a frame that is refused is its place.
 use logbuffer::cast;
 use logbuffer::errors;
 use model::AppendReply;
@@ -28,7 +28,12 @@ fn line(name: &[u8], number: usize, value: usize, rec: LogRecord) {
 }
 
 fn refused(name: &[u8], e: Error, rec: LogRecord) {
-    line(name, cast::word(errors::number(e)), 0, rec);
+    line(
+        name,
+        cast::word(errors::number(e)),
+        errors::place(e) as usize,
+        rec,
+    );
 }
 
 pub fn offered(name: &[u8], reply: OfferReply) {

@@ -10,6 +10,7 @@ use image::Image;
 use image::ImageReply;
 use image::PeekReply;
 use image::PollReply;
+use logbuffer::errors;
 use model::BlockPolled;
 use model::EndOfStream;
 use model::Error;
@@ -39,8 +40,12 @@ fn with_image(a: i64, b: i64, c: i64, next: Image) -> Values {
 }
 
 fn refused(e: Error, next: Image) -> Values {
-    let first = values::refused(e);
-    with_image(first.row[0], 0, 0, next)
+    with_image(
+        values::wide(errors::number(e)),
+        errors::place(e) as i64,
+        0,
+        next,
+    )
 }
 
 fn polled(reply: PollReply) -> Values {

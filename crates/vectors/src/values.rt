@@ -102,8 +102,13 @@ pub fn result(v: Vector, input: &[u8], k: usize) -> i64 {
     decode::long(input, decode::place(v.results, k))
 }
 
+// The number; with 22 and 23 the place too.
 pub fn refused(e: Error) -> Values {
-    one(wide(errors::number(e)))
+    let number = errors::number(e);
+    if number < 22 {
+        return one(wide(number));
+    }
+    two(wide(number), errors::place(e) as i64)
 }
 
 pub fn done(answer: Outcome) -> Values {
