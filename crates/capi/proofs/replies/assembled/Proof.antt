@@ -25,6 +25,7 @@ assembled-spec =
     (search needs)
     (search needs)
     (search needs)
+    (search needs)
     returns
     returns-2
     returns-3

@@ -11,4 +11,4 @@ returns-2 c = search (needs, ← c .before .number .ensures, ← c .place .ensur
 
 pub block-polled-spec : {M : Type 1} → statement M
 block-polled-spec =
-    tie.close (tie.spec (search needs) (search needs) (search needs) (search needs) returns returns-2)
+    tie.close (tie.spec (search needs) (search needs) (search needs) (search needs) (search needs) returns returns-2)

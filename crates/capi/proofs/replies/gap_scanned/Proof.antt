@@ -21,6 +21,7 @@ gap-scanned-spec =
     (search needs)
     (search needs)
     (search needs)
+    (search needs)
     returns
     returns-2
     returns-3)

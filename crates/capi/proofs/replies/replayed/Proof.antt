@@ -25,6 +25,7 @@ replayed-spec =
     (search needs)
     (search needs)
     (search needs)
+    (search needs)
     returns
     returns-2
     returns-3
