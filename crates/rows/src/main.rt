@@ -133,16 +133,22 @@ fn last_terms() {
     );
 }
 
-// Row 13: an appender given another term id. Rows 22 and 23, with the place: a frame of length 5, and one of 33 bytes in the last 32 of its term.
+// Row 13: an appender given another term id.
 fn leaves() {
     let mut log = [0u8; 196608];
     let message = [4u8; 8];
-    let mut entries = [0i32; 8];
     let rec = fresh(&mut log);
     print::appended(
         b"append, given 8",
         term_appender::append_unfragmented_message(rec, &mut log, 0, &message, 0, 8),
     );
+}
+
+// Rows 22 and 23, with the place: a frame of length 5 at 64, and one of 33 bytes in the last 32 of its term.
+fn bad_frames() {
+    let mut log = [0u8; 196608];
+    let mut entries = [0i32; 8];
+    let rec = fresh(&mut log);
     log[64] = 5;
     log[65504] = 33;
     print::scanned(b"scan", rec, term_scan::scan(rec, &log, 0, 64, 65536));
@@ -156,15 +162,20 @@ fn leaves() {
         rec,
         term_reader::read(rec, &log, 0, 64, 4, &mut entries),
     );
+    bad_scans(rec, &log);
+}
+
+// The other two scans of the frame at 64.
+fn bad_scans(rec: LogRecord, log: &[u8]) {
     print::gap_scanned(
         b"scan_for_gap",
         rec,
-        term_scan::scan_for_gap(rec, &log, 0, 7, 64, 128),
+        term_scan::scan_for_gap(rec, log, 0, 7, 64, 128),
     );
     print::available(
         b"scan_for_availability",
         rec,
-        term_scan::scan_for_availability(rec, &log, 0, 64, 64),
+        term_scan::scan_for_availability(rec, log, 0, 64, 64),
     );
 }
 
@@ -174,4 +185,5 @@ fn main() {
     offers();
     last_terms();
     leaves();
+    bad_frames();
 }
