@@ -38,7 +38,7 @@ macro_rules! refusals {
         }
 
         impl Error {
-            /// Every refusal, by number; those of a frame at offset 0.
+            /// Every refusal; those of a frame come last, at offset 0.
             pub const ALL: [Error; 21] = [$(Error::$name,)* $(Error::$frame(Place { partition: None, offset: 0 })),*];
 
             /// The refusal's number: 1 to 18 without 17, which is retired, 21 for a card, 22 and 23 for a frame, 26 for the shelf.
