@@ -2,7 +2,7 @@
 use mathlib.Core.Path.{_≡_}
 use Prim.Native.Nat.{ℕ, _≤_, _<_}
 use mathlib.Core.Bool.{Bool}
-use mathlib.Core.List.{List}
+use mathlib.Core.List.{List, []}
 use lib.Count.{ones}
 use lib.IntN.{ℤ}
 use Rattle.model.specs.declared.Reading.{Reading}
@@ -43,6 +43,11 @@ abbrev pub pollUpTo : Reading → List ℕ → State → List ℤ → Bool → �
 pollUpTo v log i slots good bound limit acts =
     pollReply i slots (walkAt v log (long (i .position)) (endOffset v (long (i .position)) bound) limit acts)
     (pollVerdict v log i good (endOffset v (long (i .position)) bound) limit)
+
+-- a poll to the term's end, with no actions
+abbrev pub pollToTerm : Reading → List ℕ → State → List ℤ → Bool → ℕ → PollSaid
+pollToTerm v log i slots good limit =
+    pollReply i slots (walkAt v log (long (i .position)) (v .term) limit []) (pollVerdict v log i good (v .term) limit)
 
 -- what of a reply is worked out, before the image takes its position
 abbrev pub polledTo : PollSaid → PolledTo

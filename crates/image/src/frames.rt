@@ -1,13 +1,15 @@
-// The frames at a position of a log, and the one call behind poll, bounded_poll and controlled_poll.
+// The frames at a position of a log, the call behind poll, and the one behind bounded_poll and controlled_poll.
 ghost use mathlib.Core.Path.{_≡_};
 ghost use mathlib.Core.Bool.{cond, true};
+ghost use mathlib.Core.List.{[]};
 ghost use Prim.Native.Nat.{_%_, _≤_};
 ghost use lib.ListN.{length};
 ghost use Rattle.model.specs.declared.Verdict.the-variants.{Pass, Refuse};
 ghost use Rattle.model.specs.LogBufferDescriptor.{sound};
 ghost use Rattle.model.specs.TermReader.{goodEntries, goodHandler, framesBy, entriesBy};
 ghost use Rattle.model.specs.Image.{walkAt, unsoundAt, unsoundFrameOf};
-ghost use Rattle.image.specs.Images.{stateOf, polledTo, pollUpTo};
+ghost use Rattle.model.proofs.ReadLaws.{readFrom};
+ghost use Rattle.image.specs.Images.{stateOf, polledTo, pollUpTo, pollToTerm};
 use crate::Image;
 use crate::ladder;
 use crate::limits;
@@ -17,6 +19,7 @@ use model::FramesRead;
 use model::Polled;
 use model::ReadVerdict;
 use model::Reading;
+use model::TermRead;
 
 // Where a poll leaves the image's position, and its answer.
 pub struct PolledTo {
@@ -49,6 +52,62 @@ pub(crate) fn frames_at(
         actions,
         entries,
     )
+}
+
+// The same walk to the term's end, with no handler.
+fn frames_on(v: Reading, log: &[u8], entries: &mut [i32], p: usize, limit: usize) -> TermRead
+    requires { ⌜ (sound v (length (now log)) ≡ true) × ((p % 32 ≡ 0) × (goodEntries (length (now entries)) limit ≡ true)) ⌝ }
+    ensures { λ r. ⌜ r ≡ readFrom (p % v .term) (framesBy (walkAt v (now (log .entry)) p (v .term) limit []) (cond (unsoundAt v (now (log .entry)) p (v .term) limit) (Refuse (unsoundFrameOf v (now (log .entry)) p)) Pass)) ⌝ }
+    ensures { λ _. ⌜ now (entries .exit) ≡ entriesBy (now (entries .entry)) (walkAt v (now (log .entry)) p (v .term) limit []) (cond (unsoundAt v (now (log .entry)) p (v .term) limit) (Refuse (unsoundFrameOf v (now (log .entry)) p)) Pass) ⌝ }
+{
+    let term = v.term;
+    term_reader::read_term(
+        log,
+        limits::partition_of(term, p) * term,
+        term,
+        limits::offset_of(term, p),
+        limit,
+        entries,
+    )
+}
+
+// A poll with no limit position and no handler, on a path of its own: the call that is made most.
+pub(crate) fn poll_term(
+    image: Image,
+    v: Reading,
+    log: &[u8],
+    entries: &mut [i32],
+    good: bool,
+    limit: usize,
+) -> PolledTo
+    requires { ⌜ (good ≡ true → goodEntries (length (now entries)) limit ≡ true) ⌝ }
+    ensures { λ r. ⌜ r ≡ polledTo (pollToTerm v (now (log .entry)) (stateOf image) (now (entries .entry)) good limit) ⌝ }
+    ensures { λ _. ⌜ now (entries .exit) ≡ pollToTerm v (now (log .entry)) (stateOf image) (now (entries .entry)) good limit .slots ⌝ }
+{
+    match ladder::readable(good, v, log.len(), image) {
+        ReadVerdict::Refuse(e) => PolledTo {
+            position: image.position,
+            answer: Polled::Refused(e),
+        },
+        ReadVerdict::Closed => PolledTo {
+            position: image.position,
+            answer: Polled::Fragments(0, 0),
+        },
+        ReadVerdict::Read => {
+            let p = cast::long(image.position);
+            let read = frames_on(v, log, entries, p, limit);
+            let TermRead::Outcome(end, fragments) = read else {
+                return PolledTo {
+                    position: image.position,
+                    answer: Polled::Refused(term_reader::read_refusal(read)),
+                };
+            };
+            PolledTo {
+                position: (p - limits::offset_of(v.term, p) + end) as i64,
+                answer: Polled::Fragments(fragments, fragments),
+            }
+        }
+    }
 }
 
 // A poll: its limit position, its fragment limit, its actions, and whether its arguments are as row 1 asks.

@@ -1,6 +1,9 @@
 // An image: a reader's place in a log that is lent. A call takes the image by value, and hands the next one back beside its answer.
 ghost use mathlib.Core.Path.{_≡_};
+ghost use lib.IntN.{pos};
+ghost use lib.ListN.{getD};
 ghost use Rattle.model.specs.Image.{newImage, pollOf, boundedPollOf, controlledPollOf, setPositionOf, endOfStreamOf, closeImageOf, peekOf, peekSlots, blockPollOf};
+ghost use Rattle.model.specs.Replay.{pollOne};
 ghost use Rattle.image.specs.Images.{stateOf, imageOf, pollReplyOf, peekReplyOf, blockReplyOf, imageReplyOf};
 use logbuffer::argument;
 use logbuffer::cast;
@@ -32,6 +35,12 @@ pub struct Image {
 pub struct PollReply {
     pub next: Image,
     pub answer: Polled,
+}
+
+// A poll of one fragment, and the offset of its body.
+pub struct One {
+    pub polled: PollReply,
+    pub entry: i32,
 }
 
 pub struct PeekReply {
@@ -75,16 +84,7 @@ impl Image {
         let v = log_buffer_descriptor::read_active(rec);
         let limit = argument::natural(fragment_limit);
         let good = ladder::good_entries(entries.len(), limit);
-        let to = frames::poll_frames(
-            self,
-            v,
-            log,
-            entries,
-            good,
-            limits::NO_LIMIT,
-            limit,
-            &log[0..0],
-        );
+        let to = frames::poll_term(self, v, log, entries, good, limit);
         let position = to.position;
         let answer = to.answer;
         self.position = position;
@@ -93,7 +93,36 @@ impl Image {
             answer: answer,
         }
     }
-    // The same, and nothing at or past a limit position.
+
+    // A poll of one fragment, for a replay: on another path than `poll`, so that each has one caller and is built into it.
+    pub fn poll_one(mut self, rec: LogRecord, log: &[u8]) -> One
+        ensures { λ r. ⌜ (r .polled ≡ pollReplyOf (pollOne rec (now (log .entry)) (stateOf self))) × (r .entry ≡ getD (pollOne rec (now (log .entry)) (stateOf self) .slots) 0 (pos 0)) ⌝ }
+    {
+        let v = log_buffer_descriptor::read_active(rec);
+        let mut entries: [i32; 2] = [0; 2];
+        let to = frames::poll_frames(
+            self,
+            v,
+            log,
+            &mut entries,
+            true,
+            limits::NO_LIMIT,
+            1,
+            &log[0..0],
+        );
+        let position = to.position;
+        let answer = to.answer;
+        self.position = position;
+        One {
+            polled: PollReply {
+                next: self,
+                answer: answer,
+            },
+            entry: entries[0],
+        }
+    }
+
+    // The same, and no frame that begins at or past a limit position; one that begins before it may end past it.
     pub fn bounded_poll(
         mut self,
         rec: LogRecord,

@@ -6,7 +6,7 @@ use mathlib.Core.List.{List, [], _∷_}
 use Prim.Native.Nat.{ℕ, _+_, _-_, _*_, _/_, _%_, _≤_, _<_}
 use native.Mathlib.Nat.{mul-le-mul-right}
 use native.Mathlib.Omega.{arith}
-use borrow.Author.Tests.{le-leb, lt-leb, leb-true, leb-false, ltb-false}
+use borrow.Author.Tests.{le-leb, lt-leb, leb-true, leb-false, ltb-false, eq-eqb}
 use lib.Dec.{eqb, leb, ltb}
 use lib.ListN.{length, take, drop, getD}
 use lib.Seq.{drop-drop, getD-drop}
@@ -29,21 +29,53 @@ use types.Run.{OneOf}
 use denote.Enum.Declared.{tagOf}
 use Rattle.model.proofs.FrameLength.{the-type}
 use Rattle.logbuffer.proofs.Lengths.{unfinished}
-use Rattle.model.proofs.Choice.{cond-true, cond-case}
+use Rattle.model.proofs.Choice.{cond-true, cond-false, cond-case}
 use Rattle.model.proofs.ReaderLaws.{and-not, and-then}
-use Rattle.model.proofs.Both.{and-true, or-false, test}
+use Rattle.model.proofs.Both.{and-true, both-true, or-false, test}
+use Rattle.model.proofs.FrameLaws.{finished-word}
 use Rattle.model.proofs.PlaceLaws.{and-and, placed}
 use Rattle.model.proofs.Rows.{rows-refuse, rows-pass, rows-then, rows-passed}
+use Rattle.logbuffer.specs.Assembler.{heldAt, leaving, Framed, isFramed, Enters, joinOf}
+use Rattle.logbuffer.specs.declared.fragment_assembler.Joined.{Joined}
+use Rattle.model.specs.declared.Error.the-variants.{IllegalArgument}
+use Rattle.model.specs.declared.Assembled.the-variants.{Refused as NotJoined}
 use Rattle.logbuffer.proofs.Sessions.{Begun, More}
 
--- a whole frame at an index of a log: its length word, and the bytes that it tells
-pub record Framed (log : List ℕ) (at : ℕ) : Type 0 where
-  pub finished : isFinished (lengthAt (drop at log)) ≡ true
-  pub header : 32 ≤ u32 (drop at log)
-  pub whole : at + u32 (drop at log) ≤ length log
+both : {a b x : Bool} → a ≡ true → b ≡ x → (a && b) ≡ x
+both e f = ap₂ _&&_ e f
 
 no-pass : {e : Error} → Pass ≡ Refuse e → ⊥
 no-pass h = let x : _≡_ {A = ℕ} 0 1 = cc in omega arith
+
+-- ---- a whole frame, as the core asks for it
+
+module _ (log : List ℕ) (at : ℕ) (x : FrameLength) (e : x ≡ lengthAt (drop at log)) where
+  pub framed-unfinished : OneOf (0 ∷ 1 ∷ []) (tagOf the-type x) → false ≡ isFramed log at
+  framed-unfinished o = ap (λ (b : Bool). b && (leb 32 (u32 (drop at log)) && leb (at + u32 (drop at log)) (length log))) (sym (unfinished x o) ∙ ap isFinished e)
+
+  module _ (n : ℕ) (q : x ≡ Finished n) where
+    size : n ≡ u32 (drop at log)
+    size = finished-word (u32 (drop at log)) n (sym e ∙ q) .0
+
+    finished : isFinished (lengthAt (drop at log)) ≡ true
+    finished = ap isFinished (sym e ∙ q)
+
+    pub framed-short : n < 32 → false ≡ isFramed log at
+    framed-short h = sym (both finished (ap (λ (b : Bool). b && leb (at + u32 (drop at log)) (length log)) (lt-leb 32 (u32 (drop at log)) (omega (arith, size)))))
+
+    pub framed-by : 32 ≤ n → leb (at + n) (length log) ≡ isFramed log at
+    framed-by h =
+        ap (λ (m : ℕ). leb (at + m) (length log)) size
+        ∙ sym (both finished (ap (λ (b : Bool). b && leb (at + u32 (drop at log)) (length log)) (le-leb 32 (u32 (drop at log)) (omega (arith, size)))))
+
+pub framed-true : (log : List ℕ) (at : ℕ) → isFramed log at ≡ true → Framed log at
+framed-true log at h =
+    let a = and-true (isFinished (lengthAt (drop at log))) _ h in
+    let b = and-true (leb 32 (u32 (drop at log))) _ (a .1) in
+    record { finished = a .0; header = leb-true _ _ (b .0); whole = leb-true _ _ (b .1) }
+
+pub framed-so : (log : List ℕ) (at : ℕ) → Framed log at → isFramed log at ≡ true
+framed-so log at f = both-true (f .finished) (both-true (le-leb _ _ (f .header)) (le-leb _ _ (f .whole)))
 
 -- ---- row 1
 
@@ -180,6 +212,36 @@ module _ (s : Sessions) (buffer log : List ℕ) (place at w flags : ℕ) (z : �
 
       ff : flags ≡ flagsAt (drop place log)
       ff = ef ∙ sym (getD-drop place log 5 0)
+
+-- ---- the core over lent arrays
+
+module _ (s : Sessions) (buffer log : List ℕ) (i at : ℕ) where
+  abbrev pub Joins : Bool
+  Joins = isFramed log i && (leb at 4294967295 && eqb (length (s .ids)) 16)
+
+  abbrev pub NoJoin : Assembly
+  NoJoin = record { answer = NotJoined IllegalArgument; next = s; buffer = buffer }
+
+  pub join-no : Joins ≡ false → NoJoin ≡ joinOf s buffer log i at
+  unfolding joinOf
+  join-no h = sym (cond-false Joins (joinedAt s buffer (drop i log) at) NoJoin h)
+
+  pub join-yes : Framed log i → at ≤ 4294967295 → length (s .ids) ≡ 16 → joinedAt s buffer (drop i log) at ≡ joinOf s buffer log i at
+  unfolding joinOf
+  join-yes f h e = sym (cond-true Joins (joinedAt s buffer (drop i log) at) NoJoin (both-true (framed-so log i f) (both-true (le-leb _ _ h) (eq-eqb _ _ e))))
+
+  -- where the core refuses, its caller enters nothing
+  pub not-joined : (j : Joined) (z : ℤ) → Joins ≡ false → j ≡ leaving 16 z 0 (NotJoined IllegalArgument) → Enters s j (joinOf s buffer log i at)
+  not-joined j z h e =
+      let q = join-no h in
+      record {
+        answers = ap (λ (y : Joined). y .answer) e ∙ ap (λ (y : Assembly). y .answer) q;
+        leaves = ap (λ (y : Joined). heldAt s (y .place) (y .session) (y .held)) e ∙ ap (λ (y : Assembly). y .next) q;
+      }
+
+  -- the same by another name for the assembly
+  pub enters-as : (j : Joined) (a b : Assembly) → Enters s j a → a ≡ b → Enters s j b
+  enters-as j a b h e = record { answers = h .answers ∙ ap (λ (y : Assembly). y .answer) e; leaves = h .leaves ∙ ap (λ (y : Assembly). y .next) e }
 
 -- ---- the whole call, at the place that its code reads
 

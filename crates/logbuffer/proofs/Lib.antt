@@ -16,4 +16,5 @@ pub mod Past
 pub mod HeaderLaws
 pub mod Claims
 pub mod Sessions
+pub mod TermWalk
 pub mod Ways

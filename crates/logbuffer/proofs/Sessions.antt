@@ -1,7 +1,7 @@
 -- The assembler's bookkeeping: looking for a session's place, and a part of the lent buffer lies in it.
 use mathlib.Core.Path.{_≡_, sym, ap, ap₂, _∙_}
 use mathlib.Core.Bool.{Bool, true, false, cond, _&&_, _||_}
-use Prim.Native.Nat.{ℕ, suc, _+_, _-_, _*_, _/_, _≤_, _<_}
+use Prim.Native.Nat.{ℕ, suc, _+_, _-_, _*_, _/_, _≤_, _<_, min}
 use native.Mathlib.Nat.{mul-le-mul-right}
 use native.Mathlib.Numerals.{add-one}
 use mathlib.Core.List.{List, _∷_}
@@ -18,7 +18,7 @@ use Rattle.model.specs.declared.Joining.the-variants.{Through, Ignore, Full, To
 use Rattle.model.specs.FragmentAssembler.{Sessions, entered, placeIn, placeOf, holding, joining}
 use Rattle.model.proofs.Choice.{cond-true, cond-false, split}
 use Rattle.model.proofs.Both.{both-true}
-use Rattle.logbuffer.specs.Assembler.{heldAt}
+use Rattle.logbuffer.specs.Assembler.{enteredWith, heldAt}
 
 -- part k of 16 lies in the buffer
 pub part-in : (k part n : ℕ) → part ≡ n / 16 → k < 16 → k * part + part ≤ n
@@ -59,21 +59,25 @@ left-none ids n z i h r =
 
 -- ---- a session entered at a place
 
-module _ (m n k : ℕ) (e : m ≡ n) where
-  pub entered-before : k < m → m ≡ cond (ltb k n) n (k + 1)
-  entered-before h = e ∙ sym (cond-true (ltb k n) n (k + 1) (lt-ltb k n (omega arith)))
+module _ (m count k : ℕ) (e : m ≡ min count 16) where
+  pub entered-before : k < m → m ≡ enteredWith count k
+  entered-before h = e ∙ sym (cond-true (ltb k (min count 16)) _ _ (lt-ltb k (min count 16) (omega arith)))
 
-  pub entered-new : m ≤ k → k + 1 ≡ cond (ltb k n) n (k + 1)
-  entered-new h = sym (cond-false (ltb k n) n (k + 1) (le-ltb k n (omega arith)))
+  pub entered-new : m ≤ k → k < 16 → k + 1 ≡ enteredWith count k
+  entered-new h l = sym (cond-false (ltb k (min count 16)) _ _ (le-ltb k (min count 16) (omega arith)) ∙ cond-true (ltb k 16) _ _ (lt-ltb k 16 l))
+
+  pub entered-none : m ≤ k → 16 ≤ k → m ≡ enteredWith count k
+  entered-none h l = e ∙ sym (cond-false (ltb k (min count 16)) _ _ (le-ltb k (min count 16) (omega arith)) ∙ cond-false (ltb k 16) _ _ (le-ltb k 16 l))
 
 pub held-in : (s : Sessions) (k : ℕ) (z : ℤ) (n : ℕ) → k < 16 → heldAt s k z n ≡ holding s k z n
 held-in s k z n h = cond-true (ltb k 16) (holding s k z n) s (lt-ltb k 16 h)
 
-pub held-by : (s : Sessions) (k : ℕ) (z : ℤ) (n m : ℕ) → k < 16 → m ≡ cond (ltb k (entered s)) (entered s) (k + 1)
+pub held-by : (s : Sessions) (k : ℕ) (z : ℤ) (n m : ℕ) → k < 16 → m ≡ enteredWith (s .count) k
     → _≡_ {A = Sessions} (record { count = m; ids = set (s .ids) k z; held = set (s .held) k n }) (heldAt s k z n)
 unfolding holding
 held-by s k z n m h e =
-    ap {B = Sessions} (λ (c : ℕ). record { count = c; ids = set (s .ids) k z; held = set (s .held) k n }) (e ∙ ap (λ (x : ℕ). cond (ltb k (entered s)) (entered s) x) (add-one k))
+    let o : cond (ltb k 16) (k + 1) (entered s) ≡ suc k = cond-true (ltb k 16) (k + 1) (entered s) (lt-ltb k 16 h) ∙ add-one k in
+    ap {B = Sessions} (λ (c : ℕ). record { count = c; ids = set (s .ids) k z; held = set (s .held) k n }) (e ∙ ap (λ (x : ℕ). cond (ltb k (entered s)) (entered s) x) o)
     ∙ sym (held-in s k z n h)
 
 pub held-none : (s : Sessions) (k : ℕ) (z : ℤ) (n : ℕ) → 16 ≤ k → s ≡ heldAt s k z n

@@ -34,7 +34,7 @@ use Rattle.model.proofs.Cut.{need-one, cut-one}
 use Rattle.model.proofs.Sound.{id-small}
 use Rattle.model.proofs.Append.{Room, course-room, message-true, appendReply, appendBytes}
 use Rattle.logbuffer.specs.declared.way.Way.{Way}
-use Rattle.logbuffer.specs.Ways.{noWay, wayTo, wayBy, goodAppend, courseOf, goodClaiming, claimCourse, tailAt, movedWith, replyWith, claimReplyWith, messageReply, messageBytes, fragmentLimit, claimBits}
+use Rattle.logbuffer.specs.Ways.{noWay, wayTo, wayBy, goodAppend, courseOf, goodClaiming, claimCourse, tailAt, movedWith, replyWith, claimReplyWith, messageReply, messageBytes, fragmentLimit, appendWay, appendWayBytes, oneWayBytes, claimWay, claimBits}
 
 -- ---- what a caller makes of a way
 
@@ -149,6 +149,13 @@ pub claim-way-is : (v : Reading) (k n g : ℕ) (log out : List ℕ) (x : Course)
     → (w ≡ wayBy v (space n) (claimCourse v (length log) k n g)) × (out ≡ bytesBy v k log (claimed v log (k * v .term) n) (claimCourse v (length log) k n g))
 claim-way-is v k n g log out x w ec ex ew eo = (cc, cc)
 
+-- a message as one frame
+pub one-way-is : (v : Reading) (k g z z′ : ℕ) (log out m : List ℕ) (x : Course) (w : Way) → claimCourse v (length log) k (length m) g ≡ course v (length log) (space (length m)) g
+    → z ≡ z′ → x ≡ course v (length log) (space (length m)) g → w ≡ wayBy v (space (length m)) x
+    → out ≡ bytesBy v k log (written v log (k * v .term) (v .offset) (fragment 192 z m ∷ [])) (course v (length log) (space (length m)) g)
+    → (w ≡ claimWay v log k (length m) g) × (out ≡ oneWayBytes v log k m z′ g)
+one-way-is v k g z z′ log out m x w ec ez ex ew eo = (cc, cc)
+
 -- a message by the record, whose numbers were read
 pub message-by : (r : LogRecord) (log out m : List ℕ) (v : Reading) (k p g g′ z z′ : ℕ) (w : Way) (reply : AppendReply) → v ≡ readingOf r k → g ≡ g′ → z ≡ z′
     → w ≡ wayBy v (need p (length m)) (courseOf v (length log) k p (length m) g)
@@ -167,6 +174,19 @@ message-good r log m k p z g hk low high multiple short =
     let v = readingOf r k in
     let e = course-good v (length log) k p (length m) g (simp (le-leb _ _ hk, le-leb _ _ short, le-leb _ _ low, le-leb _ _ high, eq-eqb _ _ multiple, lt-ltb _ _ (id-small r k))) in
     (ap (replyBy r v k (need p (length m))) e, ap (bytesBy v k log (written v log (k * v .term) (v .offset) (cut p z m))) e)
+
+-- a message that one frame holds goes the same way by either call
+pub one-is : (v : Reading) (k p g z : ℕ) (log m : List ℕ) → k ≤ 2 → v .id < 4294967296 → 32 ≤ p → p ≤ 2147483648 → p % 32 ≡ 0 → length m ≤ p → length m ≤ 2147483647
+    → (claimWay v log k (length m) g ≡ appendWay v log k p m g) × (oneWayBytes v log k m z g ≡ appendWayBytes v log k p m z g)
+one-is v k p g z log m hk hid low high multiple one short =
+    let n = length log in
+    let few : goodClaiming v k (length m) ≡ true = simp (le-leb _ _ hk, le-leb _ _ short, lt-ltb _ _ hid) in
+    let many : goodAppend v k p (length m) ≡ true = simp (le-leb _ _ hk, le-leb _ _ short, le-leb _ _ low, le-leb _ _ high, eq-eqb _ _ multiple, lt-ltb _ _ hid) in
+    let e = claim-good v n k (length m) g few in
+    let f = course-good v n k p (length m) g many in
+    let o = need-one p (length m) one in
+    let q = cut-one p z m one in
+    (cc, cc)
 
 -- a claim by the record, whose numbers were read
 claim-room : (v : Reading) (n k m g : ℕ) → Room v (space m) (claimCourse v n k m g)

@@ -2,3 +2,4 @@
 pub mod Lent
 pub mod Assembler
 pub mod Ways
+pub mod Reads

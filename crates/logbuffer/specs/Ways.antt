@@ -4,7 +4,7 @@
 use Prim.Native.Nat.{ℕ, _+_, _*_, _%_}
 use mathlib.Core.Bool.{Bool, cond, _&&_}
 use lib.Dec.{eqb, leb, ltb}
-use mathlib.Core.List.{List}
+use mathlib.Core.List.{List, [], _∷_}
 use lib.ListN.{set, length}
 use lib.IntN.{pos}
 use mir.Syntax.{w32}
@@ -24,7 +24,7 @@ use Rattle.model.specs.declared.AppendedClaim.the-variants.{Claimed, Tripped as
 use Rattle.model.specs.declared.AppendClaimReply.{AppendClaimReply}
 use Rattle.model.specs.FrameDescriptor.{space}
 use Rattle.model.specs.LogBufferDescriptor.{biased, readingOf, rawOf, changed}
-use Rattle.model.specs.TermAppender.{cut, need, written, claimed, course, bytesBy, replyBy, goodMessage}
+use Rattle.model.specs.TermAppender.{cut, need, fragment, written, claimed, course, bytesBy, replyBy, goodMessage}
 use Rattle.logbuffer.specs.declared.way.Way.{Way}
 
 -- on every course but a refusal the tail moves
@@ -63,6 +63,11 @@ appendWay v log k payload m given = wayBy v (need payload (length m)) (courseOf 
 abbrev pub appendWayBytes : Reading → List ℕ → ℕ → ℕ → List ℕ → ℕ → ℕ → List ℕ
 appendWayBytes v log k payload m reserved given =
     bytesBy v k log (written v log (k * v .term) (v .offset) (cut payload reserved m)) (courseOf v (length log) k payload (length m) given)
+
+-- a message as one frame goes the way of a claim of its length, and leaves the frame
+abbrev pub oneWayBytes : Reading → List ℕ → ℕ → List ℕ → ℕ → ℕ → List ℕ
+oneWayBytes v log k m reserved given =
+    bytesBy v k log (written v log (k * v .term) (v .offset) (fragment 192 reserved m ∷ [])) (claimCourse v (length log) k (length m) given)
 
 abbrev pub claimWay : Reading → List ℕ → ℕ → ℕ → ℕ → Way
 claimWay v log k n given = wayBy v (space n) (claimCourse v (length log) k n given)

@@ -3,13 +3,13 @@
 ghost use mathlib.Core.Path.{_≡_};
 ghost use mathlib.Core.Bool.{true, cond, _||_};
 ghost use lib.Dec.{eqb, leb, ltb};
-ghost use Prim.Native.Nat.{_+_, _-_, _*_, _/_, _≤_, _<_};
-ghost use lib.ListN.{length, drop, getD};
+ghost use Prim.Native.Nat.{_+_, _-_, _*_, _/_, _≤_, _<_, min};
+ghost use lib.ListN.{length, take, drop, getD};
 ghost use Rattle.model.specs.declared.Joining.the-variants.{Through, Ignore, Full, TooLong, Join, Complete};
 ghost use Rattle.model.specs.Bytes.{word, u32 as wordAt};
 ghost use Rattle.model.specs.FrameDescriptor.{isFinished, lengthAt, unsoundLength};
-ghost use Rattle.model.specs.FragmentAssembler.{fresh, entered as enteredOf, placeOf, joining as joiningOf, goodFrame, goodAssembly, assembleVerdict, assembleOf, joinedAt};
-ghost use Rattle.logbuffer.specs.Assembler.{sessionsOf, heldAt, leaving};
+ghost use Rattle.model.specs.FragmentAssembler.{fresh, placeIn, joining as joiningOf, goodFrame, goodAssembly, assembleVerdict, assembleOf, joinedAt};
+ghost use Rattle.logbuffer.specs.Assembler.{sessionsOf, sessionsAs, enteredWith, Framed, isFramed, Enters, joinOf, leaving};
 use crate::argument;
 use crate::buffer_builder;
 use crate::cast;
@@ -43,13 +43,13 @@ pub struct AssemblyReply {
     pub answer: Assembled,
 }
 
-// What a frame leaves: the place whose session it enters, that session and the bytes that it then holds, and the answer. No session has
+// What a frame leads to: the place whose session it enters, that session and the bytes that it then holds, and the answer. No session has
 // place 16.
-struct Joined {
-    place: usize,
-    session: i32,
-    held: usize,
-    answer: Assembled,
+pub struct Joined {
+    pub place: usize,
+    pub session: i32,
+    pub held: usize,
+    pub answer: Assembled,
 }
 
 impl FragmentAssembler {
@@ -63,39 +63,41 @@ impl FragmentAssembler {
             held: [0; 16],
         }
     }
+}
 
-    // A count over 16 is taken as 16.
-    fn entered(self) -> usize
-        ensures { λ r. ⌜ (r ≡ enteredOf (sessionsOf self)) × (r ≤ 16) ⌝ }
-    {
-        let n = self.count;
-        if n < 16 { n } else { 16 }
-    }
+// ---- the sessions, as they are lent: how many are entered, their ids, and how many bytes each holds
 
-    // The session's place among those entered, or the place after them.
-    fn place(self, session: i32) -> usize
-        ensures { λ r. ⌜ (r ≡ placeOf (sessionsOf self) session) × (r ≤ 16) ⌝ }
-    {
-        let n = self.entered();
-        let ids = self.ids;
-        let mut i: usize = 0;
-        while i < n {
-            if ids[i] == session {
-                break;
-            }
-            i = i + 1;
+// A count over 16 is taken as 16.
+fn entered(count: usize) -> usize
+    ensures { λ r. ⌜ (r ≡ min count 16) × (r ≤ 16) ⌝ }
+{
+    if count < 16 { count } else { 16 }
+}
+
+// The session's place among the first n ids, or the place after them.
+fn place_in(ids: &[i32], n: usize, session: i32) -> usize
+    requires { ⌜ n ≤ length (now ids) ⌝ }
+    ensures { λ r. ⌜ (r ≡ placeIn (take n (now (ids .entry))) session) × (r ≤ n) ⌝ }
+{
+    let mut i: usize = 0;
+    while i < n {
+        if ids[i] == session {
+            break;
         }
-        i
+        i = i + 1;
     }
+    i
+}
 
-    // How many are entered once place k is.
-    fn entered_with(self, k: usize) -> usize
-        requires { ⌜ k < 16 ⌝ }
-        ensures { λ r. ⌜ r ≡ cond (ltb k (enteredOf (sessionsOf self))) (enteredOf (sessionsOf self)) (k + 1) ⌝ }
-    {
-        let n = self.entered();
-        if k < n { n } else { k + 1 }
+// How many are entered once place k is.
+pub fn entered_with(count: usize, place: usize) -> usize
+    ensures { λ r. ⌜ r ≡ enteredWith count place ⌝ }
+{
+    let n = entered(count);
+    if place < n {
+        return n;
     }
+    if place < 16 { place + 1 } else { n }
 }
 
 // More than a part has room for: held + n > part, without a sum that could wrap.
@@ -141,26 +143,36 @@ fn continued(k: usize, entered: usize, from: usize, n: usize, part: usize, ends:
 }
 
 // How many bytes the session at a place holds; 0 past the last place.
-fn held_at(a: FragmentAssembler, k: usize) -> usize
-    ensures { λ r. ⌜ r ≡ getD (a .held) k 0 ⌝ }
+fn held_at(held: &[usize], k: usize) -> usize
+    ensures { λ r. ⌜ r ≡ getD (now (held .entry)) k 0 ⌝ }
 {
-    if k < 16 { a.held[k] } else { 0 }
+    if k < held.len() { held[k] } else { 0 }
 }
 
 // What is done with a frame of a body of n bytes.
-fn joining(a: FragmentAssembler, session: i32, flags: usize, n: usize, part: usize) -> Joining
-    ensures { λ r. ⌜ r ≡ joiningOf (sessionsOf a) session flags n part ⌝ }
+fn joining(
+    count: usize,
+    ids: &[i32],
+    held: &[usize],
+    session: i32,
+    flags: usize,
+    n: usize,
+    part: usize,
+) -> Joining
+    requires { ⌜ length (now ids) ≡ 16 ⌝ }
+    ensures { λ r. ⌜ r ≡ joiningOf (sessionsAs count (now (ids .entry)) (now (held .entry))) session flags n part ⌝ }
 {
     let begins = flags / BEGIN_FRAG % 2 == 1;
     let ends = flags / END_FRAG % 2 == 1;
+    let known = entered(count);
     if begins {
         if ends {
             return Joining::Through;
         }
-        return begun(a.place(session), n, part);
+        return begun(place_in(ids, known, session), n, part);
     }
-    let k = a.place(session);
-    continued(k, a.entered(), held_at(a, k), n, part, ends)
+    let k = place_in(ids, known, session);
+    continued(k, known, held_at(held, k), n, part, ends)
 }
 
 // ---- the entry point
@@ -237,21 +249,23 @@ fn holding(place: usize, session: i32, held: usize, answer: Assembled) -> Joined
 
 // The whole frame at an index, joined: `at` is its offset in the term.
 fn join_frame(
-    a: FragmentAssembler,
+    count: usize,
+    ids: &[i32],
+    held: &[usize],
     log: &[u8],
     buffer: &mut [u8],
     place: usize,
     at: usize,
 ) -> Joined
-    requires { ⌜ (at < 4294967296) × ((isFinished (lengthAt (drop place (now log))) ≡ true) × ((32 ≤ wordAt (drop place (now log))) × (place + wordAt (drop place (now log)) ≤ length (now log)))) ⌝ }
-    ensures { λ r. ⌜ (r .answer ≡ joinedAt (sessionsOf a) (now (buffer .entry)) (drop place (now (log .entry))) at .answer) × (heldAt (sessionsOf a) (r .place) (r .session) (r .held) ≡ joinedAt (sessionsOf a) (now (buffer .entry)) (drop place (now (log .entry))) at .next) ⌝ }
-    ensures { λ _. ⌜ now (buffer .exit) ≡ joinedAt (sessionsOf a) (now (buffer .entry)) (drop place (now (log .entry))) at .buffer ⌝ }
+    requires { ⌜ (at < 4294967296) × (Framed (now log) place × (length (now ids) ≡ 16)) ⌝ }
+    ensures { λ r. ⌜ Enters (sessionsAs count (now (ids .entry)) (now (held .entry))) r (joinedAt (sessionsAs count (now (ids .entry)) (now (held .entry))) (now (buffer .entry)) (drop place (now (log .entry))) at) ⌝ }
+    ensures { λ _. ⌜ now (buffer .exit) ≡ joinedAt (sessionsAs count (now (ids .entry)) (now (held .entry))) (now (buffer .entry)) (drop place (now (log .entry))) at .buffer ⌝ }
 {
     let n = frame_descriptor::finished_length(log, place) - HEADER_LENGTH;
     let session = cast::to_i32(field::word4(log, place + SESSION_ID_FIELD_OFFSET));
     let flags = field::byte(log, place + FLAGS_FIELD_OFFSET);
     let part = buffer.len() / 16;
-    match joining(a, session, flags, n, part) {
+    match joining(count, ids, held, session, flags, n, part) {
         Joining::Through => holding(16, session, 0, Assembled::Fragment(at + HEADER_LENGTH, n)),
         Joining::Ignore => holding(16, session, 0, Assembled::Nothing),
         Joining::Full => holding(16, session, 0, Assembled::Refused(Error::AssemblyFull)),
@@ -265,6 +279,49 @@ fn join_frame(
             holding(k, session, 0, Assembled::Message(k * part, from + n))
         }
     }
+}
+
+// Whether a finished frame lies whole at an index of the log.
+fn is_whole(log: &[u8], index: usize) -> bool
+    ensures { λ r. ⌜ r ≡ isFramed (now (log .entry)) index ⌝ }
+{
+    let FrameLength::Finished(n) = frame_descriptor::length_at(log, index) else {
+        return false;
+    };
+    if n < HEADER_LENGTH {
+        return false;
+    }
+    let size = log.len();
+    if index > size {
+        return false;
+    }
+    n <= size - index
+}
+
+// The frame at an index of the log, for a caller who keeps the sessions and enters what is answered, if it is not refused; `offset` is the
+// frame's place in its term. 1 where the ids are not 16, no frame lies whole at the index, or the offset is over 32 bits.
+pub fn join(
+    count: usize,
+    ids: &[i32],
+    held: &[usize],
+    log: &[u8],
+    buffer: &mut [u8],
+    index: usize,
+    offset: usize,
+) -> Joined
+    ensures { λ r. ⌜ Enters (sessionsAs count (now (ids .entry)) (now (held .entry))) r (joinOf (sessionsAs count (now (ids .entry)) (now (held .entry))) (now (buffer .entry)) (now (log .entry)) index offset) ⌝ }
+    ensures { λ _. ⌜ now (buffer .exit) ≡ joinOf (sessionsAs count (now (ids .entry)) (now (held .entry))) (now (buffer .entry)) (now (log .entry)) index offset .buffer ⌝ }
+{
+    if !is_whole(log, index) {
+        return holding(16, 0, 0, Assembled::Refused(Error::IllegalArgument));
+    }
+    if offset > 4294967295 {
+        return holding(16, 0, 0, Assembled::Refused(Error::IllegalArgument));
+    }
+    if ids.len() != 16 {
+        return holding(16, 0, 0, Assembled::Refused(Error::IllegalArgument));
+    }
+    join_frame(count, ids, held, log, buffer, index, offset)
 }
 
 impl FragmentAssembler {
@@ -290,12 +347,14 @@ impl FragmentAssembler {
             },
             Verdict::Pass => {
                 let index = p.partition * p.read.term + p.offset;
-                let joined = join_frame(self, log, buffer, index, p.offset);
+                let ids = self.ids;
+                let held = self.held;
+                let joined = join(self.count, &ids, &held, log, buffer, index, p.offset);
                 let answer = joined.answer;
                 let k = joined.place;
                 let session = joined.session;
                 if k < 16 {
-                    self.count = self.entered_with(k);
+                    self.count = entered_with(self.count, k);
                     self.ids[k] = session;
                     self.held[k] = joined.held;
                 }

@@ -198,3 +198,10 @@ pub(crate) fn ends_message(log: &[u8], at: usize) -> bool
     let flags = field::byte(log, at + FLAGS_FIELD_OFFSET);
     flags / END_FRAG % 2 == 1
 }
+
+// The flags of the frame at an index; 0 past the log's end.
+pub fn flags_at(log: &[u8], at: usize) -> usize
+    ensures { λ r. ⌜ r ≡ flagsAt (drop at (now (log .entry))) ⌝ }
+{
+    byte_behind(log, at, FLAGS_FIELD_OFFSET)
+}

@@ -79,15 +79,20 @@ pub fn compute_position(term_id: i32, offset: u32, bits: u32, initial: i32) -> P
 
 // ---- the record, read
 
-// The raw tail of a partition; 0 where there is none.
+// The raw tail of a partition; 0 where there is none. Every index is a constant, so that the tails need not stand in memory.
 fn tail(rec: LogRecord, partition: usize) -> i64
     ensures { λ r. ⌜ r ≡ tailOf rec partition ⌝ }
 {
-    if partition < 3 {
-        rec.tails[partition]
-    } else {
-        0
+    if partition == 0 {
+        return rec.tails[0];
     }
+    if partition == 1 {
+        return rec.tails[1];
+    }
+    if partition == 2 {
+        return rec.tails[2];
+    }
+    0
 }
 
 // The record's numbers without signs, with the tail of a partition.

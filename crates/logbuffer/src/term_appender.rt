@@ -1,18 +1,20 @@
 // The appenders: a message into one partition of the log, as one frame or as many, and a claim of a frame to be written later.
 ghost use mathlib.Core.Path.{_≡_};
 ghost use Prim.Native.Nat.{_+_, _*_, _%_, _≤_, _<_};
+ghost use mathlib.Core.List.{[], _∷_};
 ghost use lib.ListN.{length};
 ghost use Rattle.model.specs.Bytes.{word, long};
 ghost use Rattle.model.specs.FrameDescriptor.{space};
 ghost use Rattle.model.specs.LogBufferDescriptor.{biased};
-ghost use Rattle.model.specs.TermAppender.{cut, need, written, claimed, course, bytesBy, goodMessage, unfragmentedReply, unfragmentedBytes, fragmentedReply, fragmentedBytes, claimAppendReply, claimAppendBytes};
-ghost use Rattle.logbuffer.specs.Ways.{goodAppend, goodClaiming, messageReply, messageBytes, fragmentLimit, claimBits, appendWay, appendWayBytes, claimWay, claimWayBytes};
+ghost use Rattle.model.specs.TermAppender.{cut, need, fragment, written, claimed, course, bytesBy, goodMessage, unfragmentedReply, unfragmentedBytes, fragmentedReply, fragmentedBytes, claimAppendReply, claimAppendBytes};
+ghost use Rattle.logbuffer.specs.Ways.{goodAppend, goodClaiming, messageReply, messageBytes, fragmentLimit, claimBits, appendWay, appendWayBytes, oneWayBytes, claimWay, claimWayBytes};
 use crate::cast;
 use crate::data_frame_header::HEADER_LENGTH;
 use crate::frame_descriptor::ALIGNMENT_MASK;
 use crate::frame_descriptor::BEGIN_FRAG;
 use crate::frame_descriptor::END_FRAG;
 use crate::frame_descriptor::FRAME_ALIGNMENT;
+use crate::frame_descriptor::UNFRAGMENTED;
 use crate::header;
 use crate::log_buffer_descriptor;
 use crate::way;
@@ -221,7 +223,68 @@ pub fn append_way(
     way::way_by(numbers, needed, course)
 }
 
-// The same for one who has not.
+// The way that a message as one frame goes, and what it leaves in the log.
+fn one_frame(
+    v: Reading,
+    log: &mut [u8],
+    k: usize,
+    message: &[u8],
+    reserved: usize,
+    given: usize,
+) -> Course
+    requires { ⌜ (k ≤ 2) × ((v .id < 4294967296) × (length (now message) ≤ 2147483647)) ⌝ }
+    ensures { λ r. ⌜ r ≡ course v (length (now (log .entry))) (space (length (now (message .entry)))) given ⌝ }
+    ensures { λ _. ⌜ now (log .exit) ≡ bytesBy v k (now (log .entry)) (written v (now (log .entry)) (k * v .term) (v .offset) (fragment 192 reserved (now (message .entry)) ∷ [])) (course v (length (now (log .entry))) (space (length (now (message .entry)))) given) ⌝ }
+{
+    let way = begin_append(
+        v,
+        log,
+        k,
+        (message.len() + HEADER_LENGTH + ALIGNMENT_MASK) / FRAME_ALIGNMENT * FRAME_ALIGNMENT,
+        given,
+    );
+    let term = v.term;
+    let offset = v.offset;
+    if let Course::Fit = way {
+        header::write_fragment(
+            log,
+            k * term + offset,
+            v,
+            offset,
+            UNFRAGMENTED,
+            reserved,
+            message,
+        );
+    }
+    way
+}
+
+// A message as one frame at partition k, for a caller who has read the record's numbers and knows that one frame holds it: the shorter path
+// of an offer, which works out no fragments.
+pub fn append_one(
+    numbers: Reading,
+    log: &mut [u8],
+    partition: usize,
+    message: &[u8],
+    reserved_value: i64,
+    term_id: usize,
+) -> Way
+    ensures { λ r. ⌜ r ≡ claimWay numbers (now (log .entry)) partition (length (now (message .entry))) «term_id» ⌝ }
+    ensures { λ _. ⌜ now (log .exit) ≡ oneWayBytes numbers (now (log .entry)) partition (now (message .entry)) (long «reserved_value») «term_id» ⌝ }
+{
+    if !good_claiming(numbers, partition, message.len()) {
+        return way::refused(Error::IllegalArgument);
+    }
+    let bits = cast::long(reserved_value);
+    let course = one_frame(numbers, log, partition, message, bits, term_id);
+    way::way_by(
+        numbers,
+        (message.len() + HEADER_LENGTH + ALIGNMENT_MASK) / FRAME_ALIGNMENT * FRAME_ALIGNMENT,
+        course,
+    )
+}
+
+// A message as one frame or as many, for a caller who has not read the record.
 fn append_message(
     rec: LogRecord,
     log: &mut [u8],

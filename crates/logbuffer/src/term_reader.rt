@@ -1,6 +1,7 @@
 // Reading a term: the walk over frames that every poll takes, `read`, and views of bodies and blocks.
 ghost use mathlib.Core.Path.{_≡_};
 ghost use mathlib.Core.Bool.{cond, _&&_};
+ghost use mathlib.Core.List.{[]};
 ghost use Prim.Native.Nat.{_+_, _*_, _≤_, _<_};
 ghost use lib.ListN.{length, drop};
 ghost use denote.Ref.{ptr};
@@ -10,6 +11,8 @@ ghost use Rattle.model.specs.FrameDescriptor.{unsoundFrameAt};
 ghost use Rattle.model.specs.LogBufferDescriptor.{goodPartition};
 ghost use Rattle.model.specs.TermReader.{nextAction, walk, firstUnsound, goodWalk, goodHandler, goodEntries, goodStart, entriesBy, framesBy, framesRefusal, framesOf, framesEntries, readOf, readEntries, goodView, viewOf};
 ghost use Rattle.model.specs.Parts.{partOf, locatedNumber};
+ghost use Rattle.model.proofs.ReadLaws.{readFrom};
+ghost use Rattle.logbuffer.specs.Reads.{readRefusal};
 use crate::argument;
 use crate::cast;
 use crate::data_frame_header::HEADER_LENGTH;
@@ -205,6 +208,90 @@ pub fn refusal(frames: FramesRead) -> Error
     match frames {
         FramesRead::Walked(_) => Error::IllegalArgument,
         FramesRead::Refused(e) => e,
+    }
+}
+
+// ---- the same walk to the term's end for a caller who handles nothing: shorter, since no answer and no settled message is looked after
+
+fn walk_term(
+    log: &[u8],
+    base: usize,
+    term: usize,
+    at: usize,
+    limit: usize,
+    entries: &mut [i32],
+) -> TermRead
+    requires { ⌜ (base + term ≤ length (now log)) × ((term ≤ 1073741824) × (2 * limit ≤ length (now entries))) ⌝ }
+    ensures { λ r. ⌜ r ≡ readFrom at (framesBy (walk term (now (log .entry)) base term term at limit []) (cond (firstUnsound (now (log .entry)) base term term at limit) (Refuse (unsoundFrameAt (now (log .entry)) base at)) Pass)) ⌝ }
+    ensures { λ _. ⌜ now (entries .exit) ≡ entriesBy (now (entries .entry)) (walk term (now (log .entry)) base term term at limit []) (cond (firstUnsound (now (log .entry)) base term term at limit) (Refuse (unsoundFrameAt (now (log .entry)) base at)) Pass) ⌝ }
+{
+    let mut offset = at;
+    let mut count: usize = 0;
+    loop {
+        if limit <= count {
+            break;
+        }
+        if term <= offset {
+            break;
+        }
+        match frame_descriptor::frame_at(log, base + offset, term - offset) {
+            Frame::Absent => {
+                break;
+            }
+            Frame::Unsound(found) => {
+                if offset == at {
+                    return TermRead::Refused(frame_descriptor::unsound_frame(found, at as u32));
+                }
+                break;
+            }
+            Frame::Padding(n) => {
+                offset = offset + (n + ALIGNMENT_MASK) / FRAME_ALIGNMENT * FRAME_ALIGNMENT;
+            }
+            Frame::Data(n) => {
+                let p = 2 * count;
+                entries[p] = (offset + HEADER_LENGTH) as i32;
+                entries[p + 1] = (n - HEADER_LENGTH) as i32;
+                offset = offset + (n + ALIGNMENT_MASK) / FRAME_ALIGNMENT * FRAME_ALIGNMENT;
+                count = count + 1;
+            }
+        }
+    }
+    TermRead::Outcome(offset, count)
+}
+
+// `read_frames` with no handler, up to the term's end: the offset that it came to, and the fragments.
+pub fn read_term(
+    log: &[u8],
+    base: usize,
+    term: usize,
+    at: usize,
+    fragment_limit: usize,
+    entries: &mut [i32],
+) -> TermRead
+    ensures { λ r. ⌜ r ≡ readFrom at (framesOf (now (log .entry)) base term term at «fragment_limit» [] (now (entries .entry))) ⌝ }
+    ensures { λ _. ⌜ now (entries .exit) ≡ framesEntries (now (log .entry)) base term term at «fragment_limit» [] (now (entries .entry)) ⌝ }
+{
+    if !good_walk(
+        log.len(),
+        base,
+        term,
+        term,
+        at,
+        fragment_limit,
+        entries.len(),
+    ) {
+        return TermRead::Refused(Error::IllegalArgument);
+    }
+    walk_term(log, base, term, at, fragment_limit, entries)
+}
+
+// The refusal of a read, where a caller takes it apart by `let .. else`. A read that was not refused has none, and 1 stands for it.
+pub fn read_refusal(read: TermRead) -> Error
+    ensures { λ r. ⌜ r ≡ readRefusal read ⌝ }
+{
+    match read {
+        TermRead::Outcome(_, _) => Error::IllegalArgument,
+        TermRead::Refused(e) => e,
     }
 }
 

@@ -34,6 +34,7 @@ use Rattle.model.specs.FragmentAssembler.{goodAssembly, assembleBy, asse
 use Rattle.model.specs.Replay.{ReplayState, NextReply, giving, givenBy, turnBy, pollOne, assembleOne, nextFrom, nextOf}
 use Rattle.model.specs.BadFrames.{Reads, frames, read, scan, gap, availability, poll, boundedPoll, controlledPoll, peek, blockPoll, assemble, answerNow, baseMet, placeMet, Before, passed, shut, seventeen, refusedBy, row17, rowsBefore, readableBefore, reachableBefore, unsoundMet, pollBefore, before, asVerdict, answerBy, saying, inPlaceOf17, BadFrames, ReplaysPassOn}
 use Rattle.model.proofs.Anchors as Anchors
+use Rattle.model.proofs.Choice.{le-yes}
 
 -- the old verdict, with a refusal in the place of 17
 abbrev with17 : Error → Before → ReadVerdict
@@ -152,14 +153,14 @@ module _ (r : LogRecord) (log : List ℕ) (e : Error) where
   Met = (t : ReplayState) × ((pollOne r log (t .image) .answer ≡ PollRefused e) ⊎ (assembleOne r log t .answer ≡ AssemblyRefused e))
 
   met-in : (s t : ReplayState) (base : ℕ) (go : ReplayState → NextReply) → ((u : ReplayState) → go u .answer ≡ ReplayRefused e → Met) → (a : Assembled) → assembleOne r log s .answer ≡ a
-      → givenBy base t a go .answer ≡ ReplayRefused e → Met
+      → givenBy base s t a go .answer ≡ ReplayRefused e → Met
   met-in s t base go ih Nothing q h = ih t h
   met-in s t base go ih (Fragment at n) q h = absurd (let z : _≡_ {A = ℕ} 0 1 = cc in omega arith)
   met-in s t base go ih (Message at n) q h = absurd (let z : _≡_ {A = ℕ} 0 1 = cc in omega arith)
   met-in s t base go ih (AssemblyRefused x) q h = let y : x ≡ e = cc in (s, inr (q ∙ ap AssemblyRefused y))
 
   met-turn : (a b c : Bool) (s t u : ReplayState) (base : ℕ) (go : ReplayState → NextReply) → ((u : ReplayState) → go u .answer ≡ ReplayRefused e → Met)
-      → cond a (giving s End) (cond b (cond c (giving s End) (go t)) (givenBy base u (assembleOne r log s .answer) go)) .answer ≡ ReplayRefused e → Met
+      → cond a (giving s End) (cond b (cond c (giving s End) (go t)) (givenBy base s u (assembleOne r log s .answer) go)) .answer ≡ ReplayRefused e → Met
   met-turn true b c s t u base go ih h = absurd (let z : _≡_ {A = ℕ} 0 1 = cc in omega arith)
   met-turn false true true s t u base go ih h = absurd (let z : _≡_ {A = ℕ} 0 1 = cc in omega arith)
   met-turn false true false s t u base go ih h = ih t h
@@ -178,4 +179,5 @@ module _ (r : LogRecord) (log : List ℕ) (e : Error) where
 
 pub replays-pass-on : ReplaysPassOn
 unfolding ReplaysPassOn nextOf
-replays-pass-on r log s e h = met r log e (suc (3 * reading r .term)) s h
+replays-pass-on r log s e lent h =
+    met r log e (suc (3 * reading r .term)) s (ap (λ (y : NextReply). y .answer) (sym (le-yes (length (s .buffer)) 2147483647 (nextFrom (suc (3 * reading r .term)) r log s) (giving s (ReplayRefused IllegalArgument)) lent)) ∙ h)

@@ -32,7 +32,7 @@ use Rattle.model.specs.Replay.{Replaying, handedOut, after, feed, feedAl
 use Rattle.model.specs.History.{Shape, shapeOf, open·, committed, aborted}
 use Rattle.model.specs.Demand.{Allowed, Replayed, GivesAll}
 use Rattle.model.proofs.Sound.{term-32}
-use Rattle.model.proofs.Choice.{cond-false, split, same?, eq-yes, eq-no}
+use Rattle.model.proofs.Choice.{cond-false, split, same?, eq-yes, eq-no, le-yes}
 use Rattle.model.proofs.Both.{both-true}
 use Rattle.model.proofs.Cells.{Cell, cell, fsize, bytes, sizes, length-bytes, bytes-append, sizes-append, flen-ge, fsize-ge, sizes-32}
 use Rattle.model.proofs.Walking.{AllSmall, norm, Fits, Clear, seen, entsOf, Goes, goes, Stuck, moves, see-here, see-end, few}
@@ -404,7 +404,7 @@ module _ (r : LogRecord) (log : List ℕ) (snd : Sound (reading r) (length log))
           cond (leb (3 * T) q) (giving s End)
           (cond (eqb m 0)
           (cond (eqb (long (y .next .position)) q) (giving s End) (go (record { image = y .next; sessions = s .sessions; buffer = s .buffer })))
-          (givenBy (partitionOf q T * T)
+          (givenBy (partitionOf q T * T) s
           (assembledTo (y .next) (assembleOf r log (s .sessions) (s .buffer) (pos (partitionOf q T)) (pos (natural (getD (y .slots) 0 (pos 0)) - 32))))
           (assembleOf r log (s .sessions) (s .buffer) (pos (partitionOf q T)) (pos (natural (getD (y .slots) 0 (pos 0)) - 32)) .answer) go))
 
@@ -501,7 +501,7 @@ module _ (r : LogRecord) (log : List ℕ) (snd : Sound (reading r) (length log))
 
         one-came : (m n : ℕ) → walked q· 1 .entries ≡ (m, n) ∷ [] → ¬ (walked q· 1 .moved ≡ 0)
             → ((x : Replaying) (f b : List Cell) → Stands x f b → length b < length back → Said x b (go (state x)))
-            → (o : Assembled) → a· m .answer ≡ o → Said p back (givenBy (partitionOf q· T * T) (assembledTo image′ (a· m)) o go)
+            → (o : Assembled) → a· m .answer ≡ o → Said p back (givenBy (partitionOf q· T * T) (state p) (assembledTo image′ (a· m)) o go)
         one-came m n e u ih Nothing h =
             subst (λ (x : ReplayState). Said p back (go x)) (ap state (came m n e))
             (said-on p (onto p) back (v .back) (go (state (onto p)))
@@ -545,7 +545,7 @@ module _ (r : LogRecord) (log : List ℕ) (snd : Sound (reading r) (length log))
         by-entries es =
             cond (eqb (length es) 0)
             (cond (eqb (q· + walked q· 1 .moved) q·) (giving (state p) End) (go (record { image = image′; sessions = p .sessions; buffer = p .buffer })))
-            (givenBy (partitionOf q· T * T)
+            (givenBy (partitionOf q· T * T) (state p)
             (assembledTo image′ (assembleOf r log (p .sessions) (p .buffer) (pos (partitionOf q· T)) (pos (natural (getD (laid two es) 0 (pos 0)) - 32))))
             (assembleOf r log (p .sessions) (p .buffer) (pos (partitionOf q· T)) (pos (natural (getD (laid two es) 0 (pos 0)) - 32)) .answer) go)
 
@@ -578,6 +578,11 @@ module _ (r : LogRecord) (log : List ℕ) (snd : Sound (reading r) (length log))
       enough : (front back : List Cell) → fs ≡ front ++ back → length back < suc (3 * T)
       enough front back q = omega (arith, few-frames back, ap sizes q, sizes-append front back)
 
+      -- row 1 lets every buffer pass that was lent so
+      next-is-from : (p : Replaying) (front back : List Cell) → Stands p front back → nextOf r log (state p) ≡ nextFrom (suc (3 * T)) r log (state p)
+      unfolding nextOf
+      next-is-from p front back s = le-yes (length (p .buffer)) 2147483647 _ _ (omega (arith, s .like .same .long))
+
       -- what was given so far is some of it
       least : (p : Replaying) (front back : List Cell) → Stands p front back → length (p .out) ≤ length (takes-in part empty (fragsOf fs) .out)
       least p front back s =
@@ -587,11 +592,12 @@ module _ (r : LogRecord) (log : List ℕ) (snd : Sound (reading r) (length log))
 
       all-given : (ms : List (List ℕ)) → takes-in part empty (fragsOf fs) .lost ≡ false → takes-in part empty (fragsOf fs) .out ≡ ms
           → (most : ℕ) (p : Replaying) (front back : List Cell) → Stands p front back → length ms < length (p .out) + most → p .out ++ replayed most r log (state p) ≡ ms
-      unfolding replayed nextOf
+      unfolding replayed
       all-given ms kept found zero p front back s l = absurd (omega (arith, least p front back s, ap length found))
       all-given ms kept found (suc most) p front back s l =
           let y = nextFrom (suc (3 * T)) r log (state p) in
-          ⊎-elim
+          ap (λ (x : NextReply). p .out ++ messageBy log (x .next) (x .answer) (replayed most r log (x .next))) (next-is-from p front back s)
+          ∙ ⊎-elim
           (λ x. ap (λ (a : Given). p .out ++ messageBy log (y .next) a (replayed most r log (y .next))) (x .0) ∙ append-nil (p .out) ∙ x .1 ∙ found)
           (λ x.
           ap (λ (l : List (List ℕ)). p .out ++ l) (x .gives (replayed most r log (y .next)) ∙ ap (λ (t : ReplayState). x .message ∷ replayed most r log t) (x .is))
@@ -604,15 +610,16 @@ module _ (r : LogRecord) (log : List ℕ) (snd : Sound (reading r) (length log))
       ended : (ms : List (List ℕ)) → takes-in part empty (fragsOf fs) .lost ≡ false → takes-in part empty (fragsOf fs) .out ≡ ms
           → (n : ℕ) (p : Replaying) (front back : List Cell) → Stands p front back → length ms ≡ length (p .out) + n
           → nextOf r log (standing n r log (state p)) .answer ≡ End
-      unfolding standing nextOf
+      unfolding standing
       ended ms kept found zero p front back s l =
-          ⊎-elim (λ x. x .0)
+          ap (λ (x : NextReply). x .answer) (next-is-from p front back s)
+          ∙ ⊎-elim (λ x. x .0)
           (λ x. absurd (omega (arith, least (x .at) (x .front′) (x .back′) (x .stands-on), ap length (x .grown), length-append (p .out) (x .message ∷ []), ap length found)))
           (next-says kept (suc (3 * T)) p front back s (enough front back (s .cut)))
       ended ms kept found (suc n) p front back s l =
           ⊎-elim (λ x. absurd (omega (arith, ap length (x .1), ap length found)))
           (λ x.
-          subst (λ (t : ReplayState). nextFrom (suc (3 * T)) r log (standing n r log t) .answer ≡ End) (sym (x .is))
+          subst (λ (t : ReplayState). nextOf r log (standing n r log t) .answer ≡ End) (sym (ap (λ (y : NextReply). y .next) (next-is-from p front back s) ∙ x .is))
           (ended ms kept found n (x .at) (x .front′) (x .back′) (x .stands-on) (omega (arith, ap length (x .grown), length-append (p .out) (x .message ∷ [])))))
           (next-says kept (suc (3 * T)) p front back s (enough front back (s .cut)))
 

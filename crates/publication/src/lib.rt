@@ -40,12 +40,19 @@ struct Trip {
     error: Error,
 }
 
-// The term id of partition k's tail, as a rotation and a claim's record take it.
+// The term id of partition k's tail, as a rotation and a claim's record take it. Every index is a constant, so that the tails need not stand
+// in memory.
 fn own_term_id(rec: LogRecord, k: usize) -> i32
     requires { ⌜ k < 3 ⌝ }
     ensures { λ r. ⌜ biased (word r) ≡ readingOf rec k .id ⌝ }
 {
-    log_buffer_descriptor::term_id(rec.tails[k])
+    if k == 0 {
+        return log_buffer_descriptor::term_id(rec.tails[0]);
+    }
+    if k == 1 {
+        return log_buffer_descriptor::term_id(rec.tails[1]);
+    }
+    log_buffer_descriptor::term_id(rec.tails[2])
 }
 
 // After a trip: 7, 12, or rotated and 6. `next` is the record with the tail moved; its count and term id are handed to the rotation. The
@@ -100,7 +107,12 @@ fn append_message(
     ensures { λ r. ⌜ r ≡ appendReply rec (now (log .entry)) k payload (now (message .entry)) (v .id) ⌝ }
     ensures { λ _. ⌜ now (log .exit) ≡ appendBytes rec (now (log .entry)) k payload (now (message .entry)) (long reserved) (v .id) ⌝ }
 {
-    let way = term_appender::append_way(v, log, k, payload, message, reserved, v.id);
+    if message.len() <= payload {
+        let way = term_appender::append_one(v, log, k, message, reserved, v.id);
+        return way::append_reply(rec, k, way);
+    }
+    let numbers = v;
+    let way = term_appender::append_way(numbers, log, k, payload, message, reserved, v.id);
     way::append_reply(rec, k, way)
 }
 

@@ -10,6 +10,7 @@ use lib.ListN.{length, take, drop, length-take, length-drop}
 use lib.Seq.{length-take-le}
 use lib.IntN.{ℤ, pos}
 use Rattle.model.specs.declared.LogRecord.{LogRecord}
+use Rattle.model.specs.declared.Error.the-variants.{IllegalArgument}
 use Rattle.model.specs.declared.Polled.{Polled}
 use Rattle.model.specs.declared.Polled.the-variants.{Fragments, Refused}
 use Rattle.model.specs.declared.Joining.{Joining}
@@ -26,7 +27,8 @@ use Rattle.model.specs.LogBufferDescriptor.{reading, partitionOf}
 use Rattle.model.specs.FragmentAssembler.{Sessions, Assembly, partLength, sessionAt, bodyLength, assembleVerdict, assembleBy, assembleOf, assembledBy, bufferBy, joined, joining}
 use Rattle.model.specs.Replay.{ReplayState, NextReply, giving, givenBy, assembledTo, pollOne, assembleOne, turnBy, nextFrom, nextOf}
 use Rattle.model.proofs.Splice.{length-splice}
-use Rattle.logbuffer.proofs.Assembly.{verdict-passed, Framed, Fit, join-fits}
+use Rattle.logbuffer.specs.Assembler.{Framed}
+use Rattle.logbuffer.proofs.Assembly.{verdict-passed, Fit, join-fits}
 
 -- a reply's part of the log, or of the lent buffer that it leaves
 abbrev pub Inside : List ℕ → ReplayState → Replayed → Type 0
@@ -45,7 +47,7 @@ Lies log base buffer (Fragment at n) = base + at + n ≤ length log
 Lies log base buffer (Message at n) = at + n ≤ length buffer
 Lies log base buffer (AssemblyRefused e) = Unit {0}
 
-part-16 : (k n : ℕ) → k < 16 → k * (n / 16) + n / 16 ≤ n
+pub part-16 : (k n : ℕ) → k < 16 → k * (n / 16) + n / 16 ≤ n
 part-16 k n h = omega (arith, mul-le-mul-right (n / 16) (let l : k + 1 ≤ 16 = omega arith in l))
 
 joined-lies : (log buffer : List ℕ) (base o w : ℕ) (body : List ℕ) (x : Joining) → length body ≤ w → 32 ≤ w + 32 → base + o + 32 + w ≤ length log → Fit w (length buffer / 16) x → length body ≡ w
@@ -76,12 +78,12 @@ assembled-lies r log s buffer k o = go (assembleVerdict (reading r) log (length 
         joined-lies log buffer (k * reading r .term) o (u32 frame - 32) (take (u32 frame - 32) (drop 32 frame)) (joining s (sessionAt frame) (flagsAt frame) (u32 frame - 32) (length buffer / 16))
         (omega arith) (omega arith) (omega (arith, f .header, f .whole)) (join-fits s (sessionAt frame) (flagsAt frame) (u32 frame - 32) (length buffer / 16)) long·
 
-given-inside : (log : List ℕ) (base : ℕ) (s : ReplayState) (a : Assembled) (go : ReplayState → NextReply) → Lies log base (s .buffer) a → ((t : ReplayState) → InsideReply log (go t))
-    → InsideReply log (givenBy base s a go)
-given-inside log base s Nothing go l h = h s
-given-inside log base s (Fragment at n) go l h = l
-given-inside log base s (Message at n) go l h = l
-given-inside log base s (AssemblyRefused e) go l h = tt
+given-inside : (log : List ℕ) (base : ℕ) (s t : ReplayState) (a : Assembled) (go : ReplayState → NextReply) → Lies log base (t .buffer) a → ((u : ReplayState) → InsideReply log (go u))
+    → InsideReply log (givenBy base s t a go)
+given-inside log base s t Nothing go l h = h t
+given-inside log base s t (Fragment at n) go l h = l
+given-inside log base s t (Message at n) go l h = l
+given-inside log base s t (AssemblyRefused e) go l h = tt
 
 by-test : (log : List ℕ) (b : Bool) (x y : NextReply) → InsideReply log x → InsideReply log y → InsideReply log (cond b x y)
 by-test log true x y h k = h
@@ -94,7 +96,7 @@ module _ (r : LogRecord) (log : List ℕ) where
       by-test log (leb (3 * reading r .term) (long (s .image .position))) (giving s End) _ tt
       (by-test log (eqb m 0) _ _
       (by-test log (eqb (long (pollOne r log (s .image) .next .position)) (long (s .image .position))) (giving s End) _ tt (h _))
-      (given-inside log (partitionOf (long (s .image .position)) (reading r .term) * reading r .term) (assembledTo (pollOne r log (s .image) .next) (assembleOne r log s)) (assembleOne r log s .answer) go
+      (given-inside log (partitionOf (long (s .image .position)) (reading r .term) * reading r .term) s (assembledTo (pollOne r log (s .image) .next) (assembleOne r log s)) (assembleOne r log s .answer) go
       (assembled-lies r log (s .sessions) (s .buffer) (partitionOf (long (s .image .position)) (reading r .term)) _) h))
 
   from-inside : (fuel : ℕ) (s : ReplayState) → InsideReply log (nextFrom fuel r log s)
@@ -104,4 +106,4 @@ module _ (r : LogRecord) (log : List ℕ) where
 
   pub next-inside : (s : ReplayState) → InsideReply log (nextOf r log s)
   unfolding nextOf
-  next-inside s = from-inside (suc (3 * reading r .term)) s
+  next-inside s = by-test log (leb (length (s .buffer)) 2147483647) (nextFrom (suc (3 * reading r .term)) r log s) (giving s (ReplayRefused IllegalArgument)) (from-inside (suc (3 * reading r .term)) s) tt

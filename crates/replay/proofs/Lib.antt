@@ -1,5 +1,8 @@
 -- Laws that the functions' proofs share.
 pub mod Turns
+pub mod InPlace
+pub mod Batching
 pub mod Inside
+pub mod Again
 pub mod Counting
 pub mod History

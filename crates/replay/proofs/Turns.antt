@@ -20,13 +20,13 @@ use Rattle.model.specs.declared.Verdict.{Verdict}
 use Rattle.model.specs.declared.Verdict.the-variants.{Pass, Refuse}
 use Rattle.model.specs.declared.Assembled.{Assembled}
 use Rattle.model.specs.declared.Assembled.the-variants.{Nothing, Fragment, Message, Refused as AssemblyRefused}
-use Rattle.model.specs.declared.Replayed.the-variants.{End}
+use Rattle.model.specs.declared.Replayed.the-variants.{End, Refused as ReplayRefused}
 use Rattle.model.specs.Bytes.{word, long, u32, i32}
 use Rattle.model.specs.FrameDescriptor.{flagsAt}
 use Rattle.model.specs.LogBufferDescriptor.{readingOf, reading, sound, partitionOf}
 use Rattle.model.specs.TermReader.{Walked, natural, goodEntries}
 use Rattle.model.specs.Image.{Image, newImage, polledBy, pollVerdict, pollOf}
-use Rattle.model.specs.FragmentAssembler.{Sessions, fresh, assembleVerdict, assembleBy, assembleOf, assembledBy, joining}
+use Rattle.model.specs.FragmentAssembler.{Sessions, Assembly, fresh, assembleVerdict, assembleBy, assembleOf, assembledBy, bufferBy, joining}
 use Rattle.model.specs.Replay.{ReplayState, NextReply, giving, givenBy, assembledTo, pollOne, assembleOne, turnBy, nextFrom, nextOf}
 use Rattle.model.proofs.Choice.{cond-true, cond-false, le-yes, le-no, eq-yes, eq-no}
 use Rattle.logbuffer.proofs.Assembly.{verdict-passed}
@@ -63,14 +63,35 @@ polled-sound r log i n m h = go (goodEntries 2 1) (sound (reading r) (length log
 
 -- ---- the assembler's answer
 
-pub fragment-is : (r : LogRecord) (log : List ℕ) (i : Image) (s : Sessions) (buffer : List ℕ) (k : ℕ) (entry p o : ℤ) (base : ℕ) (t : Sessions) (b : List ℕ) (a : Assembled)
+pub fragment-is : (r : LogRecord) (log : List ℕ) (s : ReplayState) (i : Image) (k : ℕ) (entry p o : ℤ) (base : ℕ) (t : Sessions) (b : List ℕ) (a : Assembled)
     → p ≡ pos k → o ≡ pos (natural entry - 32) → base ≡ k * reading r .term
-    → a ≡ assembleOf r log s buffer p o .answer → t ≡ assembleOf r log s buffer p o .next → b ≡ assembleOf r log s buffer p o .buffer
-    → fragmentTurn base (record { image = i; sessions = t; buffer = b }) a ≡ fragmentGiven r log i s buffer k entry
-fragment-is r log i s buffer k entry p o base t b a ep eo eb ea et ew =
-    ap₂ (λ (y : Sessions) (z : List ℕ). fragmentTurn base (record { image = i; sessions = y; buffer = z }) a) et ew
-    ∙ ap₂ (λ (x : ℕ) (y : Assembled). fragmentTurn x (assembledTo i (assembleOf r log s buffer p o)) y) eb ea
-    ∙ ap₂ (λ (x y : ℤ). fragmentTurn (k * reading r .term) (assembledTo i (assembleOf r log s buffer x y)) (assembleOf r log s buffer x y .answer)) ep eo
+    → a ≡ assembleOf r log (s .sessions) (s .buffer) p o .answer → t ≡ assembleOf r log (s .sessions) (s .buffer) p o .next → b ≡ assembleOf r log (s .sessions) (s .buffer) p o .buffer
+    → fragmentTurn base s (record { image = i; sessions = t; buffer = b }) a ≡ fragmentGiven r log s i k entry
+fragment-is r log s i k entry p o base t b a ep eo eb ea et ew =
+    let made : ℤ → ℤ → Assembly = λ (x y : ℤ). assembleOf r log (s .sessions) (s .buffer) x y in
+    ap₂ (λ (y : Sessions) (z : List ℕ). fragmentTurn base s (record { image = i; sessions = y; buffer = z }) a) et ew
+    ∙ ap₂ (λ (x : ℕ) (y : Assembled). fragmentTurn x s (assembledTo i (made p o)) y) eb ea
+    ∙ ap₂ (λ (x y : ℤ). fragmentTurn (k * reading r .term) s (assembledTo i (made x y)) (made x y .answer)) ep eo
+
+-- a refused fragment leaves the lent buffer as it was
+pub refused-keeps : (r : LogRecord) (log : List ℕ) (s : Sessions) (buffer : List ℕ) (p o : ℤ) (e : Error)
+    → assembleOf r log s buffer p o .answer ≡ AssemblyRefused e → assembleOf r log s buffer p o .buffer ≡ buffer
+unfolding assembleOf
+refused-keeps r log s buffer p o e h = go (assembleVerdict (reading r) log (length buffer) (word p) (word o)) h
+  where
+    joined-keeps : (at n part : ℕ) (body : List ℕ) (x : Joining) → assembledBy at n part x ≡ AssemblyRefused e → bufferBy buffer body x ≡ buffer
+    joined-keeps at n part body Through h = refl
+    joined-keeps at n part body Ignore h = refl
+    joined-keeps at n part body Full h = refl
+    joined-keeps at n part body (TooLong k) h = refl
+    joined-keeps at n part body (Join k from) h = absurd (let z : _≡_ {A = ℕ} 0 1 = cc in omega arith)
+    joined-keeps at n part body (Complete k from) h = absurd (let z : _≡_ {A = ℕ} 0 1 = cc in omega arith)
+
+    go : (x : Verdict) → assembleBy s buffer (drop (word p * reading r .term + word o) log) (word o) x .answer ≡ AssemblyRefused e → assembleBy s buffer (drop (word p * reading r .term + word o) log) (word o) x .buffer ≡ buffer
+    go (Refuse y) h = refl
+    go Pass h =
+        let frame = drop (word p * reading r .term + word o) log in
+        joined-keeps (word o + 32) (u32 frame - 32) (length buffer / 16) _ (joining s (i32 (drop 12 frame)) (flagsAt frame) (u32 frame - 32) (length buffer / 16)) h
 
 -- ---- the poll's answer
 
@@ -85,7 +106,7 @@ module _ (r : LogRecord) (log : List ℕ) (s : ReplayState) (n m : ℕ) where
   turn-end h = sym (le-yes (3 * Term) P (stops s End) _ (omega arith))
 
   pub turn-fragment : P / 3 < Term → ¬ (m ≡ 0)
-      → fragmentTurn (partitionOf P Term * Term) (assembledTo (pollOne r log (s .image) .next) (assembleOne r log s)) (assembleOne r log s .answer) ≡ turnSaid r log s (Fragments n m)
+      → fragmentTurn (partitionOf P Term * Term) s (assembledTo (pollOne r log (s .image) .next) (assembleOne r log s)) (assembleOne r log s .answer) ≡ turnSaid r log s (Fragments n m)
   turn-fragment h e = sym (le-no (3 * Term) P (stops s End) _ (omega arith) ∙ eq-no m 0 _ _ e)
 
   pub turn-quiet : P / 3 < Term → m ≡ 0 → long (pollOne r log (s .image) .next .position) ≡ P → stops s End ≡ turnSaid r log s (Fragments n m)
@@ -97,11 +118,11 @@ module _ (r : LogRecord) (log : List ℕ) (s : ReplayState) (n m : ℕ) where
 
   -- the fragment that came, by the code's own numbers
   pub fragment-one : (i : Image) (k : ℕ) (entry : ℤ) → i ≡ pollOne r log (s .image) .next → k ≡ partitionOf P Term → entry ≡ getD (pollOne r log (s .image) .slots) 0 (pos 0)
-      → fragmentGiven r log i (s .sessions) (s .buffer) k entry
-      ≡ fragmentTurn (partitionOf P Term * Term) (assembledTo (pollOne r log (s .image) .next) (assembleOne r log s)) (assembleOne r log s .answer)
+      → fragmentGiven r log s i k entry
+      ≡ fragmentTurn (partitionOf P Term * Term) s (assembledTo (pollOne r log (s .image) .next) (assembleOne r log s)) (assembleOne r log s .answer)
   fragment-one i k entry ei ek ee =
-      ap (λ (x : Image). fragmentGiven r log x (s .sessions) (s .buffer) k entry) ei
-      ∙ ap₂ (λ (x : ℕ) (y : ℤ). fragmentGiven r log (pollOne r log (s .image) .next) (s .sessions) (s .buffer) x y) ek ee
+      ap (λ (x : Image). fragmentGiven r log s x k entry) ei
+      ∙ ap₂ (λ (x : ℕ) (y : ℤ). fragmentGiven r log s (pollOne r log (s .image) .next) x y) ek ee
 
 -- ---- a body that passes through lies in the log
 
@@ -145,11 +166,11 @@ follow-cond : (b : Bool) (x y : Turned) (p q : NextReply) (go : ReplayState → 
 follow-cond true x y p q go e f = e
 follow-cond false x y p q go e f = f
 
-follow-fragment : (base : ℕ) (s : ReplayState) (a : Assembled) (go : ReplayState → NextReply) → givenBy base s a go ≡ follow (fragmentTurn base s a) go
-follow-fragment base s Nothing go = refl
-follow-fragment base s (Fragment at n) go = refl
-follow-fragment base s (Message at n) go = refl
-follow-fragment base s (AssemblyRefused e) go = refl
+follow-fragment : (base : ℕ) (s t : ReplayState) (a : Assembled) (go : ReplayState → NextReply) → givenBy base s t a go ≡ follow (fragmentTurn base s t a) go
+follow-fragment base s t Nothing go = refl
+follow-fragment base s t (Fragment at n) go = refl
+follow-fragment base s t (Message at n) go = refl
+follow-fragment base s t (AssemblyRefused e) go = refl
 
 turn-follow : (r : LogRecord) (log : List ℕ) (s : ReplayState) (x : Polled) (go : ReplayState → NextReply) → turnBy r log s x go ≡ follow (turnSaid r log s x) go
 turn-follow r log s (Refused e) go = refl
@@ -157,7 +178,7 @@ turn-follow r log s (Fragments n m) go =
     follow-cond (leb (3 * reading r .term) (long (s .image .position))) (stops s End) _ (giving s End) _ go refl
     (follow-cond (eqb m 0) _ _ _ _ go
     (follow-cond (eqb (long (pollOne r log (s .image) .next .position)) (long (s .image .position))) (stops s End) (goesOn (record { image = pollOne r log (s .image) .next; sessions = s .sessions; buffer = s .buffer })) (giving s End) _ go refl refl)
-    (follow-fragment (partitionOf (long (s .image .position)) (reading r .term) * reading r .term) (assembledTo (pollOne r log (s .image) .next) (assembleOne r log s)) (assembleOne r log s .answer) go))
+    (follow-fragment (partitionOf (long (s .image .position)) (reading r .term) * reading r .term) s (assembledTo (pollOne r log (s .image) .next) (assembleOne r log s)) (assembleOne r log s .answer) go))
 
 module _ (r : LogRecord) (log : List ℕ) (s : ReplayState) where
   pub next-none : (left : ℕ) → left ≡ 0 → giving s End ≡ nextFrom left r log s
@@ -180,9 +201,19 @@ module _ (r : LogRecord) (log : List ℕ) (s : ReplayState) where
     pub next-goes : t .on ≡ true → nextFrom (left - 1) r log (t .next) ≡ nextFrom left r log s
     next-goes f = sym (cond-true (t .on) (nextFrom (left - 1) r log (t .next)) (giving (t .next) (t .answer)) f) ∙ turns
 
-  pub next-starts : (w : ℕ) → w ≡ word (r .«term_length») → nextFrom (3 * w + 1) r log s ≡ nextOf r log s
-  unfolding nextOf readingOf
-  next-starts w e = ap (λ (n : ℕ). nextFrom n r log s) (let x : 3 * w + 1 ≡ suc (3 * word (r .«term_length»)) = omega (arith, e) in x)
+  -- row 1, and then the turns
+  pub next-refused : 2147483647 < length (s .buffer) → giving s (ReplayRefused IllegalArgument) ≡ nextOf r log s
+  unfolding nextOf
+  next-refused h = sym (le-no (length (s .buffer)) 2147483647 (nextFrom (suc (3 * reading r .term)) r log s) (giving s (ReplayRefused IllegalArgument)) h)
+
+  pub next-from : length (s .buffer) ≤ 2147483647 → nextFrom (suc (3 * reading r .term)) r log s ≡ nextOf r log s
+  unfolding nextOf
+  next-from h = sym (le-yes (length (s .buffer)) 2147483647 (nextFrom (suc (3 * reading r .term)) r log s) (giving s (ReplayRefused IllegalArgument)) h)
+
+  pub next-starts : (w : ℕ) → w ≡ word (r .«term_length») → length (s .buffer) ≤ 2147483647 → nextFrom (3 * w + 1) r log s ≡ nextOf r log s
+  unfolding readingOf
+  next-starts w e h =
+      ap (λ (n : ℕ). nextFrom n r log s) (let x : 3 * w + 1 ≡ suc (3 * word (r .«term_length»)) = omega (arith, e) in x) ∙ next-from h
 
 -- ---- a whole log, counted
 

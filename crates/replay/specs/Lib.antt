@@ -1,3 +1,6 @@
 -- What the code's values mean in the definitions.
+pub mod InPlace
 pub mod Replays
+pub mod Batches
+pub mod Again
 pub mod History

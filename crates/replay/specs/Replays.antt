@@ -18,6 +18,7 @@ use Rattle.model.specs.TermReader.{natural}
 use Rattle.model.specs.Image.{Image as ImageState, newImage}
 use Rattle.model.specs.FragmentAssembler.{Sessions, fresh, Assembly, assembleOf}
 use Rattle.model.specs.Replay.{ReplayState, NextReply as NextSaid, assembledTo, pollOne, assembleOne, nextOf}
+use Rattle.image.specs.declared.Image.{Image}
 use Rattle.image.specs.Images.{stateOf as imageState}
 use Rattle.logbuffer.specs.Assembler.{sessionsOf}
 use Rattle.replay.specs.declared.Replay.{Replay}
@@ -25,6 +26,9 @@ use Rattle.replay.specs.declared.NextReply.{NextReply}
 use Rattle.replay.specs.declared.TurnReply.{TurnReply}
 use Rattle.replay.specs.declared.Counted.{Counted}
 use Rattle.replay.specs.declared.Counted.the-variants.{Counts, Refused as CountRefused}
+
+abbrev pub replayOf : Image → ℕ → List ℤ → List ℕ → Replay
+replayOf image count ids held = record { image = image; assembler = record { count = count; ids = ids; held = held } }
 
 abbrev pub stateOf : Replay → List ℕ → ReplayState
 stateOf p buffer = record { image = imageState (p .image); sessions = sessionsOf (p .assembler); buffer = buffer }
@@ -47,11 +51,12 @@ stops s a = record { on = false; answer = a; next = s }
 abbrev pub goesOn : ReplayState → Turned
 goesOn s = record { on = true; answer = End; next = s }
 
-abbrev pub fragmentTurn : ℕ → ReplayState → Assembled → Turned
-fragmentTurn base s Nothing = goesOn s
-fragmentTurn base s (Fragment at n) = stops s (InLog (base + at) n)
-fragmentTurn base s (Message at n) = stops s (InBuffer at n)
-fragmentTurn base s (AssemblyRefused e) = stops s (ReplayRefused e)
+-- after a fragment of the term that starts at base: from s, before it, to t, behind it; one that is refused leaves the replay at s
+abbrev pub fragmentTurn : ℕ → ReplayState → ReplayState → Assembled → Turned
+fragmentTurn base s t Nothing = goesOn t
+fragmentTurn base s t (Fragment at n) = stops t (InLog (base + at) n)
+fragmentTurn base s t (Message at n) = stops t (InBuffer at n)
+fragmentTurn base s t (AssemblyRefused e) = stops s (ReplayRefused e)
 
 -- the same for an answer that is no part of the log
 abbrev pub elsewhereOn : Assembled → Bool
@@ -66,13 +71,18 @@ elsewhereBy (Fragment at n) = End
 elsewhereBy (Message at n) = InBuffer at n
 elsewhereBy (AssemblyRefused e) = ReplayRefused e
 
--- the fragment whose body is at an entry of partition k, given to the assembler
-abbrev pub given : LogRecord → List ℕ → ImageState → Sessions → List ℕ → ℕ → ℤ → Assembly
-given r log i s buffer k entry = assembleOf r log s buffer (pos k) (pos (natural entry - 32))
+abbrev pub elsewhereNext : Replay → Replay → Assembled → Replay
+elsewhereNext s t Nothing = t
+elsewhereNext s t (Fragment at n) = t
+elsewhereNext s t (Message at n) = t
+elsewhereNext s t (AssemblyRefused e) = s
 
-abbrev pub fragmentGiven : LogRecord → List ℕ → ImageState → Sessions → List ℕ → ℕ → ℤ → Turned
-fragmentGiven r log i s buffer k entry =
-    fragmentTurn (k * reading r .term) (assembledTo i (given r log i s buffer k entry)) (given r log i s buffer k entry .answer)
+-- the fragment whose body is at an entry of partition k, given to the assembler; i is the image that has passed it
+abbrev pub given : LogRecord → List ℕ → ReplayState → ℕ → ℤ → Assembly
+given r log s k entry = assembleOf r log (s .sessions) (s .buffer) (pos k) (pos (natural entry - 32))
+
+abbrev pub fragmentGiven : LogRecord → List ℕ → ReplayState → ImageState → ℕ → ℤ → Turned
+fragmentGiven r log s i k entry = fragmentTurn (k * reading r .term) s (assembledTo i (given r log s k entry)) (given r log s k entry .answer)
 
 abbrev pub refusalBy : Polled → Replayed
 refusalBy (Fragments n m) = End
@@ -85,7 +95,7 @@ turnSaid r log s (Fragments n m) =
     (cond (eqb m 0)
     (cond (eqb (long (pollOne r log (s .image) .next .position)) (long (s .image .position))) (stops s End)
     (goesOn (record { image = pollOne r log (s .image) .next; sessions = s .sessions; buffer = s .buffer })))
-    (fragmentTurn (partitionOf (long (s .image .position)) (reading r .term) * reading r .term)
+    (fragmentTurn (partitionOf (long (s .image .position)) (reading r .term) * reading r .term) s
     (assembledTo (pollOne r log (s .image) .next) (assembleOne r log s)) (assembleOne r log s .answer)))
 
 abbrev pub turnOf : LogRecord → List ℕ → ReplayState → Turned

@@ -2,28 +2,33 @@
 // gives of a log that was made by any list of calls; read `nextOf` in the definitions.
 ghost use mathlib.Core.Path.{_≡_};
 ghost use mathlib.Core.Bool.{false};
-ghost use Prim.Native.Nat.{_-_, _<_};
-ghost use lib.ListN.{getD};
+ghost use Prim.Native.Nat.{_-_, _≤_, _<_};
+ghost use lib.ListN.{length};
 ghost use lib.IntN.{pos};
 ghost use Rattle.model.specs.TermReader.{natural};
 ghost use Rattle.model.specs.Image.{newImage};
 ghost use Rattle.model.specs.FragmentAssembler.{fresh};
-ghost use Rattle.model.specs.Replay.{pollOne, nextOf};
-ghost use Rattle.image.specs.Images.{stateOf as imageState, pollReplyOf};
+ghost use Rattle.model.specs.Replay.{nextOf};
+ghost use Rattle.image.specs.Images.{stateOf as imageState};
 ghost use Rattle.logbuffer.specs.Assembler.{sessionsOf};
-ghost use Rattle.replay.specs.Replays.{stateOf, refusalBy, elsewhereOn, elsewhereBy, nextReplyOf, addedTo, givesBy, lengthBy, countedBy, countOf, turned, turnOf, fragmentGiven};
+ghost use Rattle.replay.specs.Batches.{batchReplyOf, batchOf};
+ghost use Rattle.replay.specs.Replays.{replayOf, stateOf, refusalBy, elsewhereOn, elsewhereBy, elsewhereNext, nextReplyOf, addedTo, givesBy, lengthBy, countedBy, countOf, turned, turnOf, fragmentGiven};
 use image::Image;
-use image::PollReply;
 use logbuffer::argument;
 use logbuffer::cast;
 use logbuffer::data_frame_header::HEADER_LENGTH;
 use logbuffer::fragment_assembler::FragmentAssembler;
+use logbuffer::frame_descriptor::ALIGNMENT_MASK;
+use logbuffer::frame_descriptor::FRAME_ALIGNMENT;
 use logbuffer::log_buffer_descriptor;
 use model::Assembled;
 use model::Error;
 use model::LogRecord;
 use model::Polled;
 use model::Replayed;
+
+pub mod frames;
+mod laying;
 
 #[repr(C)]
 pub struct Replay {
@@ -34,6 +39,17 @@ pub struct Replay {
 pub struct NextReply {
     pub next: Replay,
     pub answer: Replayed,
+}
+
+// Many messages at once: how many were laid into the lent numbers.
+pub enum Batched {
+    Laid(usize),
+    Refused(Error),
+}
+
+pub struct BatchReply {
+    pub next: Replay,
+    pub answer: Batched,
 }
 
 // A quick look at a log: how many messages, and how many bytes they have together.
@@ -47,23 +63,6 @@ pub struct TurnReply {
     pub on: bool,
     pub answer: Replayed,
     pub next: Replay,
-}
-
-// A poll of one fragment, and the offset of its body.
-pub struct One {
-    pub polled: PollReply,
-    pub entry: i32,
-}
-
-fn poll_one(image: Image, rec: LogRecord, log: &[u8]) -> One
-    ensures { λ r. ⌜ (r .polled ≡ pollReplyOf (pollOne rec (now (log .entry)) (imageState image))) × (r .entry ≡ getD (pollOne rec (now (log .entry)) (imageState image) .slots) 0 (pos 0)) ⌝ }
-{
-    let mut entries: [i32; 2] = [0; 2];
-    let polled = image.poll(rec, log, &mut entries, 1);
-    One {
-        polled: polled,
-        entry: entries[0],
-    }
 }
 
 // The offset of a frame, from the offset of its body.
@@ -99,9 +98,10 @@ fn refusal(answer: Polled) -> Replayed
     }
 }
 
-// The turn by an assembler's answer that is no part of the log: nothing yet, a message in the lent buffer, a refusal.
-fn elsewhere(next: Replay, answer: Assembled) -> TurnReply
-    ensures { λ r. ⌜ (r .on ≡ elsewhereOn answer) × ((r .answer ≡ elsewhereBy answer) × (r .next ≡ next)) ⌝ }
+// The turn by an assembler's answer that is no part of the log: nothing yet, a message in the lent buffer, a refusal, which leaves the
+// replay before the fragment.
+fn elsewhere(before: Replay, next: Replay, answer: Assembled) -> TurnReply
+    ensures { λ r. ⌜ (r .on ≡ elsewhereOn answer) × ((r .answer ≡ elsewhereBy answer) × (r .next ≡ elsewhereNext before next answer)) ⌝ }
 {
     match answer {
         Assembled::Nothing => TurnReply {
@@ -111,14 +111,14 @@ fn elsewhere(next: Replay, answer: Assembled) -> TurnReply
         },
         Assembled::Fragment(_, _) => stopped(next, Replayed::End),
         Assembled::Message(at, n) => stopped(next, Replayed::InBuffer(at, n)),
-        Assembled::Refused(e) => stopped(next, Replayed::Refused(e)),
+        Assembled::Refused(e) => stopped(before, Replayed::Refused(e)),
     }
 }
 
 // A fragment of a partition, given to the assembler: the image has passed it.
 fn give(
-    next: Image,
-    assembler: FragmentAssembler,
+    before: Replay,
+    passed: Image,
     rec: LogRecord,
     log: &[u8],
     buffer: &mut [u8],
@@ -126,18 +126,19 @@ fn give(
     entry: i32,
 ) -> TurnReply
     requires { ⌜ k < 3 ⌝ }
-    ensures { λ r. ⌜ turned r (now (buffer .exit)) ≡ fragmentGiven rec (now (log .entry)) (imageState next) (sessionsOf assembler) (now (buffer .entry)) k entry ⌝ }
+    ensures { λ r. ⌜ turned r (now (buffer .exit)) ≡ fragmentGiven rec (now (log .entry)) (stateOf before (now (buffer .entry))) (imageState passed) k entry ⌝ }
 {
     let v = log_buffer_descriptor::read_active(rec);
+    let assembler = before.assembler;
     let reply = assembler.on_fragment(rec, log, buffer, k as i32, frame_offset(entry) as i32);
     let assembler = reply.next;
     let answer = reply.answer;
     let next = Replay {
-        image: next,
+        image: passed,
         assembler: assembler,
     };
     let Assembled::Fragment(at, n) = answer else {
-        return elsewhere(next, answer);
+        return elsewhere(before, next, answer);
     };
     TurnReply {
         on: false,
@@ -155,7 +156,7 @@ fn turn(replay: Replay, rec: LogRecord, log: &[u8], buffer: &mut [u8]) -> TurnRe
     let image = replay.image;
     let assembler = replay.assembler;
     let p = cast::long(image.position);
-    let one = poll_one(image, rec, log);
+    let one = image.poll_one(rec, log);
     let polled = one.polled;
     let next = polled.next;
     let answer = polled.answer;
@@ -168,7 +169,7 @@ fn turn(replay: Replay, rec: LogRecord, log: &[u8], buffer: &mut [u8]) -> TurnRe
     if m != 0 {
         let bits = log_buffer_descriptor::position_bits_to_shift(term as u32);
         let k = log_buffer_descriptor::index_by_position(p as u64, bits);
-        return give(next, assembler, rec, log, buffer, k, one.entry);
+        return give(replay, next, rec, log, buffer, k, one.entry);
     }
     if cast::long(next.position) == p {
         return stopped(replay, Replayed::End);
@@ -179,6 +180,19 @@ fn turn(replay: Replay, rec: LogRecord, log: &[u8], buffer: &mut [u8]) -> TurnRe
         next: Replay {
             image: next,
             assembler: assembler,
+        },
+    }
+}
+
+fn replay_of(image: Image, count: usize, ids: [i32; 16], held: [usize; 16]) -> Replay
+    ensures { λ r. ⌜ r ≡ replayOf image count ids held ⌝ }
+{
+    Replay {
+        image: image,
+        assembler: FragmentAssembler {
+            count: count,
+            ids: ids,
+            held: held,
         },
     }
 }
@@ -194,32 +208,163 @@ impl Replay {
         }
     }
 
-    // The next message: where it lies in the log or in the lent buffer; or that there is none. Each turn that goes on moves the image, so
-    // three terms bound the turns.
-    pub fn next(mut self, rec: LogRecord, log: &[u8], buffer: &mut [u8]) -> NextReply
+    // The turns of a call that found no whole message. A data frame is given to the assembler's core as it lies, with the sessions in
+    // place; a padding, the end and what is refused go by a poll. Each turn that goes on moves the image, so three terms bound the turns.
+    fn turns(self, rec: LogRecord, log: &[u8], buffer: &mut [u8]) -> NextReply
+        requires { ⌜ length (now buffer) ≤ 2147483647 ⌝ }
         ensures { λ r. ⌜ nextReplyOf r (now (buffer .exit)) ≡ nextOf rec (now (log .entry)) (stateOf self (now (buffer .entry))) ⌝ }
     {
+        let v = log_buffer_descriptor::read_active(rec);
+        let mut image = self.image;
+        let assembler = self.assembler;
+        let mut count = assembler.count;
+        let mut ids = assembler.ids;
+        let mut held = assembler.held;
         let mut left = 3 * cast::word(rec.term_length) + 1;
         while left > 0 {
-            let t = turn(self, rec, log, buffer);
-            let answer = t.answer;
-            let next = t.next;
-            let image = next.image;
-            let assembler = next.assembler;
-            self.image = image;
-            self.assembler = assembler;
-            if !t.on {
+            let term = frames::open_term(image, v, log.len(), buffer.len());
+            let p = cast::long(image.position);
+            let n = frames::data_at(log, term, p);
+            if n == 0 {
+                let t = turn(replay_of(image, count, ids, held), rec, log, buffer);
+                let answer = t.answer;
+                let next = t.next;
+                if !t.on {
+                    return NextReply {
+                        next: next,
+                        answer: answer,
+                    };
+                }
+                image = next.image;
+                let assembler = next.assembler;
+                count = assembler.count;
+                ids = assembler.ids;
+                held = assembler.held;
+                left = left - 1;
+                continue;
+            }
+            let given = frames::give(count, &mut ids, &mut held, log, buffer, p, p & (term - 1));
+            let answer = given.answer;
+            count = given.count;
+            if frames::is_refused(answer) {
                 return NextReply {
-                    next: self,
-                    answer: answer,
+                    next: replay_of(image, count, ids, held),
+                    answer: frames::reply_by(answer, p, n),
+                };
+            }
+            image.position = (p + (n + ALIGNMENT_MASK) / FRAME_ALIGNMENT * FRAME_ALIGNMENT) as i64;
+            if !frames::is_nothing(answer) {
+                return NextReply {
+                    next: replay_of(image, count, ids, held),
+                    answer: frames::reply_by(answer, p, n),
                 };
             }
             left = left - 1;
         }
         NextReply {
-            next: self,
+            next: replay_of(image, count, ids, held),
             answer: Replayed::End,
         }
+    }
+
+    // The next message: where it lies in the log or in the lent buffer; or that there is none. A whole message is handed out as it lies,
+    // and the assembler is not touched. What is refused leaves the replay before the frame that was refused, so that the next call refuses
+    // the same.
+    pub fn next(mut self, rec: LogRecord, log: &[u8], buffer: &mut [u8]) -> NextReply
+        ensures { λ r. ⌜ nextReplyOf r (now (buffer .exit)) ≡ nextOf rec (now (log .entry)) (stateOf self (now (buffer .entry))) ⌝ }
+    {
+        if buffer.len() > 2147483647 {
+            return NextReply {
+                next: self,
+                answer: Replayed::Refused(Error::IllegalArgument),
+            };
+        }
+        let mut image = self.image;
+        let n = frames::next_whole(image, rec, log, buffer.len());
+        if n == 0 {
+            return self.turns(rec, log, buffer);
+        }
+        let p = cast::long(image.position);
+        image.position = (p + (n + ALIGNMENT_MASK) / FRAME_ALIGNMENT * FRAME_ALIGNMENT) as i64;
+        self.image = image;
+        NextReply {
+            next: self,
+            answer: Replayed::InLog(p + HEADER_LENGTH, n - HEADER_LENGTH),
+        }
+    }
+}
+
+// A batch that ends with a reply of `next`, after so many messages.
+fn batch_reply(next: Replay, answer: Batched) -> BatchReply
+    ensures { λ r. ⌜ (r .next ≡ next) × (r .answer ≡ answer) ⌝ }
+{
+    BatchReply {
+        next: next,
+        answer: answer,
+    }
+}
+
+impl Replay {
+    // Up to so many messages as four lent numbers hold: where each lies (1 in the log, 2 in the lent buffer), from, its length, the position
+    // behind it; and how many there are. A message in the lent buffer is the last of its batch. What is refused ends a batch, and is
+    // answered where nothing came before it.
+    pub fn next_batch(
+        self,
+        rec: LogRecord,
+        log: &[u8],
+        buffer: &mut [u8],
+        numbers: &mut [usize],
+    ) -> BatchReply
+        ensures { λ r. ⌜ batchReplyOf r (now (buffer .exit)) (now (numbers .exit)) ≡ batchOf rec (now (log .entry)) (stateOf self (now (buffer .entry))) (now (numbers .entry)) ⌝ }
+    {
+        if buffer.len() > 2147483647 {
+            return batch_reply(self, Batched::Refused(Error::IllegalArgument));
+        }
+        if numbers.len() > 2147483647 {
+            return batch_reply(self, Batched::Refused(Error::IllegalArgument));
+        }
+        let v = log_buffer_descriptor::read_active(rec);
+        let most = numbers.len() / 4;
+        let mut image = self.image;
+        let mut assembler = self.assembler;
+        let mut term = frames::open_term(image, v, log.len(), buffer.len());
+        let mut laid: usize = 0;
+        while laid < most {
+            let p = cast::long(image.position);
+            let n = frames::whole_at(log, term, p);
+            if n != 0 {
+                let end = p + (n + ALIGNMENT_MASK) / FRAME_ALIGNMENT * FRAME_ALIGNMENT;
+                laying::lay(numbers, laid, 1, p + HEADER_LENGTH, n - HEADER_LENGTH, end);
+                image.position = end as i64;
+                laid = laid + 1;
+                continue;
+            }
+            let replay = Replay {
+                image: image,
+                assembler: assembler,
+            };
+            let reply = replay.next(rec, log, buffer);
+            let answer = reply.answer;
+            let next = reply.next;
+            let Replayed::InLog(from, length) = answer else {
+                return batch_reply(
+                    next,
+                    laying::last(numbers, laid, answer, cast::long(next.image.position)),
+                );
+            };
+            image = next.image;
+            assembler = next.assembler;
+            laying::lay(numbers, laid, 1, from, length, cast::long(image.position));
+            term = frames::open_term(image, v, log.len(), buffer.len());
+            laid = laid + 1;
+        }
+        batch_reply(
+            Replay {
+                image: image,
+                assembler: assembler,
+            },
+            Batched::Laid(laid),
+        )
     }
 }
 
@@ -268,22 +413,41 @@ fn count_of(answer: Replayed, messages: usize, bytes: usize) -> Counted
     }
 }
 
-// Replays a whole log, from position 0 by a fresh image into a fresh assembler, and counts what comes back. A refusal ends it.
+// Replays a whole log, from position 0 by a fresh image into a fresh assembler, and counts what comes back. A refusal ends it. Whole messages
+// are counted as they lie.
 pub fn count(rec: LogRecord, log: &[u8], buffer: &mut [u8], session_id: i32) -> Counted
     ensures { λ r. ⌜ r ≡ countOf rec (now (log .entry)) «session_id» (now (buffer .entry)) .answer ⌝ }
     ensures { λ _. ⌜ now (buffer .exit) ≡ countOf rec (now (log .entry)) «session_id» (now (buffer .entry)) .buffer ⌝ }
 {
-    let mut replay = Replay::new(session_id);
+    let v = log_buffer_descriptor::read_active(rec);
+    let mut image = Image::new(0, session_id);
+    let mut assembler = FragmentAssembler::new();
+    let mut term = frames::open_term(image, v, log.len(), buffer.len());
     let mut messages: usize = 0;
     let mut bytes: usize = 0;
     let most = 3 * cast::word(rec.term_length) + 1;
     while messages < most {
+        let p = cast::long(image.position);
+        let n = frames::whole_at(log, term, p);
+        if n != 0 {
+            image.position = (p + (n + ALIGNMENT_MASK) / FRAME_ALIGNMENT * FRAME_ALIGNMENT) as i64;
+            bytes = added(bytes, n - HEADER_LENGTH);
+            messages = messages + 1;
+            continue;
+        }
+        let replay = Replay {
+            image: image,
+            assembler: assembler,
+        };
         let reply = replay.next(rec, log, buffer);
         let answer = reply.answer;
-        replay = reply.next;
+        let next = reply.next;
         if !gives(answer) {
             return count_of(answer, messages, bytes);
         }
+        image = next.image;
+        assembler = next.assembler;
+        term = frames::open_term(image, v, log.len(), buffer.len());
         bytes = added(bytes, length_of(answer));
         messages = messages + 1;
     }

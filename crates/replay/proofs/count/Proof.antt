@@ -1,26 +1,53 @@
--- The replies left, and what is counted so far, give the count that was asked for.
-use mathlib.Core.Path.{_≡_, refl, sym, ap, ap₂, _∙_}
-use Prim.Native.Nat.{ℕ, _+_, _-_, _*_, _≤_, _<_}
+-- The replies left, and what is counted so far, give the count that was asked for. A whole message is the reply of `next` there.
+use mathlib.Core.Path.{_≡_, refl, sym, ap, ap₂, subst, _∙_}
+use Prim.Native.Nat.{ℕ, _+_, _-_, _*_, _/_, _≤_, _<_}
+use mathlib.Core.List.{List}
 use native.Mathlib.Omega.{arith}
 use borrow.Author.Needs.{needs}
 use borrow.Author.Tests.{not-true, not-false}
 use lib.ListN.{length}
-use lib.IntN.{ℤ}
-use mir.Syntax.{w32}
+use lib.IntN.{ℤ, pos}
+use mir.Syntax.{w32, w64}
 use mir.Val.{toZ, ofZ}
-use mir.Facts.{toZ-ofZ}
-use Rattle.logbuffer.proofs.Signed.{word-by}
+use mir.Facts.{toZ-ofZ, toZ-pos}
+use Rattle.model.specs.declared.Reading.{Reading}
+use Rattle.model.specs.Bytes.{long}
+use Rattle.model.specs.LogBufferDescriptor.{reading}
+use Rattle.model.specs.FrameDescriptor.{align}
+use Rattle.model.specs.Image.{Image as State, movedTo}
+use Rattle.model.specs.Replay.{ReplayState}
+use Rattle.image.specs.declared.Image.{Image}
+use Rattle.image.specs.Images.{stateOf as imageState, imageOf}
+use Rattle.logbuffer.specs.declared.fragment_assembler.FragmentAssembler.{FragmentAssembler}
+use Rattle.logbuffer.specs.Assembler.{sessionsOf}
+use Rattle.logbuffer.proofs.Signed.{word-by, long-by}
+use Rattle.replay.specs.declared.Replay.{Replay}
+use Rattle.replay.specs.InPlace.{TermOrNone, wholeAt, openTerm, wholeOf}
 use Rattle.replay.specs.Replays.{Tally, stateOf, nextReplyOf, addedTo, countFrom, countOf}
+use Rattle.replay.proofs.InPlace.{open-fits, open-moved, whole-near, whole-says, wholeReply}
 use Rattle.replay.proofs.Turns.{count-none, count-stops, count-goes, count-starts}
 use Rattle.replay.proofs.count.Statement.{statement}
 use Rattle.replay.proofs.count.Tie as tie
 
+abbrev at : Image → FragmentAssembler → List ℕ → ReplayState
+at image assembler buffer = stateOf (record { image = image; assembler = assembler }) buffer
+
 abbrev Inv-loop : tie.InvT-loop
-Inv-loop rec log buffer₀ session-id replay₀ messages₀ bytes₀ most buffer replay messages bytes =
-    (length buffer ≡ length buffer₀) × ((messages ≤ most) × ((most < 18446744073709551615) × (countFrom (most - messages) rec log (stateOf replay buffer) messages bytes ≡ countOf rec log (toZ w32 session-id) buffer₀)))
+Inv-loop rec log buffer₀ session-id v image₀ assembler₀ term₀ messages₀ bytes₀ most buffer image assembler term messages bytes =
+    (length buffer ≡ length buffer₀) × ((messages ≤ most) × ((most < 18446744073709551615) × ((term ≡ openTerm (imageState image) (reading rec) (length log) (length buffer))
+    × (countFrom (most - messages) rec log (at image assembler buffer) messages bytes ≡ countFrom (most - 0) rec log (at image₀ assembler₀ buffer₀) 0 0))))
 
 abbrev μ-loop : tie.MeasureT-loop
-μ-loop rec log buffer₀ session-id replay₀ messages₀ bytes₀ most buffer replay messages bytes = most - messages
+μ-loop rec log buffer₀ session-id v image₀ assembler₀ term₀ messages₀ bytes₀ most buffer image assembler term messages bytes = most - messages
+
+abbrev st : tie.At-loop Inv-loop μ-loop → tie.Start Inv-loop μ-loop
+st l = l .before .before .before .before .before .before .before .before .before
+
+abbrev S : tie.At-loop Inv-loop μ-loop → ReplayState
+S l = at (l .loop .image) (l .loop .assembler) (l .loop .buffer)
+
+abbrev most : tie.At-loop Inv-loop μ-loop → ℕ
+most l = 3 * l .before .word .result + 1
 
 mul-most : tie.Need-mul-most Inv-loop μ-loop
 mul-most c = record { fits = omega (arith, c .word .ensures .1) }
@@ -28,48 +55,126 @@ mul-most c = record { fits = omega (arith, c .word .ensures .1) }
 add-most : tie.Need-add-most Inv-loop μ-loop
 add-most c = record { fits = omega (arith, c .word .ensures .1) }
 
+-- the first term, by the record as it is read
+term-first : (c : tie.After-word Inv-loop μ-loop) → let s = c .before .before .before .before .before .before .before .before in c .before .before .open-term .result ≡ openTerm (imageState (c .before .before .before .before .new .result)) (reading (s .args .rec)) (length (s .args .log .now)) (length (s .args .buffer .now))
+term-first c =
+    let s = c .before .before .before .before .before .before .before .before in
+    c .before .before .open-term .ensures ∙ ap (λ (v : Reading). openTerm (imageState (c .before .before .before .before .new .result)) v (length (s .args .log .now)) (length (s .args .buffer .now))) (c .before .before .before .before .before .read-active .ensures)
+
 loop-holds : tie.Need-loop-holds Inv-loop μ-loop
-loop-holds c =
-    let a = c .before .before .before .before .before .args in
-    let n = c .before .before .new in (
-      refl,
+loop-holds c = (refl, (omega arith, (omega (arith, c .word .ensures .1), (term-first c, refl))))
+
+-- what it is to come to
+goal : (l : tie.At-loop Inv-loop μ-loop) → countFrom (most l - l .loop .messages) (st l .args .rec) (st l .args .log .now) (S l) (l .loop .messages) (l .loop .bytes)
+    ≡ countOf (st l .args .rec) (st l .args .log .now) (st l .args .session-id) (st l .args .buffer .now)
+goal l =
+    let a = st l .args in
+    let w = l .before .word in
+    let z = toZ-ofZ (st l .fits .session-id) in
+    l .loop .inv .1 .1 .1 .1
+    ∙ count-starts (a .rec) (a .log .now) (record { image = l .before .before .before .before .before .new .result; assembler = l .before .before .before .before .new2 .result }) (toZ w32 (ofZ w32 (a .session-id))) (a .buffer .now) (w .result)
+    (ap imageState (l .before .before .before .before .before .new .ensures)) (l .before .before .before .before .new2 .ensures) (word-by (a .rec .«term_length») (w .ensures .0) (search needs))
+    ∙ ap (λ (y : ℤ). countOf (a .rec) (a .log .now) y (a .buffer .now)) z
+
+whole-at-requires : tie.Need-whole-at-requires Inv-loop μ-loop
+whole-at-requires c κs = subst TermOrNone (sym (c .before .before .before .loop .inv .1 .1 .1 .0)) (open-fits _ _ _ _)
+
+-- ---- a whole message
+
+module _ (c : tie.After-whole-at Inv-loop μ-loop) where
+  abbrev l : tie.At-loop Inv-loop μ-loop
+  l = c .before .before .before .before
+
+  abbrev n : ℕ
+  n = c .whole-at .result
+
+  p-is : c .before .long .result ≡ long (l .loop .image .position)
+  p-is = long-by (l .loop .image .position) (c .before .long .ensures .0) (search needs)
+
+  whole-is : wholeOf (st l .args .rec) (st l .args .log .now) (imageState (l .loop .image)) (length (l .loop .buffer)) ≡ n
+  whole-is = sym (c .whole-at .ensures ∙ ap₂ (wholeAt (st l .args .log .now)) (l .loop .inv .1 .1 .1 .0) p-is)
+
+  module _ (some : 0 < n) where
+    near : (c .before .long .result < 3221225472) × ((32 ≤ n) × (n < 2147483648))
+    near =
+        let h = whole-near (st l .args .rec) (st l .args .log .now) (imageState (l .loop .image)) (length (l .loop .buffer)) n whole-is some in
+        (omega (arith, h .0, p-is), h .1)
+
+    moved : toZ w64 (c .before .long .result + (n + 31) / 32 * 32) ≡ pos (long (l .loop .image .position) + align n)
+    moved = toZ-pos w64 (omega (arith, near)) ∙ ap (λ (x : ℕ). pos (x + align n)) p-is
+
+cast-image : tie.Need-cast-image Inv-loop μ-loop
+cast-image c = record { sfits = omega (arith, near (c .before) (omega (arith, c .if1 .taken))) }
+
+loop-again : tie.Need-loop-again Inv-loop μ-loop
+loop-again c =
+    let f = c .before .before in
+    let q = l f in
+    let a = st q .args in
+    let some : 0 < n f = omega (arith, c .before .if1 .taken) in
+    let z = moved f some in
+    let under : q .loop .messages < most q = omega (arith, c .before .before .before .before .before .loop-test) in
+    let g = count-goes (a .rec) (a .log .now) (S q) (q .loop .messages) (q .loop .bytes) (most q - q .loop .messages) (omega arith) (wholeReply (S q) (n f)) (whole-says (a .rec) (a .log .now) (S q) (n f) (whole-is f) some) refl in
+    let m : most q - (q .loop .messages + 1) ≡ most q - q .loop .messages - 1 = omega arith in
+    let stays = q .loop .inv .1 .1 .1 .0 ∙ sym (open-moved (imageState (q .loop .image)) (pos (long (q .loop .image .position) + align (n f))) (reading (a .rec)) (length (a .log .now)) (length (q .loop .buffer)))
+    ∙ ap (λ (y : ℤ). openTerm (movedTo (imageState (q .loop .image)) y) (reading (a .rec)) (length (a .log .now)) (length (q .loop .buffer))) (sym z) in (
+      q .loop .inv .0,
       (
         omega arith,
         (
-          omega (arith, c .word .ensures .1),
-          count-starts (a .rec) (a .log .now) (n .result) (toZ w32 (ofZ w32 (a .session-id))) (a .buffer .now) (c .word .result)
-              (n .ensures .0) (n .ensures .1) (word-by (a .rec .«term_length») (c .word .ensures .0) (search needs)),
+          q .loop .inv .1 .1 .0,
+          (
+            stays,
+            ap₂ (λ (i j : ℕ). countFrom i (a .rec) (a .log .now) (record { image = movedTo (imageState (q .loop .image)) (toZ w64 (f .before .long .result + (n f + 31) / 32 * 32)); sessions = sessionsOf (q .loop .assembler); buffer = q .loop .buffer }) (q .loop .messages + 1) j) m (c .added .ensures)
+                ∙ ap (λ (y : ℤ). countFrom (most q - q .loop .messages - 1) (a .rec) (a .log .now) (record { image = movedTo (imageState (q .loop .image)) y; sessions = sessionsOf (q .loop .assembler); buffer = q .loop .buffer }) (q .loop .messages + 1) (addedTo (q .loop .bytes) (n f - 32))) z
+                ∙ g ∙ q .loop .inv .1 .1 .1 .1,
+          ),
         ),
       ),
     )
 
+-- ---- by `next`
+
 returns : tie.Need-returns Inv-loop μ-loop
 returns c =
-    let a = c .before .before .before .before .before .before .before .before .before .before .before .before .before .before .before .args in
-    let l = c .before .before .before .before .before .before .before .before .before .loop in
-    let y = c .before .before .before .before .before .before .next in
-    let w = c .before .before .before .before .before .before .next .last .1 .1 .1 .0 in
-    let t = count-stops (a .rec) (a .log .now) (stateOf (l .replay) (l .buffer)) (l .messages) (l .bytes) ((3 * c .before .before .before .before .before .before .before .before .before .before .word .result + 1) - l .messages) (omega arith) (nextReplyOf (y .result) w) (y .ensures) (sym (c .before .before .gives .ensures) ∙ not-true _ (c .before .if1 .taken))
-    ∙ l .inv .1 .1 .1 ∙ ap (λ (z : ℤ). countOf (a .rec) (a .log .now) z (a .buffer .now)) (toZ-ofZ (c .before .before .before .before .before .before .before .before .before .before .before .before .before .before .before .fits .session-id)) in
+    let f = c .before .before .before .before .before .before in
+    let q = f .before .before .before .before .before .before .before in
+    let a = st q .args in
+    let w = f .next .last .1 .1 .1 .0 in
+    let under : q .loop .messages < most q = omega (arith, f .before .before .before .before .before .before .loop-test) in
+    let t = count-stops (a .rec) (a .log .now) (S q) (q .loop .messages) (q .loop .bytes) (most q - q .loop .messages) (omega arith) (nextReplyOf (f .next .result) w) (f .next .ensures) (sym (c .before .before .gives .ensures) ∙ not-true _ (c .before .if2 .taken)) ∙ goal q in
     (c .count-of .ensures ∙ ap (λ (x : Tally). x .answer) t, ap (λ (x : Tally). x .buffer) t)
 
-loop-again : tie.Need-loop-again Inv-loop μ-loop
-loop-again c =
-    let a = c .before .before .before .before .before .before .before .before .before .before .before .before .before .before .before .before .args in
-    let l = c .before .before .before .before .before .before .before .before .before .before .loop in
-    let y = c .before .before .before .before .before .before .before .next in
-    let w = c .before .before .before .before .before .before .before .next .last .1 .1 .1 .0 in
-    let g = count-goes (a .rec) (a .log .now) (stateOf (l .replay) (l .buffer)) (l .messages) (l .bytes) ((3 * c .before .before .before .before .before .before .before .before .before .before .before .word .result + 1) - l .messages) (omega arith) (nextReplyOf (y .result) w) (y .ensures) (sym (c .before .before .before .gives .ensures) ∙ not-false _ (c .before .before .if1 .left)) in
-    let m : (3 * c .before .before .before .before .before .before .before .before .before .before .before .word .result + 1) - (l .messages + 1) ≡ (3 * c .before .before .before .before .before .before .before .before .before .before .before .word .result + 1) - l .messages - 1 = omega arith in
-    let d = c .added .ensures ∙ ap (addedTo (l .bytes)) (c .before .length-of .ensures) in
-    (search needs, (omega arith, (l .inv .1 .1 .0, ap₂ (λ (i j : ℕ). countFrom i (a .rec) (a .log .now) (stateOf (y .result .next) w) (l .messages + 1) j) m d ∙ g ∙ l .inv .1 .1 .1)))
+loop-again-2 : tie.Need-loop-again-2 Inv-loop μ-loop
+loop-again-2 c =
+    let f = c .before .before .before .before .before .before .before .before .before .before in
+    let q = f .before .before .before .before .before .before .before in
+    let a = st q .args in
+    let w = f .next .last .1 .1 .1 .0 in
+    let under : q .loop .messages < most q = omega (arith, f .before .before .before .before .before .before .loop-test) in
+    let g = count-goes (a .rec) (a .log .now) (S q) (q .loop .messages) (q .loop .bytes) (most q - q .loop .messages) (omega arith) (nextReplyOf (f .next .result) w) (f .next .ensures) (sym (c .before .before .before .before .before .before .gives .ensures) ∙ not-false _ (c .before .before .before .before .before .if2 .left)) in
+    let m : most q - (q .loop .messages + 1) ≡ most q - q .loop .messages - 1 = omega arith in
+    let e = c .added2 .ensures ∙ ap (addedTo (q .loop .bytes)) (c .before .length-of .ensures) in
+    let same : length w ≡ length (a .buffer .now) = omega (arith, c .before .before .before .before .before .before .before .before .before .buffer .given, q .loop .inv .0) in
+    let t = c .before .before .open-term2 .ensures ∙ ap (λ (v : Reading). openTerm (imageState (f .next .result .next .image)) v (length (a .log .now)) (length w)) (q .before .before .before .before .before .before .read-active .ensures) in (
+      same,
+      (
+        omega arith,
+        (
+          q .loop .inv .1 .1 .0,
+          (
+            t,
+            ap₂ (λ (i j : ℕ). countFrom i (a .rec) (a .log .now) (stateOf (f .next .result .next) w) (q .loop .messages + 1) j) m e ∙ g ∙ q .loop .inv .1 .1 .1 .1,
+          ),
+        ),
+      ),
+    )
 
 returns-2 : tie.Need-returns-2 Inv-loop μ-loop
 returns-2 c =
-    let a = c .before .before .before .before .before .before .before .args in
-    let l = c .before .loop in
-    let t = count-none (a .rec) (a .log .now) (stateOf (l .replay) (l .buffer)) (l .messages) (l .bytes) ((3 * c .before .before .word .result + 1) - l .messages) (omega arith)
-    ∙ l .inv .1 .1 .1 ∙ ap (λ (z : ℤ). countOf (a .rec) (a .log .now) z (a .buffer .now)) (toZ-ofZ (c .before .before .before .before .before .before .before .fits .session-id)) in
+    let q = c .before in
+    let a = st q .args in
+    let t = count-none (a .rec) (a .log .now) (S q) (q .loop .messages) (q .loop .bytes) (most q - q .loop .messages) (omega arith) ∙ goal q in
     (ap (λ (x : Tally). x .answer) t, ap (λ (x : Tally). x .buffer) t)
 
 pub count-spec : {M : Type 1} → statement M
@@ -80,18 +185,33 @@ count-spec =
     μ-loop
     (search needs)
     (search needs)
+    (search needs)
+    (search needs)
+    (search needs)
     mul-most
     add-most
     loop-holds
     (search needs)
+    whole-at-requires
+    (λ c. omega (arith, near (c .before) (omega (arith, c .if1 .taken))))
+    (λ c. omega (arith, near (c .before) (omega (arith, c .if1 .taken))))
+    (λ c. omega (arith, near (c .before) (omega (arith, c .if1 .taken))))
+    cast-image
+    (λ c. omega (arith, near (c .before) (omega (arith, c .if1 .taken))))
     (search needs)
     (search needs)
     (search needs)
+    loop-again
+    (search needs)
+    (search needs)
+    (search needs)
+    (λ c. omega (arith, c .before .before .before .before .before .buffer .given, c .before .before .before .before .before .before .before .before .before .before .before .before .before .loop .inv .0))
     returns
     (search needs)
     (search needs)
     (search needs)
     (search needs)
-    loop-again
+    (search needs)
+    loop-again-2
     (search needs)
     returns-2)

@@ -1,71 +1,74 @@
--- The turns left and the replay as it stands give what was asked for.
-use mathlib.Core.Path.{_≡_, refl, _∙_}
+-- Row 1; a whole message, which is found as it lies; or the turns.
+use mathlib.Core.Path.{_≡_, refl, sym, ap, ap₂, _∙_}
+use Prim.Native.Nat.{ℕ, _+_, _-_, _*_, _/_, _≤_, _<_}
 use native.Mathlib.Omega.{arith}
 use borrow.Author.Needs.{needs}
-use borrow.Author.Tests.{not-true, not-false}
+use lib.IntN.{ℤ, pos}
 use lib.ListN.{length}
-use Rattle.model.specs.Replay.{nextFrom, nextOf}
-use Rattle.logbuffer.proofs.Signed.{word-by}
-use Rattle.replay.specs.Replays.{stateOf, turned}
-use Rattle.replay.proofs.Turns.{next-none, next-stops, next-goes, next-starts}
+use mir.Syntax.{w64}
+use mir.Facts.{toZ-pos}
+use Rattle.model.specs.declared.Replayed.the-variants.{InLog}
+use Rattle.model.specs.Bytes.{long}
+use Rattle.model.specs.Image.{movedTo}
+use Rattle.model.specs.Replay.{NextReply, giving}
+use Rattle.image.specs.Images.{stateOf as imageState}
+use Rattle.logbuffer.specs.Assembler.{sessionsOf}
+use Rattle.logbuffer.proofs.Signed.{long-by}
+use Rattle.replay.specs.Replays.{stateOf}
+use Rattle.replay.proofs.InPlace.{whole-near, whole-says}
+use Rattle.replay.proofs.Turns.{next-refused}
 use Rattle.replay.proofs.Replay.next.Statement.{statement}
 use Rattle.replay.proofs.Replay.next.Tie as tie
 
-abbrev Inv-loop : tie.InvT-loop
-Inv-loop self₀ rec log buffer₀ left₀ self buffer left =
-    (length buffer ≡ length buffer₀) × (nextFrom left rec log (stateOf self buffer) ≡ nextOf rec log (stateOf self₀ buffer₀))
+returns : tie.Need-returns
+returns c = let a = c .before .before .before .args in next-refused (a .rec) (a .log .now) (stateOf (a .self) (a .buffer .now)) (omega arith)
 
-abbrev μ-loop : tie.MeasureT-loop
-μ-loop self₀ rec log buffer₀ left₀ self buffer left = left
+turns-requires : tie.Need-turns-requires
+turns-requires c κs = omega (arith, c .before .before .before .before .if1 .left)
 
-mul-left : tie.Need-mul-left Inv-loop μ-loop
-mul-left c = record { fits = omega (arith, c .word .ensures .1) }
+module _ (c : tie.After-long) where
+  abbrev s : tie.Start
+  s = c .before .before .before .before .before .before .before .before
 
-add-left : tie.Need-add-left Inv-loop μ-loop
-add-left c = record { fits = omega (arith, c .word .ensures .1) }
+  abbrev n : ℕ
+  n = c .before .before .before .next-whole .result
 
-loop-holds : tie.Need-loop-holds Inv-loop μ-loop
-loop-holds c =
-    let a = c .before .before .before .before .args in
-    (refl, next-starts (a .rec) (a .log .now) (stateOf (a .self) (a .buffer .now)) (c .word .result) (word-by (a .rec .«term_length») (c .word .ensures .0) (search needs)))
+  p-is : c .long .result ≡ long (s .args .self .image .position)
+  p-is = long-by (s .args .self .image .position) (c .long .ensures .0) (search needs)
 
-returns : tie.Need-returns Inv-loop μ-loop
-returns c =
-    let a = c .before .before .before .before .before .before .before .before .before .before .before .before .before .before .before .args in
-    let l = c .before .before .before .before .before .before .before .before .before .before .loop in
-    let t = c .before .before .before .before .before .before .before .turn in
-    let w = t .last .1 .1 .1 .0 in
-    next-stops (a .rec) (a .log .now) (stateOf (l .self) (l .buffer)) (turned (t .result) w) (t .ensures) (l .left) (omega arith) (not-true _ (c .if1 .taken)) ∙ l .inv .1
+  some : 0 < n
+  some = omega (arith, c .before .before .if2 .left)
 
-loop-again : tie.Need-loop-again Inv-loop μ-loop
-loop-again c =
-    let a = c .before .before .before .before .before .before .before .before .before .before .before .before .before .before .before .args in
-    let l = c .before .before .before .before .before .before .before .before .before .before .loop in
-    let t = c .before .before .before .before .before .before .before .turn in
-    let w = t .last .1 .1 .1 .0 in
-    (search needs, next-goes (a .rec) (a .log .now) (stateOf (l .self) (l .buffer)) (turned (t .result) w) (t .ensures) (l .left) (omega arith) (not-false _ (c .if1 .left)) ∙ l .inv .1)
+  near : (c .long .result < 3221225472) × ((32 ≤ n) × (n < 2147483648))
+  near =
+      let h = whole-near (s .args .rec) (s .args .log .now) (imageState (s .args .self .image)) (length (s .args .buffer .now)) n (sym (c .before .before .before .next-whole .ensures)) some in
+      (omega (arith, h .0, p-is), h .1)
 
-returns-2 : tie.Need-returns-2 Inv-loop μ-loop
-returns-2 c =
-    let a = c .before .before .before .before .before .before .args in
-    let l = c .before .loop in
-    next-none (a .rec) (a .log .now) (stateOf (l .self) (l .buffer)) (l .left) (omega arith) ∙ l .inv .1
+cast-image : tie.Need-cast-image
+cast-image c = record { sfits = omega (arith, near c) }
+
+returns-3 : tie.Need-returns-3
+returns-3 c =
+    let a = s c .args in
+    let m = n c in
+    ap₂ {C = NextReply} (λ (z : ℤ) (x : ℕ). giving (record { image = movedTo (imageState (a .self .image)) z; sessions = sessionsOf (a .self .assembler); buffer = a .buffer .now }) (InLog (x + 32) (m - 32)))
+    (toZ-pos w64 (omega (arith, near c)) ∙ ap (λ (x : ℕ). pos (x + (m + 31) / 32 * 32)) (p-is c)) (p-is c)
+    ∙ whole-says (a .rec) (a .log .now) (stateOf (a .self) (a .buffer .now)) m (sym (c .before .before .before .next-whole .ensures)) (some c)
 
 pub next-spec : {M : Type 1} → statement M
 next-spec =
     tie.close
     (tie.spec
-    Inv-loop
-    μ-loop
-    (search needs)
-    mul-left
-    add-left
-    loop-holds
-    (search needs)
-    (search needs)
     returns
     (search needs)
+    turns-requires
     (search needs)
-    loop-again
+    (λ c. c .before .before .turns .ensures)
     (search needs)
-    returns-2)
+    (λ c. omega (arith, near c))
+    (λ c. omega (arith, near c))
+    (λ c. omega (arith, near c))
+    cast-image
+    (λ c. omega (arith, near c))
+    (λ c. omega (arith, near c))
+    returns-3)

@@ -1,0 +1,507 @@
+-- A data frame that is found as it lies is the fragment that a poll of one gives; a whole message is the reply that it leads to.
+use Prim.Native.Nat.{ℕ, zero, suc, _+_, _-_, _*_, _/_, _%_, _≤_, _<_}
+use mathlib.Core.Path.{_≡_, refl, sym, ap, ap₂, _∙_, subst}
+use mathlib.Core.Bool.{Bool, true, false, cond, _&&_, not}
+use mathlib.Core.List.{List, [], _∷_}
+use native.Mathlib.Nat.{mod-lt}
+use mathlib.Core.Logic.{⊎-elim}
+use native.Mathlib.Omega.{arith}
+use types.Run.{OneOf}
+use denote.Enum.Declared.{tagOf}
+use Rattle.model.proofs.Frame.{the-type}
+use Rattle.model.proofs.Assembled.{the-type as assembled-type}
+use Rattle.logbuffer.specs.Assembler.{joinOf}
+use Rattle.logbuffer.proofs.Assembly.{join-yes}
+use borrow.Author.Tests.{ne-eqb, le-leb, lt-leb, lt-ltb, le-ltb, eq-eqb, ltb-true, ltb-false, eqb-true, leb-true}
+use lib.Dec.{eqb, leb, ltb}
+use lib.IntN.{ℤ, pos}
+use lib.ListN.{length, drop, getD}
+use Rattle.model.specs.declared.LogRecord.{LogRecord}
+use Rattle.model.specs.declared.Reading.{Reading}
+use Rattle.model.specs.declared.Frame.{Frame}
+use Rattle.model.specs.declared.Frame.the-variants.{Absent, Unsound, Padding, Data}
+use Rattle.model.specs.declared.ReadVerdict.{ReadVerdict}
+use Rattle.model.specs.declared.ReadVerdict.the-variants.{Read}
+use Rattle.model.specs.declared.Verdict.the-variants.{Pass}
+use Rattle.model.specs.declared.FrameLength.{FrameLength}
+use Rattle.model.specs.declared.FrameLength.the-variants.{Free, Writing, Finished}
+use Rattle.model.specs.declared.Polled.{Polled}
+use Rattle.model.specs.declared.Polled.the-variants.{Fragments, Refused as PollRefused}
+use Rattle.model.specs.declared.Error.{Error}
+use Rattle.model.specs.declared.Assembled.{Assembled}
+use Rattle.model.specs.declared.Assembled.the-variants.{Nothing, Fragment, Message, Refused as AssemblyRefused}
+use Rattle.model.specs.declared.Joining.{Joining}
+use Rattle.model.specs.declared.Joining.the-variants.{Through, Ignore, Full, TooLong, Join, Complete}
+use Rattle.model.specs.declared.Replayed.the-variants.{InLog, InBuffer, End, Refused as ReplayRefused}
+use Rattle.model.specs.Bytes.{long, u32}
+use Rattle.model.specs.DataFrameHeader.{headerAt}
+use Rattle.model.specs.FrameDescriptor.{align, isFinished, lengthAt, unsoundLength, frameBy, frameAt, isUnsound, flagsAt, begins, ends}
+use Rattle.model.specs.LogBufferDescriptor.{reading, sound, greatest, partitionOf, goodPartition, goodOffset}
+use Rattle.model.specs.TermReader.{natural, Walked, still, handed, walk, firstUnsound, goodEntries, laid, numbers}
+use Rattle.model.specs.Image.{Image, PollReply, movedTo, readable, goodPosition, walkAt, unsoundAt, pollReply, pollVerdict, pollOf}
+use Rattle.model.specs.FragmentAssembler.{Sessions, Assembly, sessionAt, assembledBy, joining, joined, joinedAt, goodAssembly, assembleVerdict, assembleBy, assembleOf}
+use Rattle.model.specs.Replay.{ReplayState, NextReply, giving, givenBy, assembledTo, pollOne, assembleOne, turnBy, nextFrom, nextOf}
+use Rattle.model.proofs.Both.{and-true, and-false, both-true}
+use Rattle.model.proofs.Choice.{cond-true, cond-false, cond-case, le-yes, le-no}
+use Rattle.model.proofs.FrameLaws.{Lies, lies, finished-word}
+use Rattle.model.proofs.WalkLaws.{walk-turn, walk-full}
+use Rattle.model.proofs.Replaying.{place-is}
+use Rattle.model.proofs.Sound.{sound-true}
+use Rattle.image.proofs.Rungs.{position-by, in-range, poll-by}
+use Rattle.image.proofs.Places.{at-place}
+use Rattle.replay.specs.InPlace.{TermOrNone, dataLength, dataAt, wholeAt, openTerm, wholeOf, keptAs, repliedBy, isRefused}
+use Rattle.replay.proofs.Turns.{next-stops, next-from, refused-keeps}
+use Rattle.replay.specs.Replays.{elsewhereOn, Turned, stops, goesOn, fragmentTurn, turnSaid, turnOf}
+
+-- ---- what the tests say
+
+data-only : (x : Frame) (n : ℕ) → dataLength x ≡ n → 0 < n → x ≡ Data n
+data-only Absent n e h = absurd (omega arith)
+data-only (Unsound m) n e h = absurd (omega arith)
+data-only (Padding m) n e h = absurd (omega arith)
+data-only (Data m) n e h = ap Data e
+
+pub record DataAt (log : List ℕ) (term p n : ℕ) : Type 0 where
+  pub below : p < 3 * term
+  pub p-32 : p % 32 ≡ 0
+  pub frame : frameAt (drop p log) (term - p % term) ≡ Data n
+
+pub data-found : (log : List ℕ) (term p n : ℕ) → dataAt log term p ≡ n → 0 < n → DataAt log term p n
+unfolding dataAt
+data-found log term p n e h =
+    cond-case (λ (m : ℕ). m ≡ n → DataAt log term p n) (ltb p (3 * term) && eqb (p % 32) 0) (dataLength (frameAt (drop p log) (term - p % term))) 0
+    (λ t q. let a = and-true (ltb p (3 * term)) (eqb (p % 32) 0) t in
+    record { below = ltb-true _ _ (a .0); p-32 = eqb-true _ _ (a .1); frame = data-only _ n q h })
+    (λ t q. absurd (omega arith)) e
+
+-- by the tests of the code
+pub no-data : (x : Frame) → OneOf (0 ∷ 1 ∷ 2 ∷ []) (tagOf the-type x) → dataLength x ≡ 0
+no-data Absent h = refl
+no-data (Unsound m) h = refl
+no-data (Padding m) h = refl
+no-data (Data m) h = absurd (⊎-elim (λ e. omega arith) (⊎-elim (λ e. omega arith) (λ e. omega arith)) h)
+
+module _ (log : List ℕ) (term p : ℕ) where
+  pub data-past : 3 * term ≤ p → 0 ≡ dataAt log term p
+  unfolding dataAt
+  data-past h = sym (ap (λ (b : Bool). cond (b && eqb (p % 32) 0) (dataLength (frameAt (drop p log) (term - p % term))) 0) (le-ltb p (3 * term) h))
+
+  pub data-off : ¬ (p % 32 ≡ 0) → 0 ≡ dataAt log term p
+  unfolding dataAt
+  data-off h = sym (ap (λ (b : Bool). cond (ltb p (3 * term) && b) (dataLength (frameAt (drop p log) (term - p % term))) 0) (ne-eqb (p % 32) 0 h) ∙ none (ltb p (3 * term)))
+    where
+      none : (b : Bool) → cond (b && false) (dataLength (frameAt (drop p log) (term - p % term))) 0 ≡ 0
+      none true = refl
+      none false = refl
+
+  pub data-by : p < 3 * term → p % 32 ≡ 0 → dataLength (frameAt (drop p log) (term - p % term)) ≡ dataAt log term p
+  unfolding dataAt
+  data-by h e = sym (cond-true (ltb p (3 * term) && eqb (p % 32) 0) _ 0 (both-true (lt-ltb p (3 * term) h) (eq-eqb (p % 32) 0 e)))
+
+  -- the two flags stand side by side
+  both-bits : (x : ℕ) → x % 2 ≡ 1 → x / 2 % 2 ≡ 1 → x % 4 ≡ 3
+  both-bits x a b = omega arith
+
+  pub not-whole : (f : ℕ) → f ≡ flagsAt (drop p log) → ¬ (f / 64 % 4 ≡ 3) → 0 ≡ wholeAt log term p
+  unfolding wholeAt
+  not-whole f e h = sym (ap (λ (x : ℕ). cond (begins x && ends x) (dataAt log term p) 0) (sym e) ∙ cond-false (begins f && ends f) (dataAt log term p) 0 (go (begins f) (ends f) refl refl))
+    where
+      halves : f / 64 / 2 ≡ f / 128
+      halves = omega arith
+
+      go : (a b : Bool) → begins f ≡ a → ends f ≡ b → (a && b) ≡ false
+      go true true ea eb = absurd (h (both-bits (f / 64) (eqb-true (f / 64 % 2) 1 eb) (ap (λ (x : ℕ). x % 2) halves ∙ eqb-true (f / 128 % 2) 1 ea)))
+      go true false ea eb = refl
+      go false b ea eb = refl
+
+  pub whole-by : (f : ℕ) → f ≡ flagsAt (drop p log) → f / 64 % 4 ≡ 3 → dataAt log term p ≡ wholeAt log term p
+  unfolding wholeAt
+  whole-by f e h =
+      sym (ap (λ (x : ℕ). cond (begins x && ends x) (dataAt log term p) 0) (sym e)
+      ∙ cond-true (begins f && ends f) (dataAt log term p) 0 (both-true (eq-eqb (f / 128 % 2) 1 (omega arith)) (eq-eqb (f / 64 % 2) 1 (omega arith))))
+
+pub record WholeAt (log : List ℕ) (term p n : ℕ) : Type 0 where
+  pub found : DataAt log term p n
+  pub begins-so : begins (flagsAt (drop p log)) ≡ true
+  pub ends-so : ends (flagsAt (drop p log)) ≡ true
+
+pub whole-found : (log : List ℕ) (term p n : ℕ) → wholeAt log term p ≡ n → 0 < n → WholeAt log term p n
+unfolding wholeAt
+whole-found log term p n e h =
+    cond-case (λ (m : ℕ). m ≡ n → WholeAt log term p n) (begins (flagsAt (drop p log)) && ends (flagsAt (drop p log))) (dataAt log term p) 0
+    (λ t q. let a = and-true (begins (flagsAt (drop p log))) (ends (flagsAt (drop p log))) t in
+    record { found = data-found log term p n q h; begins-so = a .0; ends-so = a .1 })
+    (λ t q. absurd (omega arith)) e
+
+pub record Open (i : Image) (v : Reading) (n lent term : ℕ) : Type 0 where
+  pub lent-so : lent ≤ 2147483647
+  pub is-open : i .closed ≡ false
+  pub sound-so : sound v n ≡ true
+  pub term-is : v .term ≡ term
+
+not-so : (b : Bool) → not b ≡ true → b ≡ false
+not-so true h = absurd (let z : _≡_ {A = ℕ} 0 1 = cc in omega arith)
+not-so false h = refl
+
+pub open-found : (i : Image) (v : Reading) (n lent term : ℕ) → openTerm i v n lent ≡ term → 0 < term → Open i v n lent term
+unfolding openTerm
+open-found i v n lent term e h =
+    cond-case (λ (m : ℕ). m ≡ term → Open i v n lent term) (leb lent 2147483647 && (not (i .closed) && sound v n)) (v .term) 0
+    (λ t q. let a = and-true (leb lent 2147483647) _ t in
+    let b = and-true (not (i .closed)) (sound v n) (a .1) in
+    record { lent-so = leb-true _ _ (a .0); is-open = not-so (i .closed) (b .0); sound-so = b .1; term-is = q })
+    (λ t q. absurd (omega arith)) e
+
+-- what a data frame says of its length word
+pub record DataSays (s : List ℕ) (room n : ℕ) : Type 0 where
+  pub finished : isFinished (lengthAt s) ≡ true
+  pub word : n ≡ u32 s
+  pub sound-so : unsoundLength n room ≡ false
+
+says-by : (t room n : ℕ) (x : FrameLength) → frameBy t room x ≡ Data n → (x ≡ Finished n) × (unsoundLength n room ≡ false)
+says-by t room n Free e = absurd (let z : _≡_ {A = ℕ} 0 1 = cc in omega arith)
+says-by t room n (Writing m) e = absurd (let z : _≡_ {A = ℕ} 0 1 = cc in omega arith)
+says-by t room n (Finished m) e = go (unsoundLength m room) (eqb t 0) refl e
+  where
+    go : (a b : Bool) → unsoundLength m room ≡ a → cond a (Unsound m) (cond b (Padding m) (Data m)) ≡ Data n → (Finished m ≡ Finished n) × (unsoundLength n room ≡ false)
+    go true b q e = absurd (let z : _≡_ {A = ℕ} 0 1 = cc in omega arith)
+    go false true q e = absurd (let z : _≡_ {A = ℕ} 0 1 = cc in omega arith)
+    go false false q e = let f : m ≡ n = cc in (ap Finished f, ap (λ (x : ℕ). unsoundLength x room) (sym f) ∙ q)
+
+pub data-says : (s : List ℕ) (room n : ℕ) → frameAt s room ≡ Data n → DataSays s room n
+unfolding frameAt
+data-says s room n e =
+    let q = says-by (headerAt s .type) room n (lengthAt s) e in
+    record { finished = ap isFinished (q .0); word = finished-word (u32 s) n (q .0) .0; sound-so = q .1 }
+
+-- ---- a poll of one at a data frame
+
+module _ (r : LogRecord) (log : List ℕ) (s : ReplayState) (n : ℕ) (sound-so : sound (reading r) (length log) ≡ true) (is-open : s .image .closed ≡ false)
+    (d : DataAt log (reading r .term) (long (s .image .position)) n) where
+  abbrev v : Reading
+  v = reading r
+
+  abbrev T : ℕ
+  T = v .term
+
+  abbrev i : Image
+  i = s .image
+
+  abbrev p : ℕ
+  p = long (i .position)
+
+  abbrev k : ℕ
+  k = partitionOf p T
+
+  some : 0 < T
+  some = omega (arith, sound-true v (length log) sound-so .term-low)
+
+  here : k * T + p % T ≡ p
+  here = place-is T p some (d .below)
+
+  seen : frameAt (drop (k * T + p % T) log) (T - p % T) ≡ Data n
+  seen = ap (λ (x : ℕ). frameAt (drop x log) (T - p % T)) here ∙ d .frame
+
+  long-so : Lies n (T - p % T)
+  long-so = lies _ _ (Data n) seen refl
+
+  under : p % T < T
+  under = mod-lt p some
+
+  one : (f : ℕ) → T ≡ suc f → walkAt v log p T 1 [] ≡ handed (p % T) n (ends (flagsAt (drop (k * T + p % T) log))) still
+  one f e =
+      ap (λ (x : ℕ). walk x log (k * T) T T (p % T) 1 []) e
+      ∙ walk-turn log (k * T) T T f (p % T) 0 [] (Data n) under seen
+      ∙ ap (handed (p % T) n (ends (flagsAt (drop (k * T + p % T) log)))) (walk-full log (k * T) T T f (p % T + align n) [])
+
+  walked : walkAt v log p T 1 [] ≡ handed (p % T) n (ends (flagsAt (drop (k * T + p % T) log))) still
+  walked = let e : T ≡ suc (T - 1) = omega (arith, some) in one (T - 1) e
+
+  no-unsound : unsoundAt v log p T 1 ≡ false
+  no-unsound = rw seen (and-no (ltb (p % T) T))
+    where
+      and-no : (b : Bool) → (b && false) ≡ false
+      and-no true = refl
+      and-no false = refl
+
+  let-in : Read ≡ readable (goodEntries 2 1) v (length log) i Read
+  let-in =
+      let g : goodPosition v p ≡ true = in-range v p p refl (omega (arith, d .below, some)) (d .p-32) in
+      position-by (goodEntries 2 1) v (length log) i true g refl sound-so is-open Read
+
+  judged : Read ≡ pollVerdict v log i (goodEntries 2 1) T 1
+  judged = poll-by v log i (goodEntries 2 1) T 1 false no-unsound let-in
+
+  abbrev moved : Image
+  moved = movedTo i (pos (p + align n))
+
+  pub data-poll : pollOne r log i ≡ record { answer = Fragments 1 1; next = moved; slots = pos (p % T + 32) ∷ pos (n - 32) ∷ [] }
+  unfolding pollOf laid numbers
+  data-poll =
+      ap₂ (λ (w : Walked) (x : ReadVerdict). pollReply i (pos 0 ∷ pos 0 ∷ []) w x) walked (sym judged)
+      ∙ ap (λ (m : ℕ). record { answer = Fragments 1 1; next = movedTo i (pos (p + m)); slots = pos (p % T + 32) ∷ pos (n - 32) ∷ [] }) (let z : align n + 0 ≡ align n = omega arith in z)
+
+  -- ---- and the assembler is given that frame
+
+  module _ (lent-so : length (s .buffer) ≤ 2147483647) where
+    abbrev joined· : Assembly
+    joined· = joinedAt (s .sessions) (s .buffer) (drop p log) (p % T)
+
+    passes : assembleVerdict v log (length (s .buffer)) k (p % T) ≡ Pass
+    unfolding assembleVerdict
+    passes =
+        let q = data-says (drop (k * T + p % T) log) (T - p % T) n seen in
+        let a = at-place v (length log) p sound-so (d .p-32) in
+        let g : goodAssembly v log (length (s .buffer)) k (p % T) ≡ true =
+        both-true (le-leb _ _ lent-so) (both-true (le-leb _ _ (a .partition)) (both-true (both-true (eq-eqb _ _ (a .at-32)) (both-true (le-leb (p % T + 1) T (omega (arith, a .below))) (le-leb T 2147483647 (omega (arith, a .term-high)))))
+        (both-true (le-leb (k * T + p % T + 4) (length log) (omega (arith, a .inside, long-so .inside, long-so .header, a .below))) (q .finished)))) in
+        let u : unsoundLength (u32 (drop (k * T + p % T) log)) (T - p % T) ≡ false = ap (λ (x : ℕ). unsoundLength x (T - p % T)) (sym (q .word)) ∙ q .sound-so in
+        rw (g, sound-so, u)
+
+    pub data-given : assembleOf r log (s .sessions) (s .buffer) (pos k) (pos (p % T)) ≡ joined·
+    unfolding assembleOf
+    data-given =
+        ap (assembleBy (s .sessions) (s .buffer) (drop (k * T + p % T) log) (p % T)) passes
+        ∙ ap (λ (x : ℕ). joinedAt (s .sessions) (s .buffer) (drop x log) (p % T)) here
+
+    -- the turn by a poll's reply
+    abbrev by-poll : PollReply → Polled → Turned
+    by-poll y (PollRefused e) = stops s (ReplayRefused e)
+    by-poll y (Fragments a m) =
+        cond (leb (3 * T) p) (stops s End)
+        (cond (eqb m 0)
+        (cond (eqb (long (y .next .position)) p) (stops s End) (goesOn (record { image = y .next; sessions = s .sessions; buffer = s .buffer })))
+        (fragmentTurn (k * T) s
+        (assembledTo (y .next) (assembleOf r log (s .sessions) (s .buffer) (pos k) (pos (natural (getD (y .slots) 0 (pos 0)) - 32))))
+        (assembleOf r log (s .sessions) (s .buffer) (pos k) (pos (natural (getD (y .slots) 0 (pos 0)) - 32)) .answer)))
+
+    turn-is : (x : Polled) → turnSaid r log s x ≡ by-poll (pollOne r log i) x
+    turn-is (PollRefused e) = refl
+    turn-is (Fragments a m) = refl
+
+    -- so a turn here is the fragment's
+    pub data-turn : turnOf r log s ≡ fragmentTurn (k * T) s (assembledTo moved joined·) (joined· .answer)
+    data-turn =
+        turn-is (pollOne r log i .answer)
+        ∙ ap (λ (y : PollReply). by-poll y (y .answer)) data-poll
+        ∙ le-no (3 * T) p (stops s End) _ (d .below)
+        ∙ ap (λ (a : Assembly). fragmentTurn (k * T) s (assembledTo moved a) (a .answer)) (ap (λ (x : ℕ). assembleOf r log (s .sessions) (s .buffer) (pos k) (pos x)) (let z : p % T + 32 - 32 ≡ p % T = omega arith in z) ∙ data-given)
+
+-- ---- a whole message passes through
+
+through : (s : Sessions) (z : ℤ) (flags n part : ℕ) → begins flags ≡ true → ends flags ≡ true → joining s z flags n part ≡ Through
+unfolding joining
+through s z flags n part b e = cond-true (begins flags && ends flags) Through _ (both-true b e)
+
+-- the reply that a whole message at the position gives
+abbrev pub wholeReply : ReplayState → ℕ → NextReply
+wholeReply s n =
+    giving (record { image = movedTo (s .image) (pos (long (s .image .position) + align n)); sessions = s .sessions; buffer = s .buffer })
+    (InLog (long (s .image .position) + 32) (n - 32))
+
+module _ (r : LogRecord) (log : List ℕ) (s : ReplayState) (n : ℕ) (sound-so : sound (reading r) (length log) ≡ true) (is-open : s .image .closed ≡ false) (lent-so : length (s .buffer) ≤ 2147483647)
+    (w : WholeAt log (reading r .term) (long (s .image .position)) n) where
+  abbrev T· : ℕ
+  T· = reading r .term
+
+  abbrev p· : ℕ
+  p· = long (s .image .position)
+
+  joins : joinedAt (s .sessions) (s .buffer) (drop p· log) (p· % T·) ≡ record { answer = Fragment (p· % T· + 32) (n - 32); next = s .sessions; buffer = s .buffer }
+  joins =
+      let q = data-says (drop p· log) (T· - p· % T·) n (w .found .frame) in
+      ap (joined (s .sessions) (s .buffer) (drop p· log) (p· % T·)) (through (s .sessions) _ (flagsAt (drop p· log)) _ _ (w .begins-so) (w .ends-so))
+      ∙ ap (λ (x : ℕ). record { answer = Fragment (p· % T· + 32) (x - 32); next = s .sessions; buffer = s .buffer }) (sym (q .word))
+
+  whole-turn : turnOf r log s ≡ stops (wholeReply s n .next) (InLog (p· + 32) (n - 32))
+  whole-turn =
+      let z : partitionOf p· T· * T· + p· % T· ≡ p· = here r log s n sound-so is-open (w .found) in
+      data-turn r log s n sound-so is-open (w .found) lent-so
+      ∙ ap (λ (a : Assembly). fragmentTurn (partitionOf p· T· * T·) s (assembledTo (movedTo (s .image) (pos (p· + align n))) a) (a .answer)) joins
+      ∙ ap (λ (x : ℕ). stops (wholeReply s n .next) (InLog x (n - 32))) (let y : partitionOf p· T· * T· + (p· % T· + 32) ≡ p· + 32 = omega (arith, z) in y)
+
+  pub whole-next : wholeReply s n ≡ nextOf r log s
+  whole-next =
+      next-stops r log s _ (sym whole-turn) (suc (3 * T·)) (omega arith) refl ∙ next-from r log s lent-so
+
+-- the same by the one number that says it
+pub whole-says : (r : LogRecord) (log : List ℕ) (s : ReplayState) (n : ℕ) → wholeOf r log (s .image) (length (s .buffer)) ≡ n → 0 < n → wholeReply s n ≡ nextOf r log s
+whole-says r log s n e h =
+    let term = openTerm (s .image) (reading r) (length log) (length (s .buffer)) in
+    let w = whole-found log term (long (s .image .position)) n e h in
+    let o = open-found (s .image) (reading r) (length log) (length (s .buffer)) term refl (omega (arith, w .found .below)) in
+    whole-next r log s n (o .sound-so) (o .is-open) (o .lent-so) (subst (λ (t : ℕ). WholeAt log t (long (s .image .position)) n) (sym (o .term-is)) w)
+
+-- and its numbers are near
+pub whole-near : (r : LogRecord) (log : List ℕ) (i : Image) (lent n : ℕ) → wholeOf r log i lent ≡ n → 0 < n → (long (i .position) < 3221225472) × ((32 ≤ n) × (n < 2147483648))
+whole-near r log i lent n e h =
+    let term = openTerm i (reading r) (length log) lent in
+    let w = whole-found log term (long (i .position)) n e h in
+    let o = open-found i (reading r) (length log) lent term refl (omega (arith, w .found .below)) in
+    let k = sound-true _ _ (o .sound-so) in
+    let y : Lies n (term - long (i .position) % term) = lies _ _ (Data n) (w .found .frame) refl in
+    (omega (arith, w .found .below, o .term-is, k .term-high), (y .header, y .small))
+
+-- an image that moves stays open
+pub open-moved : (i : Image) (z : ℤ) (v : Reading) (n lent : ℕ) → openTerm (movedTo i z) v n lent ≡ openTerm i v n lent
+unfolding openTerm
+open-moved i z v n lent = refl
+
+-- ---- what the inner functions ask
+
+pub open-fits : (i : Image) (v : Reading) (n lent : ℕ) → TermOrNone (openTerm i v n lent)
+unfolding openTerm
+open-fits i v n lent =
+    cond-case TermOrNone (leb lent 2147483647 && (not (i .closed) && sound v n)) (v .term) 0
+    (λ t. let k = sound-true v n (and-true (not (i .closed)) (sound v n) (and-true (leb lent 2147483647) _ t .1) .1) in
+    record { high = k .term-high; one-bit = λ _. k .one-bit })
+    (λ t. record { high = omega arith; one-bit = λ h. absurd (omega arith) })
+
+-- ---- by the tests of the code
+
+module _ (i : Image) (v : Reading) (n lent : ℕ) where
+  abbrev Opens : Bool
+  Opens = leb lent 2147483647 && (not (i .closed) && sound v n)
+
+  shut : Opens ≡ false → 0 ≡ openTerm i v n lent
+  unfolding openTerm
+  shut h = sym (cond-false Opens (v .term) 0 h)
+
+  pub shut-lent : 2147483647 < lent → 0 ≡ openTerm i v n lent
+  shut-lent h = shut (ap (λ (b : Bool). b && (not (i .closed) && sound v n)) (lt-leb lent 2147483647 h))
+
+  pub shut-closed : i .closed ≡ true → 0 ≡ openTerm i v n lent
+  shut-closed h = shut (ap (λ (b : Bool). leb lent 2147483647 && (not b && sound v n)) h ∙ and-false (leb lent 2147483647))
+
+  pub shut-unsound : sound v n ≡ false → 0 ≡ openTerm i v n lent
+  shut-unsound h = shut (ap (λ (b : Bool). leb lent 2147483647 && (not (i .closed) && b)) h ∙ ap (λ (b : Bool). leb lent 2147483647 && b) (and-false (not (i .closed))) ∙ and-false (leb lent 2147483647))
+
+  pub opened : lent ≤ 2147483647 → i .closed ≡ false → sound v n ≡ true → v .term ≡ openTerm i v n lent
+  unfolding openTerm
+  opened h c s = sym (cond-true Opens (v .term) 0 (both-true (le-leb lent 2147483647 h) (both-true (ap not c) s)))
+
+-- ---- a fragment given to the assembler's core
+
+pub kept-refused : (s t : Sessions) (a : Assembled) (e : Error) → a ≡ AssemblyRefused e → s ≡ keptAs s t a
+kept-refused s t a e h = ap (keptAs s t) (sym h)
+
+pub kept-else : (s t : Sessions) (a : Assembled) → OneOf (0 ∷ 1 ∷ 2 ∷ []) (tagOf assembled-type a) → t ≡ keptAs s t a
+kept-else s t Nothing h = refl
+kept-else s t (Fragment at n) h = refl
+kept-else s t (Message at n) h = refl
+kept-else s t (AssemblyRefused e) h = absurd (⊎-elim (λ e. omega arith) (⊎-elim (λ e. omega arith) (λ e. omega arith)) h)
+
+-- what passes through is the body that was asked for
+passes-through : (at n part a m : ℕ) (x : Joining) → assembledBy at n part x ≡ Fragment a m → (a ≡ at) × (m ≡ n)
+passes-through at n part a m Through h = (cc, cc)
+passes-through at n part a m Ignore h = absurd (let z : _≡_ {A = ℕ} 0 1 = cc in omega arith)
+passes-through at n part a m Full h = absurd (let z : _≡_ {A = ℕ} 0 1 = cc in omega arith)
+passes-through at n part a m (TooLong k) h = absurd (let z : _≡_ {A = ℕ} 0 1 = cc in omega arith)
+passes-through at n part a m (Join k from) h = absurd (let z : _≡_ {A = ℕ} 0 1 = cc in omega arith)
+passes-through at n part a m (Complete k from) h = absurd (let z : _≡_ {A = ℕ} 0 1 = cc in omega arith)
+
+-- the turn by the core's assembly, told by where the frame lies
+abbrev pub placedTurn : ReplayState → ReplayState → ℕ → ℕ → Assembled → Turned
+placedTurn s t p n Nothing = goesOn t
+placedTurn s t p n (Fragment at m) = stops t (InLog (p + 32) (n - 32))
+placedTurn s t p n (Message at m) = stops t (InBuffer at m)
+placedTurn s t p n (AssemblyRefused e) = stops s (ReplayRefused e)
+
+module _ (r : LogRecord) (log : List ℕ) (s : ReplayState) (n : ℕ) (sound-so : sound (reading r) (length log) ≡ true) (is-open : s .image .closed ≡ false) (lent-so : length (s .buffer) ≤ 2147483647)
+    (d : DataAt log (reading r .term) (long (s .image .position)) n) (ids-16 : length (s .sessions .ids) ≡ 16) where
+  abbrev T′ : ℕ
+  T′ = reading r .term
+
+  abbrev p′ : ℕ
+  p′ = long (s .image .position)
+
+  says : DataSays (drop p′ log) (T′ - p′ % T′) n
+  says = data-says (drop p′ log) (T′ - p′ % T′) n (d .frame)
+
+  frame-in : p′ + n ≤ length log
+  frame-in =
+      let k = sound-true (reading r) (length log) sound-so in
+      let l : Lies n (T′ - p′ % T′) = lies _ _ (Data n) (d .frame) refl in
+      let a = at-place (reading r) (length log) p′ sound-so (d .p-32) in
+      omega (arith, here r log s n sound-so is-open d, a .inside, a .below, l .inside)
+
+  abbrev J : Assembly
+  J = joinOf (s .sessions) (s .buffer) log p′ (p′ % T′)
+
+  join-is : joinedAt (s .sessions) (s .buffer) (drop p′ log) (p′ % T′) ≡ J
+  join-is =
+      let l : Lies n (T′ - p′ % T′) = lies _ _ (Data n) (d .frame) refl in
+      let a = at-place (reading r) (length log) p′ sound-so (d .p-32) in
+      join-yes (s .sessions) (s .buffer) log p′ (p′ % T′)
+      (record { finished = says .finished; header = omega (arith, l .header, says .word); whole = omega (arith, frame-in, says .word) })
+      (omega (arith, a .below, a .term-high)) ids-16
+
+  abbrev moved′ : ReplayState
+  moved′ = assembledTo (movedTo (s .image) (pos (p′ + align n))) J
+
+  pub given-turn : (a : Assembled) → J .answer ≡ a → turnOf r log s ≡ placedTurn s moved′ p′ n a
+  given-turn a e =
+      data-turn r log s n sound-so is-open d lent-so
+      ∙ ap (λ (y : Assembly). fragmentTurn (partitionOf p′ T′ * T′) s (assembledTo (movedTo (s .image) (pos (p′ + align n))) y) (y .answer)) join-is
+      ∙ ap (fragmentTurn (partitionOf p′ T′ * T′) s moved′) e ∙ by a (ap (λ (y : Assembly). y .answer) join-is ∙ e)
+    where
+      by : (a : Assembled) → joinedAt (s .sessions) (s .buffer) (drop p′ log) (p′ % T′) .answer ≡ a → fragmentTurn (partitionOf p′ T′ * T′) s moved′ a ≡ placedTurn s moved′ p′ n a
+      by Nothing h = refl
+      by (Fragment at m) h =
+          let frame = drop p′ log in
+          let q = passes-through (p′ % T′ + 32) (u32 frame - 32) (length (s .buffer) / 16) at m (joining (s .sessions) (sessionAt frame) (flagsAt frame) (u32 frame - 32) (length (s .buffer) / 16)) h in
+          let z = here r log s n sound-so is-open d in
+          let w = says .word in
+          let x : partitionOf p′ T′ * T′ + at ≡ p′ + 32 = omega (arith, q .0, z) in
+          let y : m ≡ n - 32 = omega (arith, q .1, w) in
+          ap₂ (λ (i j : ℕ). stops moved′ (InLog i j)) x y
+      by (Message at m) h = refl
+      by (AssemblyRefused x) h = refl
+
+  -- a refused fragment leaves the buffer
+  pub refused-left : (e : Error) → J .answer ≡ AssemblyRefused e → J .buffer ≡ s .buffer
+  refused-left e h =
+      let g = data-given r log s n sound-so is-open d lent-so ∙ join-is in
+      ap (λ (y : Assembly). y .buffer) (sym g) ∙ refused-keeps r log (s .sessions) (s .buffer) (pos (partitionOf p′ T′)) (pos (p′ % T′)) e (ap (λ (y : Assembly). y .answer) g ∙ h)
+
+-- the same turn by whether it was refused, and whether it goes on
+pub placed-refused : (s t : ReplayState) (p n : ℕ) (a : Assembled) → isRefused a ≡ true → placedTurn s t p n a ≡ stops s (repliedBy p n a)
+placed-refused s t p n Nothing h = absurd (let z : _≡_ {A = ℕ} 0 1 = cc in omega arith)
+placed-refused s t p n (Fragment at m) h = absurd (let z : _≡_ {A = ℕ} 0 1 = cc in omega arith)
+placed-refused s t p n (Message at m) h = absurd (let z : _≡_ {A = ℕ} 0 1 = cc in omega arith)
+placed-refused s t p n (AssemblyRefused e) h = refl
+
+pub placed-stops : (s t : ReplayState) (p n : ℕ) (a : Assembled) → isRefused a ≡ false → elsewhereOn a ≡ false → placedTurn s t p n a ≡ stops t (repliedBy p n a)
+placed-stops s t p n Nothing h k = absurd (let z : _≡_ {A = ℕ} 0 1 = cc in omega arith)
+placed-stops s t p n (Fragment at m) h k = refl
+placed-stops s t p n (Message at m) h k = refl
+placed-stops s t p n (AssemblyRefused e) h k = absurd (let z : _≡_ {A = ℕ} 0 1 = cc in omega arith)
+
+pub placed-on : (s t : ReplayState) (p n : ℕ) (a : Assembled) → elsewhereOn a ≡ true → placedTurn s t p n a ≡ goesOn t
+placed-on s t p n Nothing h = refl
+placed-on s t p n (Fragment at m) h = absurd (let z : _≡_ {A = ℕ} 0 1 = cc in omega arith)
+placed-on s t p n (Message at m) h = absurd (let z : _≡_ {A = ℕ} 0 1 = cc in omega arith)
+placed-on s t p n (AssemblyRefused e) h = absurd (let z : _≡_ {A = ℕ} 0 1 = cc in omega arith)
+
+-- and the sessions
+pub kept-not : (s t : Sessions) (a : Assembled) → isRefused a ≡ false → keptAs s t a ≡ t
+kept-not s t Nothing h = refl
+kept-not s t (Fragment at m) h = refl
+kept-not s t (Message at m) h = refl
+kept-not s t (AssemblyRefused e) h = absurd (let z : _≡_ {A = ℕ} 0 1 = cc in omega arith)
+
+pub kept-so : (s t : Sessions) (a : Assembled) → isRefused a ≡ true → keptAs s t a ≡ s
+kept-so s t Nothing h = absurd (let z : _≡_ {A = ℕ} 0 1 = cc in omega arith)
+kept-so s t (Fragment at m) h = absurd (let z : _≡_ {A = ℕ} 0 1 = cc in omega arith)
+kept-so s t (Message at m) h = absurd (let z : _≡_ {A = ℕ} 0 1 = cc in omega arith)
+kept-so s t (AssemblyRefused e) h = refl
+
+pub refusal-of : (a : Assembled) → isRefused a ≡ true → (e : Error) × (a ≡ AssemblyRefused e)
+refusal-of Nothing h = absurd (let z : _≡_ {A = ℕ} 0 1 = cc in omega arith)
+refusal-of (Fragment at m) h = absurd (let z : _≡_ {A = ℕ} 0 1 = cc in omega arith)
+refusal-of (Message at m) h = absurd (let z : _≡_ {A = ℕ} 0 1 = cc in omega arith)
+refusal-of (AssemblyRefused e) h = (e, refl)
+
+-- where the frame of a data frame lies
+pub data-lies : (log : List ℕ) (term p n : ℕ) → DataAt log term p n → Lies n (term - p % term)
+data-lies log term p n d = lies _ _ (Data n) (d .frame) refl

@@ -1,0 +1,71 @@
+-- Data frames as they lie: what a replay takes without a poll. `next-whole` and `data-turn` (proofs/InPlace.antt) say that this is the turn
+-- of the definitions.
+use Prim.Native.Nat.{ℕ, _+_, _-_, _*_, _%_, _≤_, _<_}
+use mathlib.Core.Path.{_≡_}
+use lib.Count.{ones}
+use mathlib.Core.Bool.{Bool, true, false, cond, _&&_, not}
+use mathlib.Core.List.{List}
+use lib.Dec.{eqb, leb, ltb}
+use lib.ListN.{length, drop}
+use Rattle.model.specs.declared.LogRecord.{LogRecord}
+use Rattle.model.specs.declared.Reading.{Reading}
+use Rattle.model.specs.declared.Frame.{Frame}
+use Rattle.model.specs.declared.Frame.the-variants.{Absent, Unsound, Padding, Data}
+use Rattle.model.specs.declared.Assembled.{Assembled}
+use Rattle.model.specs.declared.Assembled.the-variants.{Nothing, Fragment, Message, Refused as AssemblyRefused}
+use Rattle.model.specs.declared.Replayed.{Replayed}
+use Rattle.model.specs.declared.Replayed.the-variants.{InLog, InBuffer, End, Refused as ReplayRefused}
+use Rattle.model.specs.Bytes.{long}
+use Rattle.model.specs.FrameDescriptor.{frameAt, flagsAt, begins, ends}
+use Rattle.model.specs.LogBufferDescriptor.{reading, sound}
+use Rattle.model.specs.Image.{Image}
+use Rattle.model.specs.FragmentAssembler.{Sessions, Assembly}
+
+abbrev pub dataLength : Frame → ℕ
+dataLength Absent = 0
+dataLength (Unsound n) = 0
+dataLength (Padding n) = 0
+dataLength (Data n) = n
+
+-- what the inner functions ask of a term length: one bit, or 0 where there is no term
+pub record TermOrNone (term : ℕ) : Type 0 where
+  pub high : term ≤ 1073741824
+  pub one-bit : 0 < term → ones term ≡ 1
+
+-- the length of the data frame at a position below the log's end; 0 where there is none
+unfoldable pub dataAt : List ℕ → ℕ → ℕ → ℕ
+dataAt log term p = cond (ltb p (3 * term) && eqb (p % 32) 0) (dataLength (frameAt (drop p log) (term - p % term))) 0
+
+-- both flags mark a whole message
+unfoldable pub wholeAt : List ℕ → ℕ → ℕ → ℕ
+wholeAt log term p = cond (begins (flagsAt (drop p log)) && ends (flagsAt (drop p log))) (dataAt log term p) 0
+
+-- the term length where nothing is refused before a frame is looked at, and the image is open; else 0
+unfoldable pub openTerm : Image → Reading → ℕ → ℕ → ℕ
+openTerm i v n lent = cond (leb lent 2147483647 && (not (i .closed) && sound v n)) (v .term) 0
+
+abbrev pub wholeOf : LogRecord → List ℕ → Image → ℕ → ℕ
+wholeOf r log i lent = wholeAt log (openTerm i (reading r) (length log) lent) (long (i .position))
+
+-- the sessions that a frame leaves: a refused one leaves them as they were
+abbrev pub keptAs : Sessions → Sessions → Assembled → Sessions
+keptAs s t Nothing = t
+keptAs s t (Fragment at n) = t
+keptAs s t (Message at n) = t
+keptAs s t (AssemblyRefused e) = s
+
+abbrev pub keptBy : Sessions → Assembly → Sessions
+keptBy s a = keptAs s (a .next) (a .answer)
+
+abbrev pub isRefused : Assembled → Bool
+isRefused Nothing = false
+isRefused (Fragment at n) = false
+isRefused (Message at n) = false
+isRefused (AssemblyRefused e) = true
+
+-- the reply by the answer to the data frame of n bytes at position p
+abbrev pub repliedBy : ℕ → ℕ → Assembled → Replayed
+repliedBy p n Nothing = End
+repliedBy p n (Fragment at m) = InLog (p + 32) (n - 32)
+repliedBy p n (Message at m) = InBuffer at m
+repliedBy p n (AssemblyRefused e) = ReplayRefused e

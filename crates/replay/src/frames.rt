@@ -1,0 +1,162 @@
+// Data frames as they lie in a log: where the record is sound and the image open, a replay finds them without a poll, and hands a whole
+// message out without the assembler. Read lib next.
+ghost use mathlib.Core.Path.{_≡_};
+ghost use Prim.Native.Nat.{_≤_, _<_};
+ghost use lib.ListN.{length};
+ghost use Rattle.image.specs.Images.{stateOf as imageState};
+ghost use Rattle.logbuffer.specs.Assembler.{sessionsAs, joinOf};
+ghost use Rattle.replay.specs.InPlace.{TermOrNone, dataAt, wholeAt, openTerm, wholeOf, keptBy, repliedBy, isRefused};
+ghost use Rattle.replay.specs.Replays.{elsewhereOn};
+use image::Image;
+use logbuffer::cast;
+use logbuffer::data_frame_header::HEADER_LENGTH;
+use logbuffer::fragment_assembler;
+use logbuffer::frame_descriptor;
+use logbuffer::frame_descriptor::END_FRAG;
+use logbuffer::frame_descriptor::FRAME_ALIGNMENT;
+use logbuffer::log_buffer_descriptor;
+use model::Assembled;
+use model::Frame;
+use model::LogRecord;
+use model::Reading;
+use model::Replayed;
+
+// The length of the data frame at a position of a log of such terms; 0 where there is none, and for a term of 0.
+pub(crate) fn data_at(log: &[u8], term: usize, p: usize) -> usize
+    requires { ⌜ TermOrNone term ⌝ }
+    ensures { λ r. ⌜ r ≡ dataAt (now (log .entry)) term p ⌝ }
+{
+    if p >= 3 * term {
+        return 0;
+    }
+    if p % FRAME_ALIGNMENT != 0 {
+        return 0;
+    }
+    let Frame::Data(n) = frame_descriptor::frame_at(log, p, term - (p & (term - 1))) else {
+        return 0;
+    };
+    n
+}
+
+// The same, and 0 unless the frame is a whole message, which both flags say.
+pub(crate) fn whole_at(log: &[u8], term: usize, p: usize) -> usize
+    requires { ⌜ TermOrNone term ⌝ }
+    ensures { λ r. ⌜ r ≡ wholeAt (now (log .entry)) term p ⌝ }
+{
+    let n = data_at(log, term, p);
+    if frame_descriptor::flags_at(log, p) / END_FRAG % 4 != 3 {
+        return 0;
+    }
+    n
+}
+
+// The term length where frames may be taken as they lie: the lent buffer passes row 1, the image is open, and record and log pass row 2.
+// Else 0.
+pub(crate) fn open_term(image: Image, v: Reading, n: usize, lent: usize) -> usize
+    ensures { λ r. ⌜ r ≡ openTerm (imageState image) v n lent ⌝ }
+{
+    if lent > 2147483647 {
+        return 0;
+    }
+    if image.is_closed {
+        return 0;
+    }
+    if !log_buffer_descriptor::is_sound(v, n) {
+        return 0;
+    }
+    v.term
+}
+
+// The length of the frame at the image's position, if it is a whole message that the next reply gives; else 0. For a caller who keeps the
+// replay elsewhere and need not fetch it all.
+pub fn next_whole(image: Image, rec: LogRecord, log: &[u8], lent: usize) -> usize
+    ensures { λ r. ⌜ r ≡ wholeOf rec (now (log .entry)) (imageState image) lent ⌝ }
+{
+    let v = log_buffer_descriptor::read_active(rec);
+    let term = open_term(image, v, log.len(), lent);
+    whole_at(log, term, cast::long(image.position))
+}
+
+// ---- a fragment, given to the assembler's core
+
+// What it leads to, beside the sessions that are lent: how many are entered, and the answer.
+pub(crate) struct Given {
+    pub count: usize,
+    pub answer: Assembled,
+}
+
+// The frame at an index of the log. Its session is entered, unless it is refused: then the sessions stay as they were.
+pub(crate) fn give(
+    count: usize,
+    ids: &mut [i32],
+    held: &mut [usize],
+    log: &[u8],
+    buffer: &mut [u8],
+    index: usize,
+    offset: usize,
+) -> Given
+    requires { ⌜ (length (now ids) ≡ 16) × (length (now held) ≡ 16) ⌝ }
+    ensures { λ r. ⌜ r .answer ≡ joinOf (sessionsAs count (now (ids .entry)) (now (held .entry))) (now (buffer .entry)) (now (log .entry)) index offset .answer ⌝ }
+    ensures { λ r. ⌜ sessionsAs (r .count) (now (ids .exit)) (now (held .exit)) ≡ keptBy (sessionsAs count (now (ids .entry)) (now (held .entry))) (joinOf (sessionsAs count (now (ids .entry)) (now (held .entry))) (now (buffer .entry)) (now (log .entry)) index offset) ⌝ }
+    ensures { λ _. ⌜ now (buffer .exit) ≡ joinOf (sessionsAs count (now (ids .entry)) (now (held .entry))) (now (buffer .entry)) (now (log .entry)) index offset .buffer ⌝ }
+{
+    let joined = fragment_assembler::join(count, ids, held, log, buffer, index, offset);
+    let answer = joined.answer;
+    let place = joined.place;
+    if let Assembled::Refused(_) = answer {
+        return Given {
+            count: count,
+            answer: answer,
+        };
+    }
+    if place >= 16 {
+        return Given {
+            count: count,
+            answer: answer,
+        };
+    }
+    let session = joined.session;
+    ids[place] = session;
+    held[place] = joined.held;
+    Given {
+        count: fragment_assembler::entered_with(count, place),
+        answer: answer,
+    }
+}
+
+// The reply by the answer to the data frame of n bytes at a position; the body of one that passes through lies behind its header.
+pub(crate) fn reply_by(answer: Assembled, p: usize, n: usize) -> Replayed
+    requires { ⌜ (p < 4294967296) × (32 ≤ n) ⌝ }
+    ensures { λ r. ⌜ r ≡ repliedBy p n answer ⌝ }
+{
+    match answer {
+        Assembled::Nothing => Replayed::End,
+        Assembled::Fragment(_, _) => Replayed::InLog(p + HEADER_LENGTH, n - HEADER_LENGTH),
+        Assembled::Message(at, length) => Replayed::InBuffer(at, length),
+        Assembled::Refused(e) => Replayed::Refused(e),
+    }
+}
+
+// Whether a turn goes on after an answer.
+pub(crate) fn is_nothing(answer: Assembled) -> bool
+    ensures { λ r. ⌜ r ≡ elsewhereOn answer ⌝ }
+{
+    match answer {
+        Assembled::Nothing => true,
+        Assembled::Fragment(_, _) => false,
+        Assembled::Message(_, _) => false,
+        Assembled::Refused(_) => false,
+    }
+}
+
+// Whether an answer is a refusal.
+pub(crate) fn is_refused(answer: Assembled) -> bool
+    ensures { λ r. ⌜ r ≡ isRefused answer ⌝ }
+{
+    match answer {
+        Assembled::Nothing => false,
+        Assembled::Fragment(_, _) => false,
+        Assembled::Message(_, _) => false,
+        Assembled::Refused(_) => true,
+    }
+}
