@@ -5,12 +5,12 @@
  *   cc -I include program.c target/staticlib/libcapi.a            links it; it needs nothing else
  *
  * How to call it
- * - Nothing is kept between calls: the record, an image, an assembler and a replay are values. A call takes one and answers the next
- *   one, which the caller hands to the next call. All memory is the caller's; nothing is allocated.
- * - A slice is a pointer and a count of elements. The pointer must be valid for so many elements, and no slice that is written may
- *   overlap another one of the same call. A bool must hold 0 or 1. Nothing else is asked: any number and any bytes may be handed in.
- * - `code` is 0, or the number of the refusal below. Where it is not 0 the other values of a reply are 0, and `next` is what the call
- *   leaves: what it was given, unless the refusal's line or the call's says otherwise.
+ * - Nothing is kept between calls: the record, an image, an assembler and a replay are structs of the caller's. A call takes one by a pointer
+ *   and changes it in place; where the pointer is to const it only reads it. All memory is the caller's; nothing is allocated.
+ * - A slice is a pointer and a count of elements. The pointer must be valid for so many elements, and nothing that is written, slice or struct,
+ *   may overlap anything else of the same call. Nothing else is asked: any number and any bytes may be handed in; a bool is yes unless its byte is 0.
+ * - `code` is 0, or the number of the refusal below. Where it is not 0 the other values of a reply are 0, and what was lent by a pointer
+ *   is as it was, every byte of it, unless the refusal's line or the call's says otherwise.
  * - With 22 and 23 a reply tells the place of the frame, its offset in its term: in `offset` of a read, a scan, a gap scan and a block, in `outcome`
  *   of an availability scan, in `fragments` of a poll, in `position` of a peek, in `start` of the assembler and a replay, in `messages` of a count.
  *
@@ -35,12 +35,14 @@
  * An example
  *
  *   static uint8_t bytes[3 * 65536], buffer[16 * 8192];
- *   struct logbuffer_record_reply r = logbuffer_open(bytes, sizeof bytes, 65536, 1408, 7, 11, 22);
- *   r = logbuffer_set_publication_limit(r.next, 2 * 65536); // two terms ahead of the slowest reader, here at 0
- *   struct logbuffer_offer_reply o = logbuffer_offer(r.next, bytes, sizeof bytes, (const uint8_t *)"coin", 4, 0);
- *   // o.code is 0, o.position 64; the next call takes o.next
- *   struct logbuffer_replay replay = logbuffer_replay_new(11);
- *   struct logbuffer_next_reply n = logbuffer_replay_next(replay, o.next, bytes, sizeof bytes, buffer, sizeof buffer);
+ *   struct logbuffer_record rec;
+ *   struct logbuffer_replay replay;
+ *   logbuffer_open(&rec, bytes, sizeof bytes, 65536, 1408, 7, 11, 22); // answers 0
+ *   logbuffer_set_publication_limit(&rec, 2 * 65536); // two terms ahead of the slowest reader, here at 0
+ *   struct logbuffer_position_reply o = logbuffer_offer(&rec, bytes, sizeof bytes, (const uint8_t *)"coin", 4, 0);
+ *   // o.code is 0, o.position 64, and the record's first tail has moved
+ *   logbuffer_replay_new(&replay, 11);
+ *   struct logbuffer_next_reply n = logbuffer_replay_next(&replay, &rec, bytes, sizeof bytes, buffer, sizeof buffer);
  *   // n.place is LOGBUFFER_IN_LOG, and bytes[n.start .. n.start + n.length) is "coin"
  */
 #ifndef LOGBUFFER_H
@@ -138,24 +140,13 @@ enum { LOGBUFFER_FREE = 0, LOGBUFFER_WRITING = 1, LOGBUFFER_FINISHED = 2 };
 
 /* ---- replies */
 
-struct logbuffer_record_reply {
-    struct logbuffer_record next;
-    int32_t code;
-};
-
+/* A position. The four bytes behind the code are free. */
 struct logbuffer_position_reply {
     int32_t code;
     int64_t position;
 };
 
-struct logbuffer_offer_reply {
-    struct logbuffer_record next;
-    int32_t code;
-    int64_t position;
-};
-
 struct logbuffer_claim_reply {
-    struct logbuffer_record next;
     int32_t code;
     int64_t position;
     struct logbuffer_claim claim;
@@ -170,14 +161,12 @@ struct logbuffer_span_reply {
 
 /* An appender's: the offset after the frames, or that the append tripped (the Rust answers -2). */
 struct logbuffer_append_reply {
-    struct logbuffer_record next;
     int32_t code;
     bool is_tripped;
     size_t offset;
 };
 
 struct logbuffer_append_claim_reply {
-    struct logbuffer_record next;
     int32_t code;
     bool is_tripped;
     size_t offset;
@@ -200,8 +189,8 @@ struct logbuffer_frame_length_reply {
 /* The offset the read came to, and the fragments read. */
 struct logbuffer_read_reply {
     int32_t code;
+    uint32_t fragments;
     size_t offset;
-    size_t fragments;
 };
 
 struct logbuffer_scan_reply {
@@ -227,33 +216,25 @@ struct logbuffer_availability_reply {
 
 /* The fragments read, and the entries written. */
 struct logbuffer_poll_reply {
-    struct logbuffer_image next;
     int32_t code;
-    size_t fragments;
+    uint32_t fragments;
     size_t entries;
 };
 
-/* The image as it was, the position after the last whole message, and the entries written. */
+/* The position after the last whole message, and the entries written. */
 struct logbuffer_peek_reply {
-    struct logbuffer_image next;
     int32_t code;
+    uint32_t entries;
     int64_t position;
-    size_t entries;
 };
 
 /* A block's offset in its term, its length, session and term id; four zeros where it is empty. */
 struct logbuffer_block_reply {
-    struct logbuffer_image next;
     int32_t code;
     size_t offset;
     size_t length;
     int32_t session_id;
     int32_t term_id;
-};
-
-struct logbuffer_image_reply {
-    struct logbuffer_image next;
-    int32_t code;
 };
 
 struct logbuffer_end_of_stream_reply {
@@ -263,7 +244,6 @@ struct logbuffer_end_of_stream_reply {
 
 /* place is LOGBUFFER_NOTHING; LOGBUFFER_IN_LOG, where start is an offset in the frame's term; or LOGBUFFER_IN_BUFFER. */
 struct logbuffer_assembly_reply {
-    struct logbuffer_assembler next;
     int32_t code;
     int32_t place;
     size_t start;
@@ -272,7 +252,6 @@ struct logbuffer_assembly_reply {
 
 /* place is LOGBUFFER_NOTHING at the end; LOGBUFFER_IN_LOG, where start is an index of the whole log; or LOGBUFFER_IN_BUFFER. */
 struct logbuffer_next_reply {
-    struct logbuffer_replay next;
     int32_t code;
     int32_t place;
     size_t start;
@@ -300,28 +279,28 @@ struct logbuffer_card_read_reply {
 
 /* ---- opening, and calls on the record alone */
 
-/* Zeroes the log, three terms, and answers the record of an empty one: limit 0, connected, not closed. Term length: a power of two from
- * 65,536 to 2^30. Mtu: a multiple of 32 from 64 to 65,504. Initial id from -2147483646 up. Refuses 2, and then writes nothing and answers
- * a record of zeros. */
-struct logbuffer_record_reply logbuffer_open(uint8_t *log, size_t log_length, int32_t term_length, int32_t mtu_length,
-                                             int32_t initial_term_id, int32_t session_id, int32_t stream_id);
+/* Zeroes the log, three terms, and fills the record of an empty one: limit 0, connected, not closed. Term length: a power of two from
+ * 65,536 to 2^30. Mtu: a multiple of 32 from 64 to 65,504. Initial id from -2147483646 up. Answers 0, or refuses 2 and writes nothing, not to
+ * the record either. */
+int32_t logbuffer_open(struct logbuffer_record *rec, uint8_t *log, size_t log_length, int32_t term_length, int32_t mtu_length,
+                       int32_t initial_term_id, int32_t session_id, int32_t stream_id);
 
 /* Offers and claims that begin below this position are let through: from 0 to 2^62. Keep it at most two terms ahead of the slowest
  * reader, and raise it as readers move on: only the start is judged, so a message may end past the limit, and what comes to lie three terms
- * ahead of a reader overwrites, without a word, what it has not read. Refuses 2. */
-struct logbuffer_record_reply logbuffer_set_publication_limit(struct logbuffer_record rec, int64_t limit);
+ * ahead of a reader overwrites, without a word, what it has not read. The answer is the number: 0, 2. */
+int32_t logbuffer_set_publication_limit(struct logbuffer_record *rec, int64_t limit);
 
-/* Offers, claims and the three numbers below then refuse 5. Refuses 2. */
-struct logbuffer_record_reply logbuffer_close(struct logbuffer_record rec);
+/* Offers, claims and the three numbers below then refuse 5. The answer is the number: 0, 2. */
+int32_t logbuffer_close(struct logbuffer_record *rec);
 
 /* The next partition's tail becomes (term_id + 1, 0) if its id is term_id - 2, and the count rises by one if it is the one given.
- * Refuses 1, 2, 12. */
-struct logbuffer_record_reply logbuffer_rotate_log(struct logbuffer_record rec, int32_t count, int32_t term_id);
+ * The answer is the number: 0, 1, 2, 12. */
+int32_t logbuffer_rotate_log(struct logbuffer_record *rec, int32_t count, int32_t term_id);
 
 /* The publisher's position; its limit; what is left up to the limit, below 0 where the position is past it. Each refuses 2, 5. */
-struct logbuffer_position_reply logbuffer_position(struct logbuffer_record rec);
-struct logbuffer_position_reply logbuffer_publication_limit(struct logbuffer_record rec);
-struct logbuffer_position_reply logbuffer_available_window(struct logbuffer_record rec);
+struct logbuffer_position_reply logbuffer_position(const struct logbuffer_record *rec);
+struct logbuffer_position_reply logbuffer_publication_limit(const struct logbuffer_record *rec);
+struct logbuffer_position_reply logbuffer_available_window(const struct logbuffer_record *rec);
 
 /* ---- numbers of tails and positions, which refuse nothing but where said */
 
@@ -345,136 +324,135 @@ struct logbuffer_position_reply logbuffer_compute_position(int32_t term_id, uint
 
 /* Appends a message, in fragments where it is longer than the payload limit (mtu - 32), and answers the position after it. Refuses 1, 2,
  * 5, 6, 7, 8, 9, 10, 11, 12. After 6 call again: with the term full the log has been rotated. */
-struct logbuffer_offer_reply logbuffer_offer(struct logbuffer_record rec, uint8_t *log, size_t log_length, const uint8_t *message,
-                                             size_t message_length, int64_t reserved_value);
+struct logbuffer_position_reply logbuffer_offer(struct logbuffer_record *rec, uint8_t *log, size_t log_length, const uint8_t *message,
+                                                size_t message_length, int64_t reserved_value);
 
 /* Claims a frame for a body of this length, up to the payload limit. Readers stop before it until it is committed or aborted. Refuses 1,
  * 2, 4, 5, 6, 7, 8, 9, 11, 12. On a closed publication a length over the payload limit refuses 5, not 4. */
-struct logbuffer_claim_reply logbuffer_try_claim(struct logbuffer_record rec, uint8_t *log, size_t log_length, int32_t length);
+struct logbuffer_claim_reply logbuffer_try_claim(struct logbuffer_record *rec, uint8_t *log, size_t log_length, int32_t length);
 
 /* Where the body of an open claim lies in the log, to be written by the caller; and the number alone. Each refuses 1, 2, 14. */
-struct logbuffer_span_reply logbuffer_claim_body(struct logbuffer_record rec, const uint8_t *log, size_t log_length,
+struct logbuffer_span_reply logbuffer_claim_body(const struct logbuffer_record *rec, const uint8_t *log, size_t log_length,
                                                  struct logbuffer_claim claim);
-int32_t logbuffer_claim_body_number(struct logbuffer_record rec, const uint8_t *log, size_t log_length, struct logbuffer_claim claim);
+int32_t logbuffer_claim_body_number(const struct logbuffer_record *rec, const uint8_t *log, size_t log_length,
+                                    struct logbuffer_claim claim);
 
 /* Writes bytes over the body of an open claim, from its start on and as far as it goes. The answer is the number: 0, 1, 2, 14. */
-int32_t logbuffer_claim_write(struct logbuffer_record rec, uint8_t *log, size_t log_length, struct logbuffer_claim claim,
+int32_t logbuffer_claim_write(const struct logbuffer_record *rec, uint8_t *log, size_t log_length, struct logbuffer_claim claim,
                               const uint8_t *bytes, size_t bytes_length);
 
 /* Makes an open claim a message; or padding, which readers pass. The answer is the number: 0, 1, 2, 14. */
-int32_t logbuffer_commit(struct logbuffer_record rec, uint8_t *log, size_t log_length, struct logbuffer_claim claim);
-int32_t logbuffer_abort(struct logbuffer_record rec, uint8_t *log, size_t log_length, struct logbuffer_claim claim);
+int32_t logbuffer_commit(const struct logbuffer_record *rec, uint8_t *log, size_t log_length, struct logbuffer_claim claim);
+int32_t logbuffer_abort(const struct logbuffer_record *rec, uint8_t *log, size_t log_length, struct logbuffer_claim claim);
 
 /* The appenders under offer and claim, on a partition (0 to 2) and a term id of the caller's choice. Each refuses 1, 2, 11, 13. */
-struct logbuffer_append_reply logbuffer_append_unfragmented_message(struct logbuffer_record rec, uint8_t *log, size_t log_length,
+struct logbuffer_append_reply logbuffer_append_unfragmented_message(struct logbuffer_record *rec, uint8_t *log, size_t log_length,
                                                                     int32_t partition, const uint8_t *message, size_t message_length,
                                                                     int64_t reserved_value, int32_t term_id);
-struct logbuffer_append_reply logbuffer_append_fragmented_message(struct logbuffer_record rec, uint8_t *log, size_t log_length,
+struct logbuffer_append_reply logbuffer_append_fragmented_message(struct logbuffer_record *rec, uint8_t *log, size_t log_length,
                                                                   int32_t partition, const uint8_t *message, size_t message_length,
                                                                   int64_t reserved_value, int32_t payload_limit, int32_t term_id);
-struct logbuffer_append_claim_reply logbuffer_append_claim(struct logbuffer_record rec, uint8_t *log, size_t log_length,
-                                                           int32_t partition, int32_t length, int32_t term_id);
+struct logbuffer_append_claim_reply logbuffer_append_claim(struct logbuffer_record *rec, uint8_t *log, size_t log_length, int32_t partition,
+                                                           int32_t length, int32_t term_id);
 
 /* ---- frames of one term: partition 0 to 2, offset a multiple of 32 below the term length */
 
 /* The header at an offset. Refuses 1, 2. */
-struct logbuffer_header_reply logbuffer_header_fields(struct logbuffer_record rec, const uint8_t *log, size_t log_length,
+struct logbuffer_header_reply logbuffer_header_fields(const struct logbuffer_record *rec, const uint8_t *log, size_t log_length,
                                                       int32_t partition, int32_t offset);
 
 /* Whether the place at an offset is free, being written or finished, and how long the frame there is; sound or not. Where a reader stops, it
  * tells an empty place from a claim that nobody has finished: the publisher's side can commit or abort that one, and readers go on. Of a
  * position p the partition is p / term length % 3 and the offset p % term length; at or past the publisher's position a place may still
  * hold a frame of an older term. Refuses 1, 2. */
-struct logbuffer_frame_length_reply logbuffer_frame_length(struct logbuffer_record rec, const uint8_t *log, size_t log_length,
+struct logbuffer_frame_length_reply logbuffer_frame_length(const struct logbuffer_record *rec, const uint8_t *log, size_t log_length,
                                                            int32_t partition, int32_t offset);
 
 /* Hands out (offset, length) of each body as two numbers in entries, at most fragment_limit of them. Refuses 1, 2, 22, 23. */
-struct logbuffer_read_reply logbuffer_read(struct logbuffer_record rec, const uint8_t *log, size_t log_length, int32_t partition,
+struct logbuffer_read_reply logbuffer_read(const struct logbuffer_record *rec, const uint8_t *log, size_t log_length, int32_t partition,
                                            int32_t offset, int32_t fragment_limit, int32_t *entries, size_t entries_length);
 
 /* Where an entry's body lies in the log; and the number alone. Any offset and length inside the term. Each refuses 1, 2. */
-struct logbuffer_span_reply logbuffer_view(struct logbuffer_record rec, const uint8_t *log, size_t log_length, int32_t partition,
+struct logbuffer_span_reply logbuffer_view(const struct logbuffer_record *rec, const uint8_t *log, size_t log_length, int32_t partition,
                                            int32_t offset, int32_t length);
-int32_t logbuffer_view_number(struct logbuffer_record rec, const uint8_t *log, size_t log_length, int32_t partition, int32_t offset,
+int32_t logbuffer_view_number(const struct logbuffer_record *rec, const uint8_t *log, size_t log_length, int32_t partition, int32_t offset,
                               int32_t length);
 
 /* The end of the finished frames up to a limit, of which padding is taken only as the first, and then alone and even where it ends past
  * the limit; the gap in them up to a high mark; the bytes available for sending, and the padding after them. Each refuses 1, 2, 22, 23. */
-struct logbuffer_scan_reply logbuffer_scan(struct logbuffer_record rec, const uint8_t *log, size_t log_length, int32_t partition,
+struct logbuffer_scan_reply logbuffer_scan(const struct logbuffer_record *rec, const uint8_t *log, size_t log_length, int32_t partition,
                                            int32_t offset, int32_t limit);
-struct logbuffer_gap_reply logbuffer_scan_for_gap(struct logbuffer_record rec, const uint8_t *log, size_t log_length, int32_t partition,
-                                                  int32_t term_id, int32_t offset, int32_t high_mark);
-struct logbuffer_availability_reply logbuffer_scan_for_availability(struct logbuffer_record rec, const uint8_t *log, size_t log_length,
-                                                                    int32_t partition, int32_t offset, int32_t maximum);
+struct logbuffer_gap_reply logbuffer_scan_for_gap(const struct logbuffer_record *rec, const uint8_t *log, size_t log_length,
+                                                  int32_t partition, int32_t term_id, int32_t offset, int32_t high_mark);
+struct logbuffer_availability_reply logbuffer_scan_for_availability(const struct logbuffer_record *rec, const uint8_t *log,
+                                                                    size_t log_length, int32_t partition, int32_t offset, int32_t maximum);
 
 /* ---- images */
 
 /* A reader at a position. Refuses nothing: each call judges the position. */
-struct logbuffer_image logbuffer_image_new(int64_t position, int32_t session_id);
+void logbuffer_image_new(struct logbuffer_image *image, int64_t position, int32_t session_id);
 
 /* Reads fragments up to the end of the term and moves past them; entries as in logbuffer_read, in the term of the position before the
  * call. Refuses 1, 2, 3, 22, 23. The second reads no frame that begins at or past a position. The third takes an answer for each fragment: 1
  * abort, 2 break, 3 commit, 4 continue. */
-struct logbuffer_poll_reply logbuffer_image_poll(struct logbuffer_image image, struct logbuffer_record rec, const uint8_t *log,
+struct logbuffer_poll_reply logbuffer_image_poll(struct logbuffer_image *image, const struct logbuffer_record *rec, const uint8_t *log,
                                                  size_t log_length, int32_t *entries, size_t entries_length, int32_t fragment_limit);
-struct logbuffer_poll_reply logbuffer_image_bounded_poll(struct logbuffer_image image, struct logbuffer_record rec, const uint8_t *log,
-                                                         size_t log_length, int32_t *entries, size_t entries_length,
+struct logbuffer_poll_reply logbuffer_image_bounded_poll(struct logbuffer_image *image, const struct logbuffer_record *rec,
+                                                         const uint8_t *log, size_t log_length, int32_t *entries, size_t entries_length,
                                                          int64_t limit_position, int32_t fragment_limit);
-struct logbuffer_poll_reply logbuffer_image_controlled_poll(struct logbuffer_image image, struct logbuffer_record rec,
-                                                            const uint8_t *log, size_t log_length, int32_t *entries,
-                                                            size_t entries_length, const uint8_t *actions, size_t actions_length,
-                                                            int32_t fragment_limit);
+struct logbuffer_poll_reply logbuffer_image_controlled_poll(struct logbuffer_image *image, const struct logbuffer_record *rec,
+                                                            const uint8_t *log, size_t log_length, int32_t *entries, size_t entries_length,
+                                                            const uint8_t *actions, size_t actions_length, int32_t fragment_limit);
 
 /* Reads from a start at or after the image's position without moving it, at most one fragment for each action, and answers the position
  * after the last whole message or padding, which counts also between the fragments of a message. Refuses 1, 2, 3, 15, 16, 22, 23. */
-struct logbuffer_peek_reply logbuffer_image_controlled_peek(struct logbuffer_image image, struct logbuffer_record rec,
-                                                            const uint8_t *log, size_t log_length, int32_t *entries,
-                                                            size_t entries_length, const uint8_t *actions, size_t actions_length,
-                                                            int64_t start, int64_t limit_position);
+struct logbuffer_peek_reply logbuffer_image_controlled_peek(const struct logbuffer_image *image, const struct logbuffer_record *rec,
+                                                            const uint8_t *log, size_t log_length, int32_t *entries, size_t entries_length,
+                                                            const uint8_t *actions, size_t actions_length, int64_t start,
+                                                            int64_t limit_position);
 
 /* Moves past whole frames of together at most limit bytes and answers where they lie. Padding is taken only as the first frame, and then
  * alone and even where it is longer than the limit. Refuses 2, 3, 22, 23. */
-struct logbuffer_block_reply logbuffer_image_block_poll(struct logbuffer_image image, struct logbuffer_record rec, const uint8_t *log,
-                                                        size_t log_length, int32_t limit);
+struct logbuffer_block_reply logbuffer_image_block_poll(struct logbuffer_image *image, const struct logbuffer_record *rec,
+                                                        const uint8_t *log, size_t log_length, int32_t limit);
 
-/* Moves within the term. Refuses 2, 3, 15, 16. */
-struct logbuffer_image_reply logbuffer_image_set_position(struct logbuffer_image image, struct logbuffer_record rec, const uint8_t *log,
-                                                          size_t log_length, int64_t new_position);
+/* Moves within the term. The answer is the number: 0, 2, 3, 15, 16. */
+int32_t logbuffer_image_set_position(struct logbuffer_image *image, const struct logbuffer_record *rec, const uint8_t *log,
+                                     size_t log_length, int64_t new_position);
 
 /* Whether the position is at or past the end of the stream. Refuses 2, 3. */
-struct logbuffer_end_of_stream_reply logbuffer_image_is_end_of_stream(struct logbuffer_image image, struct logbuffer_record rec,
-                                                                      const uint8_t *log, size_t log_length);
+struct logbuffer_end_of_stream_reply logbuffer_image_is_end_of_stream(const struct logbuffer_image *image,
+                                                                      const struct logbuffer_record *rec, const uint8_t *log,
+                                                                      size_t log_length);
 
-/* Closes the image: it then reads nothing and stays. Refuses 2. */
-struct logbuffer_image_reply logbuffer_image_close(struct logbuffer_image image, struct logbuffer_record rec, const uint8_t *log,
-                                                   size_t log_length);
+/* Closes the image: it then reads nothing and stays. The answer is the number: 0, 2. */
+int32_t logbuffer_image_close(struct logbuffer_image *image, const struct logbuffer_record *rec, const uint8_t *log, size_t log_length);
 
 /* ---- messages put together again */
 
-/* An assembler that has entered no session. Its buffer is cut into 16 equal parts, one a session: a part must hold the longest message
+/* Makes it an assembler that has entered no session. Its buffer is cut into 16 equal parts, one a session: a part must hold the longest message
  * that comes in fragments. It holds the fragments met so far, so hand the same buffer to each call and leave it alone in between. */
-struct logbuffer_assembler logbuffer_assembler_new(void);
+void logbuffer_assembler_new(struct logbuffer_assembler *assembler);
 
 /* Takes the frame at an offset of a partition. An unfragmented message lies in the log, one put together lies in the buffer, until the
  * next call. Refuses 1, 2, 22, 23, 18. After 18 for fragments longer than their part that session stays entered, emptied, and the rest of the
  * message is ignored; 18 for a 17th session changes nothing. */
-struct logbuffer_assembly_reply logbuffer_assembler_on_fragment(struct logbuffer_assembler assembler, struct logbuffer_record rec,
+struct logbuffer_assembly_reply logbuffer_assembler_on_fragment(struct logbuffer_assembler *assembler, const struct logbuffer_record *rec,
                                                                 const uint8_t *log, size_t log_length, uint8_t *buffer,
                                                                 size_t buffer_length, int32_t partition, int32_t offset);
 
-/* A replay from position 0. */
-struct logbuffer_replay logbuffer_replay_new(int32_t session_id);
+/* Makes it a replay from position 0. */
+void logbuffer_replay_new(struct logbuffer_replay *replay, int32_t session_id);
 
-/* The next message; LOGBUFFER_NOTHING at the end, which is also before the first claim still open. It polls a fragment at a time into the
- * assembler, over the same buffer from call to call, and what it read before a refusal stays read. Refuses 2, 3, 22, 23 as a poll does, and
- * then stands before the frame that it could not read: called again it refuses again. Refuses 1 (buffer over 2147483647) and 18 as the
- * assembler does, and then stands behind that frame: called again it goes on with the next message. */
-struct logbuffer_next_reply logbuffer_replay_next(struct logbuffer_replay replay, struct logbuffer_record rec, const uint8_t *log,
+/* The next message; LOGBUFFER_NOTHING at the end, which is also before the first claim still open. Fragments are joined in the buffer, the
+ * same from call to call. Refuses 1 (buffer over 2147483647), 2, 3, 22, 23 as a poll does, and 18 as the assembler does. What it read before
+ * a frame that it refuses stays read; it then stands before that frame, and called again it refuses the same again. */
+struct logbuffer_next_reply logbuffer_replay_next(struct logbuffer_replay *replay, const struct logbuffer_record *rec, const uint8_t *log,
                                                   size_t log_length, uint8_t *buffer, size_t buffer_length);
 
 /* A whole replay: how many messages, and how many bytes they have together. Refuses as logbuffer_replay_next. */
-struct logbuffer_count_reply logbuffer_replay_count(struct logbuffer_record rec, const uint8_t *log, size_t log_length, uint8_t *buffer,
-                                                    size_t buffer_length, int32_t session_id);
+struct logbuffer_count_reply logbuffer_replay_count(const struct logbuffer_record *rec, const uint8_t *log, size_t log_length,
+                                                    uint8_t *buffer, size_t buffer_length, int32_t session_id);
 
 /* ---- find cards: message bodies that every reader understands alike */
 
@@ -494,14 +472,14 @@ struct logbuffer_card_read_reply logbuffer_card_read(const uint8_t *bytes, size_
  * slack. Frames are judged by their length alone; padding is a frame. out has the term length and 4 bytes more. Answers 0, or refuses 1
  * (partition; length of out), 2, 26 (the frames do not reach the term's end: a free or unfinished frame, a length of 1 to 31, an end past
  * the term), and leaves out as it was. */
-int32_t logbuffer_shelve(struct logbuffer_record rec, const uint8_t *log, size_t log_length, int32_t partition, uint8_t *out,
+int32_t logbuffer_shelve(const struct logbuffer_record *rec, const uint8_t *log, size_t log_length, int32_t partition, uint8_t *out,
                          size_t out_length);
 
 /* Gives back every byte of the term that a shelf came from; no log is needed. out has the record's term length. Accepts just what
  * logbuffer_shelve makes of some term of that length. Answers 0, or refuses 1 (length of out; shelf over 2147483647), 2 (the record
  * alone), 26 (a shelf of another length than the term's and 4, headers that are too many, too few or have no length that a frame can
  * have), and leaves out as it was. */
-int32_t logbuffer_unshelve(struct logbuffer_record rec, const uint8_t *shelf, size_t shelf_length, uint8_t *out, size_t out_length);
+int32_t logbuffer_unshelve(const struct logbuffer_record *rec, const uint8_t *shelf, size_t shelf_length, uint8_t *out, size_t out_length);
 
 #ifdef __cplusplus
 }

@@ -1,7 +1,7 @@
 //! The functions of include/logbuffer.h that main.rs measures, and the port's side of each row.
 
 #[repr(C)]
-#[derive(Clone, Copy)]
+#[derive(Clone, Copy, Default)]
 pub struct Record {
     tails: [i64; 3],
     numbers: [i32; 7],
@@ -15,7 +15,7 @@ pub struct Record {
 pub struct Claim([i32; 4]);
 
 #[repr(C)]
-#[derive(Clone, Copy)]
+#[derive(Clone, Copy, Default)]
 pub struct Image {
     position: i64,
     session_id: i32,
@@ -24,7 +24,7 @@ pub struct Image {
 }
 
 #[repr(C)]
-#[derive(Clone, Copy)]
+#[derive(Clone, Copy, Default)]
 pub struct Replay {
     image: Image,
     count: usize,
@@ -33,21 +33,13 @@ pub struct Replay {
 }
 
 #[repr(C)]
-pub struct RecordReply {
-    next: Record,
-    code: i32,
-}
-
-#[repr(C)]
-pub struct OfferReply {
-    next: Record,
+pub struct PositionReply {
     code: i32,
     position: i64,
 }
 
 #[repr(C)]
 pub struct ClaimReply {
-    next: Record,
     code: i32,
     position: i64,
     claim: Claim,
@@ -55,15 +47,13 @@ pub struct ClaimReply {
 
 #[repr(C)]
 pub struct PollReply {
-    next: Image,
     code: i32,
-    fragments: usize,
+    fragments: u32,
     entries: usize,
 }
 
 #[repr(C)]
 pub struct NextReply {
-    next: Replay,
     code: i32,
     place: i32,
     start: usize,
@@ -100,19 +90,19 @@ pub struct AvailabilityReply {
 }
 
 extern "C" {
-    fn logbuffer_open(log: *mut u8, n: usize, term: i32, mtu: i32, initial: i32, session: i32, stream: i32) -> RecordReply;
-    fn logbuffer_set_publication_limit(rec: Record, limit: i64) -> RecordReply;
-    fn logbuffer_offer(rec: Record, log: *mut u8, n: usize, message: *const u8, m: usize, reserved: i64) -> OfferReply;
-    fn logbuffer_try_claim(rec: Record, log: *mut u8, n: usize, length: i32) -> ClaimReply;
-    fn logbuffer_commit(rec: Record, log: *mut u8, n: usize, claim: Claim) -> i32;
-    fn logbuffer_image_new(position: i64, session: i32) -> Image;
-    fn logbuffer_image_poll(image: Image, rec: Record, log: *const u8, n: usize, entries: *mut i32, e: usize, limit: i32) -> PollReply;
-    fn logbuffer_replay_new(session: i32) -> Replay;
-    fn logbuffer_replay_next(replay: Replay, rec: Record, log: *const u8, n: usize, buffer: *mut u8, b: usize) -> NextReply;
-    fn logbuffer_replay_count(rec: Record, log: *const u8, n: usize, buffer: *mut u8, b: usize, session: i32) -> CountReply;
-    fn logbuffer_scan(rec: Record, log: *const u8, n: usize, partition: i32, offset: i32, limit: i32) -> ScanReply;
-    fn logbuffer_scan_for_gap(rec: Record, log: *const u8, n: usize, partition: i32, id: i32, offset: i32, high: i32) -> GapReply;
-    fn logbuffer_scan_for_availability(rec: Record, log: *const u8, n: usize, partition: i32, offset: i32, most: i32) -> AvailabilityReply;
+    fn logbuffer_open(rec: *mut Record, log: *mut u8, n: usize, term: i32, mtu: i32, initial: i32, session: i32, stream: i32) -> i32;
+    fn logbuffer_set_publication_limit(rec: *mut Record, limit: i64) -> i32;
+    fn logbuffer_offer(rec: *mut Record, log: *mut u8, n: usize, message: *const u8, m: usize, reserved: i64) -> PositionReply;
+    fn logbuffer_try_claim(rec: *mut Record, log: *mut u8, n: usize, length: i32) -> ClaimReply;
+    fn logbuffer_commit(rec: *const Record, log: *mut u8, n: usize, claim: Claim) -> i32;
+    fn logbuffer_image_new(image: *mut Image, position: i64, session: i32);
+    fn logbuffer_image_poll(image: *mut Image, rec: *const Record, log: *const u8, n: usize, entries: *mut i32, e: usize, limit: i32) -> PollReply;
+    fn logbuffer_replay_new(replay: *mut Replay, session: i32);
+    fn logbuffer_replay_next(replay: *mut Replay, rec: *const Record, log: *const u8, n: usize, buffer: *mut u8, b: usize) -> NextReply;
+    fn logbuffer_replay_count(rec: *const Record, log: *const u8, n: usize, buffer: *mut u8, b: usize, session: i32) -> CountReply;
+    fn logbuffer_scan(rec: *const Record, log: *const u8, n: usize, partition: i32, offset: i32, limit: i32) -> ScanReply;
+    fn logbuffer_scan_for_gap(rec: *const Record, log: *const u8, n: usize, partition: i32, id: i32, offset: i32, high: i32) -> GapReply;
+    fn logbuffer_scan_for_availability(rec: *const Record, log: *const u8, n: usize, partition: i32, offset: i32, most: i32) -> AvailabilityReply;
 }
 
 /// A log and its record.
@@ -124,85 +114,84 @@ pub struct Log {
 impl Log {
     pub fn open(term: i32, mtu: i32) -> Self {
         let mut bytes = vec![0; 3 * term as usize];
-        let reply = unsafe { logbuffer_open(bytes.as_mut_ptr(), bytes.len(), term, mtu, 7, 11, 22) };
-        let reply = unsafe { logbuffer_set_publication_limit(reply.next, 1 << 62) };
-        assert_eq!(reply.code, 0);
-        Log { bytes, record: reply.next }
+        let mut record = Record::default();
+        assert_eq!(unsafe { logbuffer_open(&mut record, bytes.as_mut_ptr(), bytes.len(), term, mtu, 7, 11, 22) }, 0);
+        assert_eq!(unsafe { logbuffer_set_publication_limit(&mut record, 1 << 62) }, 0);
+        Log { bytes, record }
     }
 
     /// Opens the same memory again.
     pub fn reopen(&mut self, term: i32, mtu: i32) -> i32 {
-        unsafe { logbuffer_open(self.bytes.as_mut_ptr(), self.bytes.len(), term, mtu, 7, 11, 22) }.code
+        let mut record = Record::default();
+        unsafe { logbuffer_open(&mut record, self.bytes.as_mut_ptr(), self.bytes.len(), term, mtu, 7, 11, 22) }
     }
 
     pub fn offer(&mut self, message: &[u8]) -> i64 {
         let (log, n) = (self.bytes.as_mut_ptr(), self.bytes.len());
-        let reply = unsafe { logbuffer_offer(self.record, log, n, message.as_ptr(), message.len(), 0) };
-        self.record = reply.next;
+        let reply = unsafe { logbuffer_offer(&mut self.record, log, n, message.as_ptr(), message.len(), 0) };
         reply.position - reply.code as i64
     }
 
     pub fn claim_and_commit(&mut self, length: i32) -> i32 {
         let (log, n) = (self.bytes.as_mut_ptr(), self.bytes.len());
-        let reply = unsafe { logbuffer_try_claim(self.record, log, n, length) };
-        self.record = reply.next;
+        let reply = unsafe { logbuffer_try_claim(&mut self.record, log, n, length) };
         if reply.code == 0 {
-            return unsafe { logbuffer_commit(self.record, log, n, reply.claim) };
+            return unsafe { logbuffer_commit(&self.record, log, n, reply.claim) };
         }
         (reply.code as i64 - reply.position) as i32
     }
 
     /// Polls all of the log; fragments, and a sum over the entries.
     pub fn poll_all(&self, entries: &mut [i32], limit: i32) -> (usize, i64) {
-        let (mut image, mut fragments, mut sum) = (unsafe { logbuffer_image_new(0, 11) }, 0, 0);
+        let (mut image, mut fragments, mut sum) = (Image::default(), 0, 0);
+        unsafe { logbuffer_image_new(&mut image, 0, 11) };
         loop {
             let (log, n) = (self.bytes.as_ptr(), self.bytes.len());
-            let reply = unsafe { logbuffer_image_poll(image, self.record, log, n, entries.as_mut_ptr(), entries.len(), limit) };
+            let reply = unsafe { logbuffer_image_poll(&mut image, &self.record, log, n, entries.as_mut_ptr(), entries.len(), limit) };
             if reply.code != 0 || reply.fragments == 0 {
                 return (fragments, sum);
             }
             sum += entries[..2 * reply.entries].iter().map(|&x| x as i64).sum::<i64>();
-            fragments += reply.fragments;
-            image = reply.next;
+            fragments += reply.fragments as usize;
         }
     }
 
     /// Replays all of the log message by message: how many, and their bytes.
     pub fn replay_all(&self, buffer: &mut [u8]) -> (usize, usize) {
-        let (mut replay, mut messages, mut bytes) = (unsafe { logbuffer_replay_new(11) }, 0, 0);
+        let (mut replay, mut messages, mut bytes) = (Replay::default(), 0, 0);
+        unsafe { logbuffer_replay_new(&mut replay, 11) };
         loop {
             let (log, n) = (self.bytes.as_ptr(), self.bytes.len());
-            let reply = unsafe { logbuffer_replay_next(replay, self.record, log, n, buffer.as_mut_ptr(), buffer.len()) };
+            let reply = unsafe { logbuffer_replay_next(&mut replay, &self.record, log, n, buffer.as_mut_ptr(), buffer.len()) };
             if reply.code != 0 || reply.place == 0 {
                 return (messages, bytes);
             }
             messages += 1;
             bytes += reply.length;
             std::hint::black_box(reply.start);
-            replay = reply.next;
         }
     }
 
     /// The same in one call.
     pub fn count_all(&self, buffer: &mut [u8]) -> (usize, usize) {
         let (log, n) = (self.bytes.as_ptr(), self.bytes.len());
-        let reply = unsafe { logbuffer_replay_count(self.record, log, n, buffer.as_mut_ptr(), buffer.len(), 11) };
+        let reply = unsafe { logbuffer_replay_count(&self.record, log, n, buffer.as_mut_ptr(), buffer.len(), 11) };
         assert_eq!(reply.code, 0);
         (reply.messages, reply.bytes)
     }
 
     pub fn scan(&self, limit: i32) -> usize {
-        let reply = unsafe { logbuffer_scan(self.record, self.bytes.as_ptr(), self.bytes.len(), 0, 0, limit) };
+        let reply = unsafe { logbuffer_scan(&self.record, self.bytes.as_ptr(), self.bytes.len(), 0, 0, limit) };
         reply.offset + reply.code as usize
     }
 
     pub fn scan_for_gap(&self, high_mark: i32) -> usize {
-        let reply = unsafe { logbuffer_scan_for_gap(self.record, self.bytes.as_ptr(), self.bytes.len(), 0, 7, 0, high_mark) };
+        let reply = unsafe { logbuffer_scan_for_gap(&self.record, self.bytes.as_ptr(), self.bytes.len(), 0, 7, 0, high_mark) };
         reply.offset + reply.length + reply.code as usize + reply.is_gap as usize + reply.is_being_written as usize + reply.term_id as usize
     }
 
     pub fn scan_for_availability(&self, most: i32) -> i64 {
-        let reply = unsafe { logbuffer_scan_for_availability(self.record, self.bytes.as_ptr(), self.bytes.len(), 0, 0, most) };
+        let reply = unsafe { logbuffer_scan_for_availability(&self.record, self.bytes.as_ptr(), self.bytes.len(), 0, 0, most) };
         reply.outcome + reply.code as i64
     }
 }

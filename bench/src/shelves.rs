@@ -15,8 +15,8 @@ struct Record {
 }
 
 extern "C" {
-    fn logbuffer_shelve(rec: Record, log: *const u8, log_length: usize, partition: i32, out: *mut u8, out_length: usize) -> i32;
-    fn logbuffer_unshelve(rec: Record, shelf: *const u8, shelf_length: usize, out: *mut u8, out_length: usize) -> i32;
+    fn logbuffer_shelve(rec: *const Record, log: *const u8, log_length: usize, partition: i32, out: *mut u8, out_length: usize) -> i32;
+    fn logbuffer_unshelve(rec: *const Record, shelf: *const u8, shelf_length: usize, out: *mut u8, out_length: usize) -> i32;
 }
 
 fn record(term: usize) -> Record {
@@ -50,9 +50,9 @@ fn term(name: &str, term: usize, body: usize, times: usize) {
     let log = log_of(term, body);
     let (rec, kib) = (record(term), term / 1024 * times);
     let (mut shelf, mut back, mut copy) = (vec![0u8; term + 4], vec![0u8; term], vec![0u8; term]);
-    let shelve = |shelf: &mut [u8]| unsafe { logbuffer_shelve(rec, log.as_ptr(), log.len(), 0, shelf.as_mut_ptr(), shelf.len()) };
+    let shelve = |shelf: &mut [u8]| unsafe { logbuffer_shelve(&rec, log.as_ptr(), log.len(), 0, shelf.as_mut_ptr(), shelf.len()) };
     let unshelve = |shelf: &[u8], back: &mut [u8]| unsafe {
-        logbuffer_unshelve(rec, shelf.as_ptr(), shelf.len(), back.as_mut_ptr(), back.len())
+        logbuffer_unshelve(&rec, shelf.as_ptr(), shelf.len(), back.as_mut_ptr(), back.len())
     };
     assert_eq!((shelve(&mut shelf), unshelve(&shelf, &mut back)), (0, 0));
     assert!(back == log[..term]);

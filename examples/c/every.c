@@ -41,9 +41,9 @@ static void say_assembler(const char *call, struct logbuffer_assembler a) {
     SAY(call, "count id id id held held held", a.count, a.ids[0], a.ids[1], a.ids[15], a.held[0], a.held[1], a.held[15]);
 }
 
-static void say_poll(const char *call, struct logbuffer_poll_reply p) {
+static void say_poll(const char *call, struct logbuffer_image next, struct logbuffer_poll_reply p) {
     SAY(call, "code fragments entries", p.code, p.fragments, p.entries);
-    say_image("  next", p.next);
+    say_image("  next", next);
     SAY("  entries", "offset length offset length", entries[0], entries[1], entries[2], entries[3]);
     memset(entries, 0, sizeof entries);
 }
@@ -63,149 +63,159 @@ static void numbers(void) {
 
 /* A log with messages at 0 (4 bytes), at 128 (5 bytes) and from 256 to 448 (100 bytes, two fragments), and padding at 64 and 192. */
 static struct logbuffer_record written(void) {
-    struct logbuffer_record_reply r = logbuffer_open(log_bytes, sizeof log_bytes, TERM, 96, 7, 11, 22);
-    say_record("open", r.next, r.code);
-    r = logbuffer_set_publication_limit(r.next, 2 * TERM);
-    say_record("set_publication_limit", r.next, r.code);
-    struct logbuffer_offer_reply o = logbuffer_offer(r.next, log_bytes, sizeof log_bytes, (const uint8_t *)"coin", 4, 77);
-    say_record("offer", o.next, o.code);
+    struct logbuffer_record rec;
+    int32_t code = logbuffer_open(&rec, log_bytes, sizeof log_bytes, TERM, 96, 7, 11, 22);
+    say_record("open", rec, code);
+    code = logbuffer_set_publication_limit(&rec, 2 * TERM);
+    say_record("set_publication_limit", rec, code);
+    struct logbuffer_position_reply o = logbuffer_offer(&rec, log_bytes, sizeof log_bytes, (const uint8_t *)"coin", 4, 77);
+    say_record("offer", rec, o.code);
     SAY("  answer", "position", o.position);
-    struct logbuffer_claim_reply c = logbuffer_try_claim(o.next, log_bytes, sizeof log_bytes, 6);
-    say_record("try_claim", c.next, c.code);
+    struct logbuffer_claim_reply c = logbuffer_try_claim(&rec, log_bytes, sizeof log_bytes, 6);
+    say_record("try_claim", rec, c.code);
     SAY("  answer", "position", c.position);
     say_claim("  claim", c.claim);
-    SAY("abort", "code", logbuffer_abort(c.next, log_bytes, sizeof log_bytes, c.claim));
-    c = logbuffer_try_claim(c.next, log_bytes, sizeof log_bytes, 5);
-    struct logbuffer_span_reply s = logbuffer_claim_body(c.next, log_bytes, sizeof log_bytes, c.claim);
+    SAY("abort", "code", logbuffer_abort(&rec, log_bytes, sizeof log_bytes, c.claim));
+    c = logbuffer_try_claim(&rec, log_bytes, sizeof log_bytes, 5);
+    struct logbuffer_span_reply s = logbuffer_claim_body(&rec, log_bytes, sizeof log_bytes, c.claim);
     SAY("claim_body", "code start length", s.code, s.start, s.length);
     memcpy(log_bytes + s.start, "shard", s.length);
-    SAY("commit", "code", logbuffer_commit(c.next, log_bytes, sizeof log_bytes, c.claim));
-    SAY("claim_body_number", "code", logbuffer_claim_body_number(c.next, log_bytes, sizeof log_bytes, c.claim));
-    c = logbuffer_try_claim(c.next, log_bytes, sizeof log_bytes, 7);
-    logbuffer_abort(c.next, log_bytes, sizeof log_bytes, c.claim);
+    SAY("commit", "code", logbuffer_commit(&rec, log_bytes, sizeof log_bytes, c.claim));
+    SAY("claim_body_number", "code", logbuffer_claim_body_number(&rec, log_bytes, sizeof log_bytes, c.claim));
+    c = logbuffer_try_claim(&rec, log_bytes, sizeof log_bytes, 7);
+    logbuffer_abort(&rec, log_bytes, sizeof log_bytes, c.claim);
     uint8_t message[100];
     memset(message, 'x', sizeof message);
-    return logbuffer_offer(c.next, log_bytes, sizeof log_bytes, message, sizeof message, 88).next;
+    logbuffer_offer(&rec, log_bytes, sizeof log_bytes, message, sizeof message, 88);
+    return rec;
 }
 
 static void positions(struct logbuffer_record rec) {
-    struct logbuffer_position_reply p = logbuffer_position(rec);
+    struct logbuffer_position_reply p = logbuffer_position(&rec);
     SAY("position", "code position", p.code, p.position);
-    p = logbuffer_publication_limit(rec);
+    p = logbuffer_publication_limit(&rec);
     SAY("publication_limit", "code position", p.code, p.position);
-    p = logbuffer_available_window(rec);
+    p = logbuffer_available_window(&rec);
     SAY("available_window", "code position", p.code, p.position);
-    struct logbuffer_record_reply r = logbuffer_rotate_log(rec, 0, 7);
-    say_record("rotate_log", r.next, r.code);
-    r = logbuffer_close(rec);
-    say_record("close", r.next, r.code);
+    struct logbuffer_record turned = rec;
+    int32_t code = logbuffer_rotate_log(&turned, 0, 7);
+    say_record("rotate_log", turned, code);
+    code = logbuffer_close(&rec);
+    say_record("close", rec, code);
 }
 
 /* A second log, of session 13 and stream 26, whose partitions 1 and 2 are written with term ids 18 and 19. */
 static struct logbuffer_record appended(void) {
-    struct logbuffer_record rec = logbuffer_open(second_log, sizeof second_log, TERM, 96, 20, 13, 26).next;
+    struct logbuffer_record rec;
+    logbuffer_open(&rec, second_log, sizeof second_log, TERM, 96, 20, 13, 26);
     uint8_t message[100];
     memset(message, 'y', sizeof message);
     struct logbuffer_append_reply a =
-        logbuffer_append_unfragmented_message(rec, second_log, sizeof second_log, 1, message, 30, 55, 18);
-    say_record("append_unfragmented_message", a.next, a.code);
+        logbuffer_append_unfragmented_message(&rec, second_log, sizeof second_log, 1, message, 30, 55, 18);
+    say_record("append_unfragmented_message", rec, a.code);
     SAY("  answer", "tripped offset", a.is_tripped, a.offset);
-    a = logbuffer_append_fragmented_message(a.next, second_log, sizeof second_log, 2, message, 100, 33, 64, 19);
-    say_record("append_fragmented_message", a.next, a.code);
+    a = logbuffer_append_fragmented_message(&rec, second_log, sizeof second_log, 2, message, 100, 33, 64, 19);
+    say_record("append_fragmented_message", rec, a.code);
     SAY("  answer", "tripped offset", a.is_tripped, a.offset);
-    struct logbuffer_append_claim_reply c = logbuffer_append_claim(a.next, second_log, sizeof second_log, 2, 10, 19);
-    say_record("append_claim", c.next, c.code);
+    struct logbuffer_append_claim_reply c = logbuffer_append_claim(&rec, second_log, sizeof second_log, 2, 10, 19);
+    say_record("append_claim", rec, c.code);
     SAY("  answer", "tripped offset", c.is_tripped, c.offset);
     say_claim("  claim", c.claim);
-    struct logbuffer_record full = c.next;
+    struct logbuffer_record full = rec;
     full.tails[1] = ((int64_t)18 << 32) + TERM;
-    a = logbuffer_append_unfragmented_message(full, second_log, sizeof second_log, 1, message, 30, 55, 18);
+    struct logbuffer_record again = full;
+    a = logbuffer_append_unfragmented_message(&full, second_log, sizeof second_log, 1, message, 30, 55, 18);
     SAY("  a message where the term is full", "code tripped offset", a.code, a.is_tripped, a.offset);
-    struct logbuffer_append_claim_reply t = logbuffer_append_claim(full, second_log, sizeof second_log, 1, 10, 18);
+    struct logbuffer_append_claim_reply t = logbuffer_append_claim(&again, second_log, sizeof second_log, 1, 10, 18);
     SAY("  a claim there", "code tripped offset", t.code, t.is_tripped, t.offset);
-    return c.next;
+    return rec;
 }
 
 static void frames(struct logbuffer_record rec) {
-    struct logbuffer_header_reply h = logbuffer_header_fields(rec, second_log, sizeof second_log, 2, 96);
+    struct logbuffer_header_reply h = logbuffer_header_fields(&rec, second_log, sizeof second_log, 2, 96);
     struct logbuffer_header f = h.fields;
     SAY("header_fields", "code length version flags type offset session stream term_id reserved position", h.code, f.frame_length,
         f.version, f.flags, f.frame_type, f.term_offset, f.session_id, f.stream_id, f.term_id, f.reserved_value, f.position);
-    struct logbuffer_frame_length_reply l = logbuffer_frame_length(rec, second_log, sizeof second_log, 2, 96);
+    struct logbuffer_frame_length_reply l = logbuffer_frame_length(&rec, second_log, sizeof second_log, 2, 96);
     SAY("frame_length", "code state length", l.code, l.state, l.length);
-    l = logbuffer_frame_length(rec, second_log, sizeof second_log, 2, 192);
+    l = logbuffer_frame_length(&rec, second_log, sizeof second_log, 2, 192);
     SAY("  of an open claim", "code state length", l.code, l.state, l.length);
-    struct logbuffer_read_reply r = logbuffer_read(rec, second_log, sizeof second_log, 2, 0, 3, entries, 8);
+    struct logbuffer_read_reply r = logbuffer_read(&rec, second_log, sizeof second_log, 2, 0, 3, entries, 8);
     SAY("read", "code offset fragments", r.code, r.offset, r.fragments);
     SAY("  entries", "offset length offset length", entries[0], entries[1], entries[2], entries[3]);
     memset(entries, 0, sizeof entries);
-    struct logbuffer_span_reply v = logbuffer_view(rec, second_log, sizeof second_log, 2, 128, 36);
+    struct logbuffer_span_reply v = logbuffer_view(&rec, second_log, sizeof second_log, 2, 128, 36);
     SAY("view", "code start length", v.code, v.start, v.length);
     /* of offset and length it judges the sum alone, so here an exchange could not show */
-    SAY("view_number", "code", logbuffer_view_number(rec, second_log, sizeof second_log, 2, 65536, 1));
-    SAY("view_number", "code", logbuffer_view_number(rec, second_log, sizeof second_log, 2, 65535, 1));
-    struct logbuffer_scan_reply s = logbuffer_scan(rec, second_log, sizeof second_log, 2, 96, 4000);
+    SAY("view_number", "code", logbuffer_view_number(&rec, second_log, sizeof second_log, 2, 65536, 1));
+    SAY("view_number", "code", logbuffer_view_number(&rec, second_log, sizeof second_log, 2, 65535, 1));
+    struct logbuffer_scan_reply s = logbuffer_scan(&rec, second_log, sizeof second_log, 2, 96, 4000);
     SAY("scan", "code offset", s.code, s.offset);
-    struct logbuffer_gap_reply g = logbuffer_scan_for_gap(rec, second_log, sizeof second_log, 2, 19, 96, 4096);
+    struct logbuffer_gap_reply g = logbuffer_scan_for_gap(&rec, second_log, sizeof second_log, 2, 19, 96, 4096);
     SAY("scan_for_gap", "code gap being_written term_id offset length", g.code, g.is_gap, g.is_being_written, g.term_id, g.offset,
         g.length);
-    struct logbuffer_availability_reply a = logbuffer_scan_for_availability(rec, second_log, sizeof second_log, 2, 96, 128);
+    struct logbuffer_availability_reply a = logbuffer_scan_for_availability(&rec, second_log, sizeof second_log, 2, 96, 128);
     SAY("scan_for_availability", "code outcome", a.code, a.outcome);
 }
 
 static void images(struct logbuffer_record rec) {
     static const uint8_t actions[5] = {4, 1, 3, 2, 4};
-    struct logbuffer_image i = logbuffer_image_new(64, 33);
+    struct logbuffer_image i, moved;
+    logbuffer_image_new(&i, 64, 33);
     say_image("image_new", i);
-    say_poll("image_poll", logbuffer_image_poll(i, rec, log_bytes, sizeof log_bytes, entries, 8, 2));
-    say_poll("image_bounded_poll", logbuffer_image_bounded_poll(i, rec, log_bytes, sizeof log_bytes, entries, 8, 160, 3));
-    say_poll("image_controlled_poll", logbuffer_image_controlled_poll(i, rec, log_bytes, sizeof log_bytes, entries, 8, actions, 5, 3));
+    moved = i;
+    struct logbuffer_poll_reply q = logbuffer_image_poll(&moved, &rec, log_bytes, sizeof log_bytes, entries, 8, 2);
+    say_poll("image_poll", moved, q);
+    moved = i;
+    q = logbuffer_image_bounded_poll(&moved, &rec, log_bytes, sizeof log_bytes, entries, 8, 160, 3);
+    say_poll("image_bounded_poll", moved, q);
+    moved = i;
+    q = logbuffer_image_controlled_poll(&moved, &rec, log_bytes, sizeof log_bytes, entries, 8, actions, 5, 3);
+    say_poll("image_controlled_poll", moved, q);
     struct logbuffer_peek_reply p =
-        logbuffer_image_controlled_peek(i, rec, log_bytes, sizeof log_bytes, entries, 8, actions + 2, 2, 128, 400);
+        logbuffer_image_controlled_peek(&i, &rec, log_bytes, sizeof log_bytes, entries, 8, actions + 2, 2, 128, 400);
     SAY("image_controlled_peek", "code position entries", p.code, p.position, p.entries);
     SAY("  entries", "offset length offset length", entries[0], entries[1], entries[2], entries[3]);
-    struct logbuffer_image_reply r = logbuffer_image_set_position(i, rec, log_bytes, sizeof log_bytes, 128);
-    SAY("image_set_position", "code", r.code);
-    say_image("  next", r.next);
-    struct logbuffer_block_reply b = logbuffer_image_block_poll(r.next, rec, log_bytes, sizeof log_bytes, 100);
+    SAY("image_set_position", "code", logbuffer_image_set_position(&i, &rec, log_bytes, sizeof log_bytes, 128));
+    say_image("  next", i);
+    struct logbuffer_block_reply b = logbuffer_image_block_poll(&i, &rec, log_bytes, sizeof log_bytes, 100);
     SAY("image_block_poll", "code offset length session term_id", b.code, b.offset, b.length, b.session_id, b.term_id);
-    say_image("  next", b.next);
+    say_image("  next", i);
     rec.end_of_stream_position = 192;
-    struct logbuffer_end_of_stream_reply e = logbuffer_image_is_end_of_stream(b.next, rec, log_bytes, sizeof log_bytes);
+    struct logbuffer_end_of_stream_reply e = logbuffer_image_is_end_of_stream(&i, &rec, log_bytes, sizeof log_bytes);
     SAY("image_is_end_of_stream", "code eos", e.code, e.is_eos);
     rec.end_of_stream_position = 193;
-    r = logbuffer_image_close(b.next, rec, log_bytes, sizeof log_bytes);
-    SAY("image_close", "code", r.code);
-    say_image("  next", r.next);
+    SAY("image_close", "code", logbuffer_image_close(&i, &rec, log_bytes, sizeof log_bytes));
+    say_image("  next", i);
 }
 
 static void assemblies(struct logbuffer_record rec) {
-    struct logbuffer_assembler a = logbuffer_assembler_new();
+    struct logbuffer_assembler a;
+    logbuffer_assembler_new(&a);
     say_assembler("assembler_new", a);
     static const int32_t places[3][2] = {{1, 0}, {2, 0}, {2, 96}};
     for (int k = 0; k < 3; k++) {
-        struct logbuffer_assembly_reply r = logbuffer_assembler_on_fragment(a, rec, second_log, sizeof second_log, buffer, sizeof buffer,
-                                                                            places[k][0], places[k][1]);
+        struct logbuffer_assembly_reply r = logbuffer_assembler_on_fragment(&a, &rec, second_log, sizeof second_log, buffer,
+                                                                            sizeof buffer, places[k][0], places[k][1]);
         SAY("assembler_on_fragment", "code place start length", r.code, r.place, r.start, r.length);
-        say_assembler("  next", r.next);
-        a = r.next;
+        say_assembler("  next", a);
     }
 }
 
 static void replays(struct logbuffer_record rec) {
-    struct logbuffer_replay replay = logbuffer_replay_new(44);
+    struct logbuffer_replay replay;
+    logbuffer_replay_new(&replay, 44);
     say_image("replay_new", replay.image);
     say_assembler("  assembler", replay.assembler);
     replay.assembler.count = 1; /* a session entered before, so that the message lies in the second part */
     replay.assembler.ids[0] = 9;
     for (int k = 0; k < 4; k++) {
-        struct logbuffer_next_reply n = logbuffer_replay_next(replay, rec, log_bytes, sizeof log_bytes, buffer, sizeof buffer);
+        struct logbuffer_next_reply n = logbuffer_replay_next(&replay, &rec, log_bytes, sizeof log_bytes, buffer, sizeof buffer);
         SAY("replay_next", "code place start length", n.code, n.place, n.start, n.length);
-        say_image("  image", n.next.image);
-        say_assembler("  assembler", n.next.assembler);
-        replay = n.next;
+        say_image("  image", replay.image);
+        say_assembler("  assembler", replay.assembler);
     }
-    struct logbuffer_count_reply c = logbuffer_replay_count(rec, log_bytes, sizeof log_bytes, buffer, sizeof buffer, 55);
+    struct logbuffer_count_reply c = logbuffer_replay_count(&rec, log_bytes, sizeof log_bytes, buffer, sizeof buffer, 55);
     SAY("replay_count", "code messages bytes", c.code, c.messages, c.bytes);
 }
 
@@ -240,20 +250,21 @@ static void cards(void) {
 static void shelves(void) {
     static uint8_t shelf[TERM + LOGBUFFER_SHELF_COUNT_LENGTH], back[TERM], message[64];
     memset(message, 9, sizeof message);
-    struct logbuffer_record_reply r = logbuffer_open(second_log, sizeof second_log, TERM, 96, 7, 33, 44);
-    r = logbuffer_set_publication_limit(r.next, 2 * TERM);
-    struct logbuffer_offer_reply o = {r.next, 0, 0};
-    for (size_t k = 0; o.code == 0; k++) o = logbuffer_offer(o.next, second_log, sizeof second_log, message, 33 + k % 32, 0);
-    SAY("shelve", "code", logbuffer_shelve(o.next, second_log, sizeof second_log, 0, shelf, sizeof shelf));
+    struct logbuffer_record rec;
+    logbuffer_open(&rec, second_log, sizeof second_log, TERM, 96, 7, 33, 44);
+    logbuffer_set_publication_limit(&rec, 2 * TERM);
+    int32_t code = 0;
+    for (size_t k = 0; code == 0; k++) code = logbuffer_offer(&rec, second_log, sizeof second_log, message, 33 + k % 32, 0).code;
+    SAY("shelve", "code", logbuffer_shelve(&rec, second_log, sizeof second_log, 0, shelf, sizeof shelf));
     size_t n = shelf[0] + 256 * shelf[1];
     SAY("  shelf", "frames length length flags type last_type body body", n, shelf[4], shelf[5], shelf[4 + 5 * n], shelf[4 + 6 * n],
         shelf[4 + 6 * n + n - 1], shelf[4 + 32 * n], shelf[4 + 32 * n + 33]);
-    SAY("unshelve", "code", logbuffer_unshelve(o.next, shelf, sizeof shelf, back, sizeof back));
+    SAY("unshelve", "code", logbuffer_unshelve(&rec, shelf, sizeof shelf, back, sizeof back));
     SAY("  term", "is_the_same", memcmp(back, second_log, TERM) == 0);
-    SAY("shelve", "code", logbuffer_shelve(o.next, second_log, sizeof second_log, 1, shelf, sizeof shelf));
+    SAY("shelve", "code", logbuffer_shelve(&rec, second_log, sizeof second_log, 1, shelf, sizeof shelf));
     shelf[0]++;
-    SAY("unshelve", "code", logbuffer_unshelve(o.next, shelf, sizeof shelf, back, sizeof back));
-    SAY("unshelve", "code", logbuffer_unshelve(o.next, shelf, sizeof shelf, back, sizeof back - 1));
+    SAY("unshelve", "code", logbuffer_unshelve(&rec, shelf, sizeof shelf, back, sizeof back));
+    SAY("unshelve", "code", logbuffer_unshelve(&rec, shelf, sizeof shelf, back, sizeof back - 1));
 }
 
 int main(void) {

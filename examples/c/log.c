@@ -19,26 +19,23 @@ static void told(const char *call, int32_t code, int64_t position) {
     }
 }
 
-static struct logbuffer_record offer(struct logbuffer_record rec, const char *call, const uint8_t *message, size_t length) {
-    struct logbuffer_offer_reply o = logbuffer_offer(rec, log_bytes, sizeof log_bytes, message, length, 0);
+static void offer(struct logbuffer_record *rec, const char *call, const uint8_t *message, size_t length) {
+    struct logbuffer_position_reply o = logbuffer_offer(rec, log_bytes, sizeof log_bytes, message, length, 0);
     told(call, o.code, o.position);
-    return o.next;
 }
 
 /* Claims room for a text, writes it in place, and commits or aborts it. */
-static struct logbuffer_record claim(struct logbuffer_record rec, const char *call, const char *text, bool keep) {
+static void claim(struct logbuffer_record *rec, const char *call, const char *text, bool keep) {
     struct logbuffer_claim_reply c = logbuffer_try_claim(rec, log_bytes, sizeof log_bytes, (int32_t)strlen(text));
     told(call, c.code, c.position);
-    int32_t code = logbuffer_claim_write(c.next, log_bytes, sizeof log_bytes, c.claim, (const uint8_t *)text, strlen(text));
+    int32_t code = logbuffer_claim_write(rec, log_bytes, sizeof log_bytes, c.claim, (const uint8_t *)text, strlen(text));
     printf("  write: %" PRId32 "\n", code);
-    code = keep ? logbuffer_commit(c.next, log_bytes, sizeof log_bytes, c.claim)
-                : logbuffer_abort(c.next, log_bytes, sizeof log_bytes, c.claim);
+    code = keep ? logbuffer_commit(rec, log_bytes, sizeof log_bytes, c.claim) : logbuffer_abort(rec, log_bytes, sizeof log_bytes, c.claim);
     printf("  %s: %" PRId32 "\n", keep ? "commit" : "abort", code);
-    return c.next;
 }
 
 /* Tells an empty place from a frame that is still being written, where a reader stopped. */
-static void stopped(struct logbuffer_record rec, int64_t position) {
+static void stopped(const struct logbuffer_record *rec, int64_t position) {
     struct logbuffer_frame_length_reply f = logbuffer_frame_length(rec, log_bytes, sizeof log_bytes, (int32_t)(position / TERM % 3),
                                                                    (int32_t)(position % TERM));
     if (f.state == LOGBUFFER_WRITING) {
@@ -48,44 +45,43 @@ static void stopped(struct logbuffer_record rec, int64_t position) {
     }
 }
 
-static void replay(struct logbuffer_record rec) {
-    struct logbuffer_replay at = logbuffer_replay_new(rec.session_id);
+static void replay(const struct logbuffer_record *rec) {
+    struct logbuffer_replay at;
+    logbuffer_replay_new(&at, rec->session_id);
     for (;;) {
-        struct logbuffer_next_reply n =
-            logbuffer_replay_next(at, rec, log_bytes, sizeof log_bytes, buffer, sizeof buffer);
+        struct logbuffer_next_reply n = logbuffer_replay_next(&at, rec, log_bytes, sizeof log_bytes, buffer, sizeof buffer);
         if (n.code != 0 || n.place == LOGBUFFER_NOTHING) {
-            printf("replay ends: code %" PRId32 ", position %" PRId64 "\n", n.code, n.next.image.position);
-            stopped(rec, n.next.image.position);
+            printf("replay ends: code %" PRId32 ", position %" PRId64 "\n", n.code, at.image.position);
+            stopped(rec, at.image.position);
             return;
         }
         const uint8_t *bytes = n.place == LOGBUFFER_IN_LOG ? log_bytes : buffer;
         int shown = n.length < 24 ? (int)n.length : 24;
         printf("replay: %zu bytes, \"%.*s\"\n", n.length, shown, (const char *)bytes + n.start);
-        at = n.next;
     }
 }
 
 int main(void) {
-    struct logbuffer_record_reply r = logbuffer_open(log_bytes, sizeof log_bytes, TERM, 96, 7, 11, 22);
-    printf("open: %" PRId32 "\n", r.code);
-    struct logbuffer_record rec = offer(r.next, "offer before a limit is set", (const uint8_t *)"coin", 4);
+    struct logbuffer_record rec;
+    printf("open: %" PRId32 "\n", logbuffer_open(&rec, log_bytes, sizeof log_bytes, TERM, 96, 7, 11, 22));
+    offer(&rec, "offer before a limit is set", (const uint8_t *)"coin", 4);
     /* two terms ahead of the slowest reader, here at 0: include/logbuffer.h says why */
-    rec = logbuffer_set_publication_limit(rec, 2 * TERM).next;
-    rec = offer(rec, "offer of 4 bytes", (const uint8_t *)"coin", 4);
-    rec = claim(rec, "claim of 8 bytes", "potsherd", true);
-    rec = claim(rec, "claim of 6 bytes", "fibula", false);
+    logbuffer_set_publication_limit(&rec, 2 * TERM);
+    offer(&rec, "offer of 4 bytes", (const uint8_t *)"coin", 4);
+    claim(&rec, "claim of 8 bytes", "potsherd", true);
+    claim(&rec, "claim of 6 bytes", "fibula", false);
     uint8_t long_message[200];
     memset(long_message, 'x', sizeof long_message);
-    rec = offer(rec, "offer of 200 bytes, in fragments", long_message, sizeof long_message);
-    struct logbuffer_claim_reply left = logbuffer_try_claim(rec, log_bytes, sizeof log_bytes, 5);
+    offer(&rec, "offer of 200 bytes, in fragments", long_message, sizeof long_message);
+    struct logbuffer_claim_reply left = logbuffer_try_claim(&rec, log_bytes, sizeof log_bytes, 5);
     told("claim of 5 bytes, left open", left.code, left.position);
-    rec = offer(left.next, "offer behind it", (const uint8_t *)"pin", 3);
-    replay(rec);
-    printf("abort: %" PRId32 "\n", logbuffer_abort(rec, log_bytes, sizeof log_bytes, left.claim));
-    rec = logbuffer_close(rec).next;
-    rec = offer(rec, "offer after close", (const uint8_t *)"late", 4);
-    replay(rec);
-    struct logbuffer_count_reply n = logbuffer_replay_count(rec, log_bytes, sizeof log_bytes, buffer, sizeof buffer, 11);
+    offer(&rec, "offer behind it", (const uint8_t *)"pin", 3);
+    replay(&rec);
+    printf("abort: %" PRId32 "\n", logbuffer_abort(&rec, log_bytes, sizeof log_bytes, left.claim));
+    logbuffer_close(&rec);
+    offer(&rec, "offer after close", (const uint8_t *)"late", 4);
+    replay(&rec);
+    struct logbuffer_count_reply n = logbuffer_replay_count(&rec, log_bytes, sizeof log_bytes, buffer, sizeof buffer, 11);
     printf("count: %zu messages, %zu bytes\n", n.messages, n.bytes);
     return 0;
 }

@@ -24,42 +24,41 @@ mod c {
             pub struct $name { $(pub $field: $kind),* }
         };
     }
-    reply!(RecordReply { next: Record, code: i32 });
     reply!(PositionReply { code: i32, position: i64 });
-    reply!(OfferReply { next: Record, code: i32, position: i64 });
-    reply!(ClaimReply { next: Record, code: i32, position: i64, claim: Claim });
+    reply!(ClaimReply { code: i32, position: i64, claim: Claim });
     reply!(SpanReply { code: i32, start: usize, length: usize });
-    reply!(AppendReply { next: Record, code: i32, is_tripped: bool, offset: usize });
-    reply!(AppendClaimReply { next: Record, code: i32, is_tripped: bool, offset: usize, claim: Claim });
+    reply!(AppendReply { code: i32, is_tripped: bool, offset: usize });
+    reply!(AppendClaimReply { code: i32, is_tripped: bool, offset: usize, claim: Claim });
     reply!(Header {
         frame_length: i32, version: u8, flags: u8, frame_type: u16, term_offset: i32, session_id: i32, stream_id: i32,
         term_id: i32, reserved_value: i64, position: i64
     });
     reply!(HeaderReply { code: i32, fields: Header });
-    reply!(ReadReply { code: i32, offset: usize, fragments: usize });
+    reply!(ReadReply { code: i32, fragments: u32, offset: usize });
     reply!(ScanReply { code: i32, offset: usize });
     reply!(FrameLengthReply { code: i32, state: i32, length: usize });
     reply!(GapReply { code: i32, is_gap: bool, is_being_written: bool, term_id: i32, offset: usize, length: usize });
     reply!(AvailabilityReply { code: i32, outcome: i64 });
-    reply!(PollReply { next: Image, code: i32, fragments: usize, entries: usize });
-    reply!(PeekReply { next: Image, code: i32, position: i64, entries: usize });
-    reply!(BlockReply { next: Image, code: i32, offset: usize, length: usize, session_id: i32, term_id: i32 });
-    reply!(ImageReply { next: Image, code: i32 });
+    reply!(PollReply { code: i32, fragments: u32, entries: usize });
+    reply!(PeekReply { code: i32, entries: u32, position: i64 });
+    reply!(BlockReply { code: i32, offset: usize, length: usize, session_id: i32, term_id: i32 });
     reply!(EndOfStreamReply { code: i32, is_eos: bool });
-    reply!(AssemblyReply { next: Assembler, code: i32, place: i32, start: usize, length: usize });
-    reply!(NextReply { next: Replay, code: i32, place: i32, start: usize, length: usize });
+    reply!(AssemblyReply { code: i32, place: i32, start: usize, length: usize });
+    reply!(NextReply { code: i32, place: i32, start: usize, length: usize });
     reply!(CountReply { code: i32, messages: usize, bytes: usize });
 
     type In = *const u8;
     type Out = *mut u8;
     extern "C" {
-        pub fn logbuffer_open(log: Out, n: usize, term: i32, mtu: i32, initial: i32, session: i32, stream: i32) -> RecordReply;
-        pub fn logbuffer_set_publication_limit(rec: Record, limit: i64) -> RecordReply;
-        pub fn logbuffer_close(rec: Record) -> RecordReply;
-        pub fn logbuffer_rotate_log(rec: Record, count: i32, term_id: i32) -> RecordReply;
-        pub fn logbuffer_position(rec: Record) -> PositionReply;
-        pub fn logbuffer_publication_limit(rec: Record) -> PositionReply;
-        pub fn logbuffer_available_window(rec: Record) -> PositionReply;
+        pub fn logbuffer_open(
+            rec: *mut Record, log: Out, n: usize, term: i32, mtu: i32, initial: i32, session: i32, stream: i32,
+        ) -> i32;
+        pub fn logbuffer_set_publication_limit(rec: *mut Record, limit: i64) -> i32;
+        pub fn logbuffer_close(rec: *mut Record) -> i32;
+        pub fn logbuffer_rotate_log(rec: *mut Record, count: i32, term_id: i32) -> i32;
+        pub fn logbuffer_position(rec: *const Record) -> PositionReply;
+        pub fn logbuffer_publication_limit(rec: *const Record) -> PositionReply;
+        pub fn logbuffer_available_window(rec: *const Record) -> PositionReply;
         pub fn logbuffer_align(value: u32) -> usize;
         pub fn logbuffer_is_power_of_two(value: u32) -> bool;
         pub fn logbuffer_term_id(raw_tail: i64) -> i32;
@@ -68,58 +67,58 @@ mod c {
         pub fn logbuffer_index_by_position(position: u64, bits: u32) -> usize;
         pub fn logbuffer_position_bits_to_shift(term_length: u32) -> u32;
         pub fn logbuffer_compute_position(term_id: i32, offset: u32, bits: u32, initial: i32) -> PositionReply;
-        pub fn logbuffer_offer(rec: Record, log: Out, n: usize, message: In, length: usize, reserved: i64) -> OfferReply;
-        pub fn logbuffer_try_claim(rec: Record, log: Out, n: usize, length: i32) -> ClaimReply;
-        pub fn logbuffer_claim_body(rec: Record, log: In, n: usize, claim: Claim) -> SpanReply;
-        pub fn logbuffer_claim_body_number(rec: Record, log: In, n: usize, claim: Claim) -> i32;
-        pub fn logbuffer_commit(rec: Record, log: Out, n: usize, claim: Claim) -> i32;
-        pub fn logbuffer_abort(rec: Record, log: Out, n: usize, claim: Claim) -> i32;
+        pub fn logbuffer_offer(rec: *mut Record, log: Out, n: usize, message: In, length: usize, reserved: i64) -> PositionReply;
+        pub fn logbuffer_try_claim(rec: *mut Record, log: Out, n: usize, length: i32) -> ClaimReply;
+        pub fn logbuffer_claim_body(rec: *const Record, log: In, n: usize, claim: Claim) -> SpanReply;
+        pub fn logbuffer_claim_body_number(rec: *const Record, log: In, n: usize, claim: Claim) -> i32;
+        pub fn logbuffer_commit(rec: *const Record, log: Out, n: usize, claim: Claim) -> i32;
+        pub fn logbuffer_abort(rec: *const Record, log: Out, n: usize, claim: Claim) -> i32;
         pub fn logbuffer_append_unfragmented_message(
-            rec: Record, log: Out, n: usize, partition: i32, message: In, length: usize, reserved: i64, term_id: i32,
+            rec: *mut Record, log: Out, n: usize, partition: i32, message: In, length: usize, reserved: i64, term_id: i32,
         ) -> AppendReply;
         pub fn logbuffer_append_fragmented_message(
-            rec: Record, log: Out, n: usize, partition: i32, message: In, length: usize, reserved: i64, payload: i32, term_id: i32,
+            rec: *mut Record, log: Out, n: usize, partition: i32, message: In, length: usize, reserved: i64, payload: i32, term_id: i32,
         ) -> AppendReply;
-        pub fn logbuffer_append_claim(rec: Record, log: Out, n: usize, partition: i32, length: i32, term_id: i32) -> AppendClaimReply;
-        pub fn logbuffer_header_fields(rec: Record, log: In, n: usize, partition: i32, offset: i32) -> HeaderReply;
-        pub fn logbuffer_frame_length(rec: Record, log: In, n: usize, partition: i32, offset: i32) -> FrameLengthReply;
+        pub fn logbuffer_append_claim(rec: *mut Record, log: Out, n: usize, partition: i32, length: i32, term_id: i32) -> AppendClaimReply;
+        pub fn logbuffer_header_fields(rec: *const Record, log: In, n: usize, partition: i32, offset: i32) -> HeaderReply;
+        pub fn logbuffer_frame_length(rec: *const Record, log: In, n: usize, partition: i32, offset: i32) -> FrameLengthReply;
         pub fn logbuffer_read(
-            rec: Record, log: In, n: usize, partition: i32, offset: i32, limit: i32, entries: *mut i32, m: usize,
+            rec: *const Record, log: In, n: usize, partition: i32, offset: i32, limit: i32, entries: *mut i32, m: usize,
         ) -> ReadReply;
-        pub fn logbuffer_view(rec: Record, log: In, n: usize, partition: i32, offset: i32, length: i32) -> SpanReply;
-        pub fn logbuffer_view_number(rec: Record, log: In, n: usize, partition: i32, offset: i32, length: i32) -> i32;
-        pub fn logbuffer_scan(rec: Record, log: In, n: usize, partition: i32, offset: i32, limit: i32) -> ScanReply;
+        pub fn logbuffer_view(rec: *const Record, log: In, n: usize, partition: i32, offset: i32, length: i32) -> SpanReply;
+        pub fn logbuffer_view_number(rec: *const Record, log: In, n: usize, partition: i32, offset: i32, length: i32) -> i32;
+        pub fn logbuffer_scan(rec: *const Record, log: In, n: usize, partition: i32, offset: i32, limit: i32) -> ScanReply;
         pub fn logbuffer_scan_for_gap(
-            rec: Record, log: In, n: usize, partition: i32, term_id: i32, offset: i32, high_mark: i32,
+            rec: *const Record, log: In, n: usize, partition: i32, term_id: i32, offset: i32, high_mark: i32,
         ) -> GapReply;
         pub fn logbuffer_scan_for_availability(
-            rec: Record, log: In, n: usize, partition: i32, offset: i32, maximum: i32,
+            rec: *const Record, log: In, n: usize, partition: i32, offset: i32, maximum: i32,
         ) -> AvailabilityReply;
-        pub fn logbuffer_image_new(position: i64, session_id: i32) -> Image;
+        pub fn logbuffer_image_new(image: *mut Image, position: i64, session_id: i32);
         pub fn logbuffer_image_poll(
-            image: Image, rec: Record, log: In, n: usize, entries: *mut i32, m: usize, limit: i32,
+            image: *mut Image, rec: *const Record, log: In, n: usize, entries: *mut i32, m: usize, limit: i32,
         ) -> PollReply;
         pub fn logbuffer_image_bounded_poll(
-            image: Image, rec: Record, log: In, n: usize, entries: *mut i32, m: usize, limit_position: i64, limit: i32,
+            image: *mut Image, rec: *const Record, log: In, n: usize, entries: *mut i32, m: usize, limit_position: i64, limit: i32,
         ) -> PollReply;
         pub fn logbuffer_image_controlled_poll(
-            image: Image, rec: Record, log: In, n: usize, entries: *mut i32, m: usize, actions: In, a: usize, limit: i32,
+            image: *mut Image, rec: *const Record, log: In, n: usize, entries: *mut i32, m: usize, actions: In, a: usize, limit: i32,
         ) -> PollReply;
         pub fn logbuffer_image_controlled_peek(
-            image: Image, rec: Record, log: In, n: usize, entries: *mut i32, m: usize, actions: In, a: usize, start: i64,
+            image: *const Image, rec: *const Record, log: In, n: usize, entries: *mut i32, m: usize, actions: In, a: usize, start: i64,
             limit_position: i64,
         ) -> PeekReply;
-        pub fn logbuffer_image_block_poll(image: Image, rec: Record, log: In, n: usize, limit: i32) -> BlockReply;
-        pub fn logbuffer_image_set_position(image: Image, rec: Record, log: In, n: usize, new_position: i64) -> ImageReply;
-        pub fn logbuffer_image_is_end_of_stream(image: Image, rec: Record, log: In, n: usize) -> EndOfStreamReply;
-        pub fn logbuffer_image_close(image: Image, rec: Record, log: In, n: usize) -> ImageReply;
-        pub fn logbuffer_assembler_new() -> Assembler;
+        pub fn logbuffer_image_block_poll(image: *mut Image, rec: *const Record, log: In, n: usize, limit: i32) -> BlockReply;
+        pub fn logbuffer_image_set_position(image: *mut Image, rec: *const Record, log: In, n: usize, new_position: i64) -> i32;
+        pub fn logbuffer_image_is_end_of_stream(image: *const Image, rec: *const Record, log: In, n: usize) -> EndOfStreamReply;
+        pub fn logbuffer_image_close(image: *mut Image, rec: *const Record, log: In, n: usize) -> i32;
+        pub fn logbuffer_assembler_new(assembler: *mut Assembler);
         pub fn logbuffer_assembler_on_fragment(
-            assembler: Assembler, rec: Record, log: In, n: usize, buffer: Out, m: usize, partition: i32, offset: i32,
+            assembler: *mut Assembler, rec: *const Record, log: In, n: usize, buffer: Out, m: usize, partition: i32, offset: i32,
         ) -> AssemblyReply;
-        pub fn logbuffer_replay_new(session_id: i32) -> Replay;
-        pub fn logbuffer_replay_next(replay: Replay, rec: Record, log: In, n: usize, buffer: Out, m: usize) -> NextReply;
-        pub fn logbuffer_replay_count(rec: Record, log: In, n: usize, buffer: Out, m: usize, session_id: i32) -> CountReply;
+        pub fn logbuffer_replay_new(replay: *mut Replay, session_id: i32);
+        pub fn logbuffer_replay_next(replay: *mut Replay, rec: *const Record, log: In, n: usize, buffer: Out, m: usize) -> NextReply;
+        pub fn logbuffer_replay_count(rec: *const Record, log: In, n: usize, buffer: Out, m: usize, session_id: i32) -> CountReply;
     }
 }
 
@@ -223,32 +222,20 @@ impl Port {
         Some(Answer::default())
     }
 
-    fn next_record(&mut self, reply: c::RecordReply) -> Answer {
-        self.record = reply.next;
-        Answer::refusal(reply.code)
-    }
-
     fn on_record(&mut self, call: &Call) -> Option<Answer> {
-        let record = self.record;
+        let (log, n) = self.log_mut();
+        let record: *mut Record = &mut self.record;
         let position = |reply: c::PositionReply| Answer { code: reply.code, ..Answer::of(&[reply.position]) };
         Some(match call {
-            Call::Open { term_length, mtu_length, initial_term_id, session_id, stream_id } => {
-                let (log, n) = self.log_mut();
-                let reply =
-                    unsafe { c::logbuffer_open(log, n, *term_length, *mtu_length, *initial_term_id, *session_id, *stream_id) };
-                if reply.code != 0 {
-                    // A refused opening answers a record of zeros; the one that is there stays.
-                    let code = if reply.next == Record::default() { reply.code } else { -1 };
-                    return Some(Answer::refusal(code));
-                }
-                self.next_record(reply)
-            }
+            Call::Open { term_length, mtu_length, initial_term_id, session_id, stream_id } => Answer::refusal(unsafe {
+                c::logbuffer_open(record, log, n, *term_length, *mtu_length, *initial_term_id, *session_id, *stream_id)
+            }),
             Call::SetPublicationLimit { limit } => {
-                self.next_record(unsafe { c::logbuffer_set_publication_limit(record, *limit) })
+                Answer::refusal(unsafe { c::logbuffer_set_publication_limit(record, *limit) })
             }
-            Call::Close => self.next_record(unsafe { c::logbuffer_close(record) }),
+            Call::Close => Answer::refusal(unsafe { c::logbuffer_close(record) }),
             Call::RotateLog { count, term_id } => {
-                self.next_record(unsafe { c::logbuffer_rotate_log(record, *count, *term_id) })
+                Answer::refusal(unsafe { c::logbuffer_rotate_log(record, *count, *term_id) })
             }
             Call::Position => position(unsafe { c::logbuffer_position(record) }),
             Call::PublicationLimit => position(unsafe { c::logbuffer_publication_limit(record) }),
@@ -258,17 +245,16 @@ impl Port {
     }
 
     fn writing(&mut self, call: &Call) -> Option<Answer> {
-        let (record, (log, n)) = (self.record, self.log_mut());
+        let (log, n) = self.log_mut();
+        let record: *mut Record = &mut self.record;
         Some(match call {
             Call::Offer { message, reserved_value } => {
                 let reply =
                     unsafe { c::logbuffer_offer(record, log, n, message.as_ptr(), message.len(), *reserved_value) };
-                self.record = reply.next;
                 Answer { code: reply.code, ..Answer::of(&[reply.position]) }
             }
             Call::TryClaim { length } => {
                 let reply = unsafe { c::logbuffer_try_claim(record, log, n, *length) };
-                self.record = reply.next;
                 Answer { code: reply.code, ..claimed(&[reply.position], reply.claim) }
             }
             _ => return None,
@@ -276,7 +262,8 @@ impl Port {
     }
 
     fn claims(&mut self, call: &Call) -> Option<Answer> {
-        let (record, (log, n)) = (self.record, self.log_mut());
+        let (log, n) = self.log_mut();
+        let record: *mut Record = &mut self.record;
         Some(match call {
             Call::WriteBody { claim, first } => {
                 let span = unsafe { c::logbuffer_claim_body(record, log, n, *claim) };
@@ -294,7 +281,8 @@ impl Port {
     }
 
     fn appending(&mut self, call: &Call) -> Option<Answer> {
-        let (record, (log, n)) = (self.record, self.log_mut());
+        let (log, n) = self.log_mut();
+        let record: *mut Record = &mut self.record;
         Some(match call {
             Call::AppendUnfragmented { partition, message: m, reserved_value, term_id } => {
                 let reply = unsafe {
@@ -302,7 +290,6 @@ impl Port {
                         record, log, n, *partition, m.as_ptr(), m.len(), *reserved_value, *term_id,
                     )
                 };
-                self.record = reply.next;
                 Answer { code: reply.code, ..Answer::of(&[reply.is_tripped as i64, reply.offset as i64]) }
             }
             Call::AppendFragmented { partition, message: m, reserved_value, payload_limit, term_id } => {
@@ -311,12 +298,10 @@ impl Port {
                         record, log, n, *partition, m.as_ptr(), m.len(), *reserved_value, *payload_limit, *term_id,
                     )
                 };
-                self.record = reply.next;
                 Answer { code: reply.code, ..Answer::of(&[reply.is_tripped as i64, reply.offset as i64]) }
             }
             Call::AppendClaim { partition, length, term_id } => {
                 let reply = unsafe { c::logbuffer_append_claim(record, log, n, *partition, *length, *term_id) };
-                self.record = reply.next;
                 let values = [reply.is_tripped as i64, reply.offset as i64];
                 Answer { code: reply.code, ..claimed(&values, reply.claim) }
             }
@@ -325,7 +310,7 @@ impl Port {
     }
 
     fn frames(&mut self, call: &Call) -> Option<Answer> {
-        let (record, (log, n)) = (self.record, self.log());
+        let (record, (log, n)) = (&self.record as *const Record, self.log());
         Some(match call {
             Call::HeaderFields { partition, offset } => {
                 let told = unsafe { c::logbuffer_frame_length(record, log, n, *partition, *offset) };
@@ -363,7 +348,7 @@ impl Port {
     }
 
     fn scans(&mut self, call: &Call) -> Option<Answer> {
-        let (record, (log, n)) = (self.record, self.log());
+        let (record, (log, n)) = (&self.record as *const Record, self.log());
         Some(match call {
             Call::Scan { partition, offset, limit } => {
                 let reply = unsafe { c::logbuffer_scan(record, log, n, *partition, *offset, *limit) };
@@ -395,11 +380,10 @@ impl Port {
         answer
     }
 
-    fn polled(&mut self, image: usize, entries: usize, run: impl FnOnce(*mut i32, usize) -> c::PollReply) -> Answer {
+    fn polled(&mut self, image: usize, entries: usize, run: impl FnOnce(*mut Image, *mut i32, usize) -> c::PollReply) -> Answer {
         let mut next = self.images[image];
         let answer = self.with_entries(entries, |lent, m| {
-            let reply = run(lent, m);
-            next = reply.next;
+            let reply = run(&mut next, lent, m);
             Answer { code: reply.code, ..Answer::of(&[reply.fragments as i64, reply.entries as i64]) }
         });
         self.images[image] = next;
@@ -407,80 +391,73 @@ impl Port {
     }
 
     fn polling(&mut self, call: &Call) -> Option<Answer> {
-        let (record, (log, n), images) = (self.record, self.log(), self.images);
+        let (record, (log, n)) = (&self.record as *const Record, self.log());
         Some(match call {
-            Call::Poll { image, entries, fragment_limit } => self.polled(*image, *entries, |lent, m| unsafe {
-                c::logbuffer_image_poll(images[*image], record, log, n, lent, m, *fragment_limit)
+            Call::Poll { image, entries, fragment_limit } => self.polled(*image, *entries, |image, lent, m| unsafe {
+                c::logbuffer_image_poll(image, record, log, n, lent, m, *fragment_limit)
             }),
             Call::BoundedPoll { image, entries, limit_position, fragment_limit } => {
-                self.polled(*image, *entries, |lent, m| unsafe {
-                    c::logbuffer_image_bounded_poll(images[*image], record, log, n, lent, m, *limit_position, *fragment_limit)
+                self.polled(*image, *entries, |image, lent, m| unsafe {
+                    c::logbuffer_image_bounded_poll(image, record, log, n, lent, m, *limit_position, *fragment_limit)
                 })
             }
             Call::ControlledPoll { image, entries, actions, fragment_limit } => {
                 let (bytes, a) = (actions.as_ptr(), actions.len());
-                self.polled(*image, *entries, |lent, m| unsafe {
-                    c::logbuffer_image_controlled_poll(images[*image], record, log, n, lent, m, bytes, a, *fragment_limit)
+                self.polled(*image, *entries, |image, lent, m| unsafe {
+                    c::logbuffer_image_controlled_poll(image, record, log, n, lent, m, bytes, a, *fragment_limit)
                 })
             }
             Call::ControlledPeek { image, entries, actions, start, limit_position } => {
                 let (bytes, a) = (actions.as_ptr(), actions.len());
-                let mut next = images[*image];
-                let answer = self.with_entries(*entries, |lent, m| {
+                let from: *const Image = &self.images[*image];
+                self.with_entries(*entries, |lent, m| {
                     let reply = unsafe {
-                        c::logbuffer_image_controlled_peek(next, record, log, n, lent, m, bytes, a, *start, *limit_position)
+                        c::logbuffer_image_controlled_peek(from, record, log, n, lent, m, bytes, a, *start, *limit_position)
                     };
-                    next = reply.next;
                     Answer { code: reply.code, ..Answer::of(&[reply.position, reply.entries as i64]) }
-                });
-                self.images[*image] = next;
-                answer
+                })
             }
             _ => return None,
         })
     }
 
     fn imaging(&mut self, call: &Call) -> Option<Answer> {
-        let (record, (log, n), images) = (self.record, self.log(), self.images);
+        let (record, (log, n)) = (&self.record as *const Record, self.log());
         Some(match call {
             Call::ImageNew { image, position, session_id } => {
-                self.images[*image] = unsafe { c::logbuffer_image_new(*position, *session_id) };
+                unsafe { c::logbuffer_image_new(&mut self.images[*image], *position, *session_id) };
                 Answer::default()
             }
             Call::BlockPoll { image, limit } => {
-                let r = unsafe { c::logbuffer_image_block_poll(images[*image], record, log, n, *limit) };
-                self.images[*image] = r.next;
+                let r = unsafe { c::logbuffer_image_block_poll(&mut self.images[*image], record, log, n, *limit) };
                 Answer { code: r.code, ..Answer::of(&[r.offset as i64, r.length as i64, r.session_id as i64, r.term_id as i64]) }
             }
             Call::SetPosition { image, new_position } => {
-                let reply = unsafe { c::logbuffer_image_set_position(images[*image], record, log, n, *new_position) };
-                self.images[*image] = reply.next;
-                Answer::refusal(reply.code)
+                let image = &mut self.images[*image];
+                Answer::refusal(unsafe { c::logbuffer_image_set_position(image, record, log, n, *new_position) })
             }
             Call::IsEndOfStream { image } => {
-                let reply = unsafe { c::logbuffer_image_is_end_of_stream(images[*image], record, log, n) };
+                let reply = unsafe { c::logbuffer_image_is_end_of_stream(&self.images[*image], record, log, n) };
                 Answer { code: reply.code, ..Answer::of(&[reply.is_eos as i64]) }
             }
             Call::ImageClose { image } => {
-                let reply = unsafe { c::logbuffer_image_close(images[*image], record, log, n) };
-                self.images[*image] = reply.next;
-                Answer::refusal(reply.code)
+                Answer::refusal(unsafe { c::logbuffer_image_close(&mut self.images[*image], record, log, n) })
             }
             _ => return None,
         })
     }
 
     fn assembling(&mut self, call: &Call) -> Option<Answer> {
-        let (record, (log, n)) = (self.record, self.log());
+        let (record, (log, n)) = (&self.record as *const Record, self.log());
         Some(match call {
             Call::AssemblerNew { buffer } => {
-                self.assembler = unsafe { c::logbuffer_assembler_new() };
+                unsafe { c::logbuffer_assembler_new(&mut self.assembler) };
                 self.buffer = Lent::zeroed(*buffer);
                 Answer::default()
             }
             Call::OnFragment { partition, offset } => self.on_fragment(*partition, *offset),
             Call::ReplayNew { session_id, buffer } => {
-                self.replay = unsafe { c::logbuffer_replay_new(*session_id) };
+                unsafe { c::logbuffer_replay_new(&mut self.replay, *session_id) };
                 self.replay_buffer = Lent::zeroed(*buffer);
                 Answer::default()
             }
@@ -499,19 +476,18 @@ impl Port {
     fn on_fragment(&mut self, partition: i32, offset: i32) -> Answer {
         let (record, (log, n)) = (self.record, self.log());
         let (buffer, m) = (self.buffer.get_mut().as_mut_ptr(), self.buffer.get().len());
-        let reply =
-            unsafe { c::logbuffer_assembler_on_fragment(self.assembler, record, log, n, buffer, m, partition, offset) };
-        self.assembler = reply.next;
+        let reply = unsafe {
+            c::logbuffer_assembler_on_fragment(&mut self.assembler, &record, log, n, buffer, m, partition, offset)
+        };
         let term = (partition.max(0) as usize).wrapping_mul(record.term_length.max(0) as usize);
         let bytes = self.message(reply.place as i64, reply.start, term + reply.start, reply.length, false);
         self.placed(reply.code, reply.place as i64, reply.start, bytes)
     }
 
     fn replay_next(&mut self) -> Answer {
-        let (record, (log, n)) = (self.record, self.log());
+        let (log, n) = self.log();
         let (buffer, m) = (self.replay_buffer.get_mut().as_mut_ptr(), self.replay_buffer.get().len());
-        let reply = unsafe { c::logbuffer_replay_next(self.replay, record, log, n, buffer, m) };
-        self.replay = reply.next;
+        let reply = unsafe { c::logbuffer_replay_next(&mut self.replay, &self.record, log, n, buffer, m) };
         let bytes = self.message(reply.place as i64, reply.start, reply.start, reply.length, true);
         self.placed(reply.code, reply.place as i64, reply.start, bytes)
     }

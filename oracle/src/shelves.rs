@@ -28,16 +28,16 @@ struct Record {
 }
 
 extern "C" {
-    fn logbuffer_shelve(rec: Record, log: *const u8, n: usize, partition: i32, out: *mut u8, m: usize) -> i32;
-    fn logbuffer_unshelve(rec: Record, shelf: *const u8, n: usize, out: *mut u8, m: usize) -> i32;
+    fn logbuffer_shelve(rec: *const Record, log: *const u8, n: usize, partition: i32, out: *mut u8, m: usize) -> i32;
+    fn logbuffer_unshelve(rec: *const Record, shelf: *const u8, n: usize, out: *mut u8, m: usize) -> i32;
 }
 
 fn port_shelve(rec: Record, log: &[u8], partition: i32, out: &mut [u8]) -> i32 {
-    unsafe { logbuffer_shelve(rec, log.as_ptr(), log.len(), partition, out.as_mut_ptr(), out.len()) }
+    unsafe { logbuffer_shelve(&rec, log.as_ptr(), log.len(), partition, out.as_mut_ptr(), out.len()) }
 }
 
 fn port_unshelve(rec: Record, shelf: &[u8], out: &mut [u8]) -> i32 {
-    unsafe { logbuffer_unshelve(rec, shelf.as_ptr(), shelf.len(), out.as_mut_ptr(), out.len()) }
+    unsafe { logbuffer_unshelve(&rec, shelf.as_ptr(), shelf.len(), out.as_mut_ptr(), out.len()) }
 }
 
 /// 01's ranges of a record, read a second time; the tail is the active partition's.

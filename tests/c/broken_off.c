@@ -22,10 +22,8 @@ static int32_t length_word(size_t at) {
     return word;
 }
 
-static struct logbuffer_record accepted(struct logbuffer_record rec, struct message m) {
-    struct logbuffer_offer_reply o = logbuffer_offer(rec, log_bytes, LOG, m.bytes, m.length, 0);
-    expect(o.code == 0, "an offer was refused", m.length);
-    return o.next;
+static void accepted(struct logbuffer_record *rec, struct message m) {
+    expect(logbuffer_offer(rec, log_bytes, LOG, m.bytes, m.length, 0).code == 0, "an offer was refused", m.length);
 }
 
 /* A message of `length` bytes of which only `present` are there, in a log that has taken two messages; `whole` frames come before the
@@ -35,15 +33,19 @@ static void run(const char *name, uint8_t *page_end, size_t length, size_t prese
     struct message list[3] = {{(const uint8_t *)"coin", 4}, {(const uint8_t *)"potsherd", 8}, {copy, length}};
     memset(copy, 'x', sizeof copy);
     memset(log_bytes, 0, LOG);
-    struct logbuffer_record rec = logbuffer_open(log_bytes, LOG, TERM, MTU, 7, SESSION, 22).next;
-    rec = logbuffer_set_publication_limit(rec, 1 << 20).next;
-    rec = accepted(accepted(rec, list[0]), list[1]);
+    struct logbuffer_record rec;
+    logbuffer_open(&rec, log_bytes, LOG, TERM, MTU, 7, SESSION, 22);
+    logbuffer_set_publication_limit(&rec, 1 << 20);
+    accepted(&rec, list[0]);
+    accepted(&rec, list[1]);
+    struct logbuffer_record before;
+    memcpy(&before, &rec, sizeof rec);
     size_t tail = (size_t)(rec.tails[0] & 0xffffffff);
 
     uint8_t *message = page_end - present;
     memset(message, 'x', present);
     if (sigsetjmp(out, 1) == 0) {
-        logbuffer_offer(rec, log_bytes, LOG, message, length, 0);
+        logbuffer_offer(&rec, log_bytes, LOG, message, length, 0);
         expect(0, "the offer came back", length);
     }
     printf("%s: broken off after %zu bytes; length words", name, present);
@@ -52,15 +54,16 @@ static void run(const char *name, uint8_t *page_end, size_t length, size_t prese
         printf(" %" PRId32, word);
         expect(i < whole ? word == MTU : word <= 0, "a length word", i);
     }
+    expect(memcmp(&rec, &before, sizeof rec) == 0, "the record has changed", length);
     /* The record as it was before the offer, and one whose tail has moved past the frames. */
     struct logbuffer_record moved = rec;
     moved.tails[0] += (int64_t)(whole + 1) * MTU;
-    expect(replayed(rec, log_bytes, list, 2, length) == 0, "the replay is refused", length);
-    expect(replayed(moved, log_bytes, list, 2, length) == 0, "the replay is refused", length);
+    expect(replayed(&rec, log_bytes, list, 2, length) == 0, "the replay is refused", length);
+    expect(replayed(&moved, log_bytes, list, 2, length) == 0, "the replay is refused", length);
     printf("; the two messages before it come back\n");
 
-    rec = accepted(rec, list[2]);
-    expect(replayed(rec, log_bytes, list, 3, length) == 0, "the replay is refused", length);
+    accepted(&rec, list[2]);
+    expect(replayed(&rec, log_bytes, list, 3, length) == 0, "the replay is refused", length);
     printf("  offered again: the three come back\n");
 }
 

@@ -45,8 +45,7 @@ static void frame(size_t start, size_t length, int message, size_t from, bool be
 }
 
 /* A trip pads the term and rotates the log; the call is then made again. */
-static bool tripped(struct logbuffer_record next, int32_t code, size_t start) {
-    rec = next;
+static bool tripped(int32_t code, size_t start) {
     if (code == 6) {
         frame(start, (start / TERM + 1) * TERM - start, -1, 0, true, true);
         return true;
@@ -57,12 +56,12 @@ static bool tripped(struct logbuffer_record next, int32_t code, size_t start) {
 
 static void offer(size_t length) {
     const uint8_t *bytes = text(length);
-    struct logbuffer_offer_reply o;
+    struct logbuffer_position_reply o;
     size_t start;
     do {
         start = tail();
-        o = logbuffer_offer(rec, log_bytes, LOG, bytes, length, 0);
-    } while (tripped(o.next, o.code, start));
+        o = logbuffer_offer(&rec, log_bytes, LOG, bytes, length, 0);
+    } while (tripped(o.code, start));
     for (size_t from = 0, part; from < length || from == 0; from += part, start += MTU) {
         part = length - from < MTU - HEADER ? length - from : MTU - HEADER;
         frame(start, part + HEADER, (int)message_count, from, from == 0, from + part == length);
@@ -81,22 +80,22 @@ static void claim(size_t length, enum end end) {
     size_t start;
     do {
         start = tail();
-        c = logbuffer_try_claim(rec, log_bytes, LOG, (int32_t)length);
-    } while (tripped(c.next, c.code, start));
-    expect(logbuffer_claim_write(rec, log_bytes, LOG, c.claim, bytes, length) == 0, "a writing was refused", start);
+        c = logbuffer_try_claim(&rec, log_bytes, LOG, (int32_t)length);
+    } while (tripped(c.code, start));
+    expect(logbuffer_claim_write(&rec, log_bytes, LOG, c.claim, bytes, length) == 0, "a writing was refused", start);
     if (end == COMMIT) {
-        expect(logbuffer_commit(rec, log_bytes, LOG, c.claim) == 0, "a commit was refused", start);
+        expect(logbuffer_commit(&rec, log_bytes, LOG, c.claim) == 0, "a commit was refused", start);
         frame(start, length + HEADER, (int)message_count, 0, true, true);
         messages[message_count++] = (struct message){bytes, length};
     } else {
-        expect(end == LEAVE_OPEN || logbuffer_abort(rec, log_bytes, LOG, c.claim) == 0, "an abort was refused", start);
+        expect(end == LEAVE_OPEN || logbuffer_abort(&rec, log_bytes, LOG, c.claim) == 0, "an abort was refused", start);
         frame(start, length + HEADER, -1, 0, true, true);
     }
 }
 
 static void calls(void) {
-    rec = logbuffer_open(log_bytes, LOG, TERM, MTU, 7, SESSION, 22).next;
-    rec = logbuffer_set_publication_limit(rec, 1 << 20).next;
+    logbuffer_open(&rec, log_bytes, LOG, TERM, MTU, 7, SESSION, 22);
+    logbuffer_set_publication_limit(&rec, 1 << 20);
     offer(10);
     offer(0);
     claim(20, COMMIT);
@@ -150,7 +149,7 @@ static void cut(size_t c) {
     size_t count = left_by(c, list, &through);
     memcpy(half, log_bytes, c);
     memset(half + c, 0, LOG - c);
-    int32_t code = replayed(rec, half, list, count, c);
+    int32_t code = replayed(&rec, half, list, count, c);
     bool bad_frame = code == 22 || code == 23;
     expect(code == 0 || (bad_frame && through > 0 && through < 4 && place == cut_at % TERM), "the replay is refused", c);
     cuts++;
@@ -160,7 +159,7 @@ static void cut(size_t c) {
 
 int main(void) {
     calls();
-    expect(replayed(rec, log_bytes, messages, message_count, LOG) == 0, "the whole log is refused", LOG);
+    expect(replayed(&rec, log_bytes, messages, message_count, LOG) == 0, "the whole log is refused", LOG);
     size_t end = tail(), last = frames[frame_count - 8].start;
     printf("%zu messages in %zu frames of %zu bytes come back from the whole log\n", message_count, frame_count, end);
     for (size_t c = 0; c < last; c += 97) {

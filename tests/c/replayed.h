@@ -29,10 +29,11 @@ static void expect(int holds, const char *what, size_t where) {
 static size_t place; /* of the frame that the last replay was refused at: its offset in its term */
 
 /* Replays a log up to its end or a refusal, holds each message to the list, and answers the refusal's number. */
-static int32_t replayed(struct logbuffer_record rec, const uint8_t *log, const struct message *list, size_t count, size_t where) {
-    struct logbuffer_replay at = logbuffer_replay_new(SESSION);
+static int32_t replayed(const struct logbuffer_record *rec, const uint8_t *log, const struct message *list, size_t count, size_t where) {
+    struct logbuffer_replay at;
+    logbuffer_replay_new(&at, SESSION);
     for (size_t i = 0;; i++) {
-        struct logbuffer_next_reply n = logbuffer_replay_next(at, rec, log, LOG, buffer, sizeof buffer);
+        struct logbuffer_next_reply n = logbuffer_replay_next(&at, rec, log, LOG, buffer, sizeof buffer);
         if (n.code != 0 || n.place == LOGBUFFER_NOTHING) {
             expect(i == count, "not as many messages as there should be", where);
             struct logbuffer_count_reply c = logbuffer_replay_count(rec, log, LOG, buffer, sizeof buffer, SESSION);
@@ -43,7 +44,6 @@ static int32_t replayed(struct logbuffer_record rec, const uint8_t *log, const s
         const uint8_t *bytes = (n.place == LOGBUFFER_IN_LOG ? log : buffer) + n.start;
         expect(i < count, "a message that should not be", where);
         expect(n.length == list[i].length && memcmp(bytes, list[i].bytes, n.length) == 0, "another message", where);
-        at = n.next;
     }
 }
 

@@ -7,7 +7,7 @@ archive=${ARCHIVE:-$root/target/staticlib/libcapi.a}
 [ -f "$archive" ] || (cd "$root" && rt staticlib capi >/dev/null)
 out=$(mktemp -d)
 trap 'rm -rf "$out"' EXIT
-for name in broken_off cut; do
+for name in layout broken_off cut; do
     cc -std=c11 -Wall -Wextra -Werror -O2 -I "$root/include" "$here/$name.c" "$archive" -o "$out/$name"
     "$out/$name" | tee "$out/printed"
     diff "$here/$name.txt" "$out/printed"

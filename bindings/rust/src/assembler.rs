@@ -59,8 +59,7 @@ impl Assembler {
     /// ```
     pub fn on_fragment<'a>(&'a mut self, log: &'a Log, fragment: &Fragment<'_>) -> Result<Option<&'a [u8]>, Error> {
         let (partition, offset) = (fragment.partition, fragment.offset);
-        let reply = sys::assembler_on_fragment(self.sessions, log.record, &log.bytes, &mut self.buffer, partition, offset);
-        self.sessions = reply.next;
+        let reply = sys::assembler_on_fragment(&mut self.sessions, &log.record, &log.bytes, &mut self.buffer, partition, offset);
         Error::check_frame(reply.code, partition, reply.start)?;
         Ok(match reply.place {
             sys::IN_LOG => Some(log.view(partition, reply.start as i32, reply.length as i32)?),

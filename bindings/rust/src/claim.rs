@@ -73,7 +73,7 @@ impl<'a> Claim<'a> {
         if (open.session_id, open.stream_id) != (log.record.session_id, log.record.stream_id) {
             return Err(Error::ClaimMismatch);
         }
-        let span = sys::claim_body(log.record, &log.bytes, open.claim);
+        let span = sys::claim_body(&log.record, &log.bytes, open.claim);
         match span.code {
             // Out of its range in this log, though its own log answered it: it is of another log.
             1 => Err(Error::ClaimMismatch),
@@ -107,7 +107,7 @@ impl<'a> Claim<'a> {
     /// # Ok::<(), logbuffer::Error>(())
     /// ```
     pub fn write(&mut self, bytes: &[u8]) -> Result<(), Error> {
-        Error::check(sys::claim_write(self.log.record, &mut self.log.bytes, self.open.claim, bytes))
+        Error::check(sys::claim_write(&self.log.record, &mut self.log.bytes, self.open.claim, bytes))
     }
 
     /// Makes the frame a message and answers the position after it. A claim that was not committed before is never refused.
@@ -119,7 +119,7 @@ impl<'a> Claim<'a> {
     /// # Ok::<(), logbuffer::Error>(())
     /// ```
     pub fn commit(self) -> Result<i64, Error> {
-        Error::check(sys::commit(self.log.record, &mut self.log.bytes, self.open.claim))?;
+        Error::check(sys::commit(&self.log.record, &mut self.log.bytes, self.open.claim))?;
         Ok(self.open.position)
     }
 
@@ -132,7 +132,7 @@ impl<'a> Claim<'a> {
     /// # Ok::<(), logbuffer::Error>(())
     /// ```
     pub fn abort(self) -> Result<(), Error> {
-        Error::check(sys::abort(self.log.record, &mut self.log.bytes, self.open.claim))
+        Error::check(sys::abort(&self.log.record, &mut self.log.bytes, self.open.claim))
     }
 
     /// Lays the claim by, with what was written so far, and lets go of the log.

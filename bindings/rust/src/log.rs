@@ -35,9 +35,10 @@ impl Log {
         // No memory is taken for a term length that is going to be refused.
         let is_in_range = (65_536..=1 << 30).contains(&term_length) && sys::is_power_of_two(term_length as u32);
         let mut bytes = vec![0; if is_in_range { 3 * term_length as usize } else { 0 }];
-        let reply = sys::open(&mut bytes, term_length, mtu_length, initial_term_id, session_id, stream_id);
-        Error::check(reply.code)?;
-        Ok(Log { record: reply.next, bytes })
+        match sys::open(&mut bytes, term_length, mtu_length, initial_term_id, session_id, stream_id) {
+            Ok(record) => Ok(Log { record, bytes }),
+            Err(code) => Err(Error::check(code).expect_err("a number that is not 0 is a refusal's")),
+        }
     }
 
     /// A log with defaults for whatever is not said.
@@ -68,7 +69,7 @@ impl Log {
     /// ```
     pub fn from_parts(record: Record, bytes: Vec<u8>) -> Result<Log, Error> {
         // A scan with limit 0 judges record and log and looks at no frame. Its only other refusal, 1, is for a term length below 1.
-        Error::check(sys::scan(record, &bytes, 0, 0, 0).code).map_err(|_| Error::IllegalRecord)?;
+        Error::check(sys::scan(&record, &bytes, 0, 0, 0).code).map_err(|_| Error::IllegalRecord)?;
         Ok(Log { record, bytes })
     }
 
@@ -123,9 +124,7 @@ impl Log {
     /// # Ok::<(), Error>(())
     /// ```
     pub fn set_publication_limit(&mut self, limit: i64) -> Result<(), Error> {
-        let reply = sys::set_publication_limit(self.record, limit);
-        self.record = reply.next;
-        Error::check(reply.code)
+        Error::check(sys::set_publication_limit(&mut self.record, limit))
     }
 
     /// Closes the publication: offers, claims and the three positions below refuse [`Error::PublicationClosed`] from then on. Reading,
@@ -140,9 +139,7 @@ impl Log {
     /// # Ok::<(), Error>(())
     /// ```
     pub fn close(&mut self) -> Result<(), Error> {
-        let reply = sys::close(self.record);
-        self.record = reply.next;
-        Error::check(reply.code)
+        Error::check(sys::close(&mut self.record))
     }
 
     /// Whether the publication is closed.
@@ -164,7 +161,7 @@ impl Log {
     /// # Ok::<(), logbuffer::Error>(())
     /// ```
     pub fn position(&self) -> Result<i64, Error> {
-        let reply = sys::position(self.record);
+        let reply = sys::position(&self.record);
         Error::check(reply.code).map(|()| reply.position)
     }
 
@@ -175,7 +172,7 @@ impl Log {
     /// # Ok::<(), logbuffer::Error>(())
     /// ```
     pub fn publication_limit(&self) -> Result<i64, Error> {
-        let reply = sys::publication_limit(self.record);
+        let reply = sys::publication_limit(&self.record);
         Error::check(reply.code).map(|()| reply.position)
     }
 
@@ -188,7 +185,7 @@ impl Log {
     /// # Ok::<(), logbuffer::Error>(())
     /// ```
     pub fn available_window(&self) -> Result<i64, Error> {
-        let reply = sys::available_window(self.record);
+        let reply = sys::available_window(&self.record);
         Error::check(reply.code).map(|()| reply.position)
     }
 
@@ -231,8 +228,7 @@ impl Log {
     /// # Ok::<(), logbuffer::Error>(())
     /// ```
     pub fn offer_with_reserved_value(&mut self, message: &[u8], reserved_value: i64) -> Result<i64, Error> {
-        let reply = sys::offer(self.record, &mut self.bytes, message, reserved_value);
-        self.record = reply.next;
+        let reply = sys::offer(&mut self.record, &mut self.bytes, message, reserved_value);
         Error::check(reply.code).map(|()| reply.position)
     }
 
@@ -250,8 +246,7 @@ impl Log {
     pub fn try_claim(&mut self, length: usize) -> Result<Claim<'_>, Error> {
         // A length past i32 is past every payload limit, as is the greatest i32.
         let length = i32::try_from(length).unwrap_or(i32::MAX);
-        let reply = sys::try_claim(self.record, &mut self.bytes, length);
-        self.record = reply.next;
+        let reply = sys::try_claim(&mut self.record, &mut self.bytes, length);
         Error::check(reply.code)?;
         let open = OpenClaim::new(reply.claim, reply.position, &self.record);
         Claim::new(self, open)
@@ -326,13 +321,13 @@ impl Log {
     /// # Ok::<(), logbuffer::Error>(())
     /// ```
     pub fn header_at(&self, partition: i32, offset: i32) -> Result<Header, Error> {
-        let reply = sys::header_fields(self.record, &self.bytes, partition, offset);
+        let reply = sys::header_fields(&self.record, &self.bytes, partition, offset);
         Error::check(reply.code).map(|()| reply.fields)
     }
 
     /// A part of a term.
     pub(crate) fn view(&self, partition: i32, offset: i32, length: i32) -> Result<&[u8], Error> {
-        let span = sys::view(self.record, &self.bytes, partition, offset, length);
+        let span = sys::view(&self.record, &self.bytes, partition, offset, length);
         Error::check(span.code)?;
         Ok(&self.bytes[span.start..span.start + span.length])
     }
@@ -345,7 +340,7 @@ impl Log {
 
     /// The publisher's position, also after a close.
     pub(crate) fn publisher_position(&self) -> i64 {
-        sys::position(Record { is_closed: false, ..self.record }).position
+        sys::position(&Record { is_closed: false, ..self.record }).position
     }
 
     /// How many bytes were written after a position.

@@ -178,10 +178,9 @@ impl Poller {
             return Ok(count);
         }
         let limit = actions.len() as i32;
-        let reply = sys::image_controlled_poll(self.image, log.record, &log.bytes, &mut self.entries, &actions, limit);
-        Error::check_frame(reply.code, partition, reply.fragments)?;
-        self.image = reply.next;
-        Ok(reply.fragments)
+        let reply = sys::image_controlled_poll(&mut self.image, &log.record, &log.bytes, &mut self.entries, &actions, limit);
+        Error::check_frame(reply.code, partition, reply.fragments as usize)?;
+        Ok(reply.fragments as usize)
     }
 
     /// Looks from `start`, at or after the reader's position in the same term, at no more than `limit` fragments that begin before
@@ -210,17 +209,16 @@ impl Poller {
     ) -> Result<i64, Error> {
         let limit_position = limit_position.min(log.publisher_position());
         let onward = vec![Action::Continue as u8; self.reserve(log, start, limit)];
-        let peek = |image: &mut Image, entries: &mut [i32], actions: &[u8]| {
-            let reply = sys::image_controlled_peek(*image, log.record, &log.bytes, entries, actions, start, limit_position);
-            *image = reply.next;
+        let peek = |image: &Image, entries: &mut [i32], actions: &[u8]| {
+            let reply = sys::image_controlled_peek(image, &log.record, &log.bytes, entries, actions, start, limit_position);
             Error::check_frame(reply.code, log.partition_of(start), reply.position as usize).map(|()| reply)
         };
-        let first = peek(&mut self.image, &mut self.entries, &onward)?;
-        let actions = self.ask(log, log.partition_of(start), first.entries, handler)?;
+        let first = peek(&self.image, &mut self.entries, &onward)?;
+        let actions = self.ask(log, log.partition_of(start), first.entries as usize, handler)?;
         if !is_stopped(&actions) {
             return Ok(first.position);
         }
-        Ok(peek(&mut self.image, &mut self.entries, &actions)?.position)
+        Ok(peek(&self.image, &mut self.entries, &actions)?.position)
     }
 
     /// Moves past whole frames of at most `limit` bytes and answers them as they lie; none where there are none. Padding at the front is
@@ -237,9 +235,8 @@ impl Poller {
     pub fn block_poll<'a>(&mut self, log: &'a Log, limit: usize) -> Result<Option<Block<'a>>, Error> {
         let limit = limit.min(i32::MAX as usize).min(log.written_after(self.image.position)) as i32;
         let partition = log.partition_of(self.image.position);
-        let reply = sys::image_block_poll(self.image, log.record, &log.bytes, limit);
+        let reply = sys::image_block_poll(&mut self.image, &log.record, &log.bytes, limit);
         Error::check_frame(reply.code, partition, reply.offset)?;
-        self.image = reply.next;
         if reply.length == 0 {
             return Ok(None);
         }
@@ -260,10 +257,7 @@ impl Poller {
     /// # Ok::<(), Error>(())
     /// ```
     pub fn set_position(&mut self, log: &Log, new_position: i64) -> Result<(), Error> {
-        let reply = sys::image_set_position(self.image, log.record, &log.bytes, new_position);
-        Error::check(reply.code)?;
-        self.image = reply.next;
-        Ok(())
+        Error::check(sys::image_set_position(&mut self.image, &log.record, &log.bytes, new_position))
     }
 
     /// Whether the position is at or past the record's end-of-stream position.
@@ -279,7 +273,7 @@ impl Poller {
     /// # Ok::<(), logbuffer::Error>(())
     /// ```
     pub fn is_end_of_stream(&self, log: &Log) -> Result<bool, Error> {
-        let reply = sys::image_is_end_of_stream(self.image, log.record, &log.bytes);
+        let reply = sys::image_is_end_of_stream(&self.image, &log.record, &log.bytes);
         Error::check(reply.code).map(|()| reply.is_eos)
     }
 
@@ -294,10 +288,7 @@ impl Poller {
     /// # Ok::<(), logbuffer::Error>(())
     /// ```
     pub fn close(&mut self, log: &Log) -> Result<(), Error> {
-        let reply = sys::image_close(self.image, log.record, &log.bytes);
-        Error::check(reply.code)?;
-        self.image = reply.next;
-        Ok(())
+        Error::check(sys::image_close(&mut self.image, &log.record, &log.bytes))
     }
 
     /// What stands where the reader is: nothing, a frame that is still being written, or a finished one, which the next poll reads. A reader
@@ -321,7 +312,7 @@ impl Poller {
     pub fn ahead(&self, log: &Log) -> Result<FrameLength, Error> {
         let position = self.image.position;
         // A poll of nothing, for the refusals of its position.
-        let nothing = sys::image_bounded_poll(self.image, log.record, &log.bytes, &mut [], position, 0);
+        let nothing = sys::image_bounded_poll(&mut self.image.clone(), &log.record, &log.bytes, &mut [], position, 0);
         Error::check(nothing.code)?;
         if position >= log.publisher_position() {
             return Ok(FrameLength::Free);
@@ -354,9 +345,10 @@ impl Poller {
     fn look(&mut self, log: &Log, limit_position: i64, limit: usize) -> Result<(Image, usize), Error> {
         let limit_position = limit_position.min(log.publisher_position());
         let limit = self.reserve(log, self.image.position, limit) as i32;
-        let reply = sys::image_bounded_poll(self.image, log.record, &log.bytes, &mut self.entries, limit_position, limit);
+        let mut next = self.image;
+        let reply = sys::image_bounded_poll(&mut next, &log.record, &log.bytes, &mut self.entries, limit_position, limit);
         let partition = log.partition_of(self.image.position);
-        Error::check_frame(reply.code, partition, reply.fragments).map(|()| (reply.next, reply.entries))
+        Error::check_frame(reply.code, partition, reply.fragments as usize).map(|()| (next, reply.entries))
     }
 
     /// Makes room for as many entries as a limit asks for, or as frames can lie between a position and the publisher's, or in a term, if

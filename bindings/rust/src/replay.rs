@@ -55,8 +55,7 @@ impl Replay<'_> {
         if self.is_ended {
             return None;
         }
-        let reply = sys::replay_next(self.replay, self.log.record, &self.log.bytes, &mut self.buffer);
-        self.replay = reply.next;
+        let reply = sys::replay_next(&mut self.replay, &self.log.record, &self.log.bytes, &mut self.buffer);
         let message = reply.start..reply.start + reply.length;
         let partition = self.log.partition_of(self.replay.image.position);
         match (Error::check_frame(reply.code, partition, reply.start), reply.place) {
@@ -107,7 +106,7 @@ impl Log {
     /// # Ok::<(), logbuffer::Error>(())
     /// ```
     pub fn count(&self) -> Result<Count, Error> {
-        let reply = sys::replay_count(self.record, &self.bytes, &mut self.assembly_buffer(), self.record.session_id);
+        let reply = sys::replay_count(&self.record, &self.bytes, &mut self.assembly_buffer(), self.record.session_id);
         Error::check_frame(reply.code, None, reply.messages).map(|()| Count { messages: reply.messages, bytes: reply.bytes })
     }
 

@@ -45,7 +45,7 @@ impl Log {
     /// # Ok::<(), Error>(())
     /// ```
     pub fn shelve_into(&self, partition: i32, out: &mut [u8]) -> Result<(), Error> {
-        Error::check(sys::shelve(self.record, &self.bytes, partition, out))
+        Error::check(sys::shelve(&self.record, &self.bytes, partition, out))
     }
 }
 
@@ -79,6 +79,6 @@ impl Record {
     /// # Ok::<(), Error>(())
     /// ```
     pub fn unshelve_into(&self, shelf: &[u8], out: &mut [u8]) -> Result<(), Error> {
-        Error::check(sys::unshelve(*self, shelf, out))
+        Error::check(sys::unshelve(self, shelf, out))
     }
 }

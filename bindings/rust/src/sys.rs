@@ -1,9 +1,9 @@
 //! The C face, include/logbuffer.h, declaration by declaration, and all unsafe code of the crate: a safe function over slices for each
-//! function that takes some. Functions that take numbers and values alone are safe as they are. Read log.rs next.
+//! function that takes some. Functions that take numbers and references alone are safe as they are. Read log.rs next.
 //!
-//! What the face asks, and why every wrapper keeps it: a pointer is valid for its count of elements, for both come from one slice; no
-//! slice that is written overlaps another, for it is a `&mut`; a bool holds 0 or 1, for it is Rust's. It keeps no pointer past the
-//! call, writes through `*mut` alone, and takes any number and any bytes.
+//! What the face asks, and why every wrapper keeps it: a pointer is valid for its count of elements, for both come from one slice; one to a
+//! struct is a reference; nothing that is written overlaps anything else, for it is a `&mut`. It keeps no pointer past the call, writes
+//! through `*mut` and `&mut` alone, takes any number and any bytes, and leaves a bool 0 or 1 where it found one so.
 
 /// A log's record: all that is known of a log beside its bytes. [`Log::record`](crate::Log::record) shows it, and
 /// [`Log::from_parts`](crate::Log::from_parts) takes one that was kept.
@@ -70,7 +70,7 @@ pub struct Claim {
 }
 
 #[repr(C)]
-#[derive(Clone, Copy, Debug, PartialEq, Eq)]
+#[derive(Clone, Copy, Debug, Default, PartialEq, Eq)]
 pub struct Image {
     pub position: i64,
     pub session_id: i32,
@@ -79,7 +79,7 @@ pub struct Image {
 }
 
 #[repr(C)]
-#[derive(Clone, Copy, Debug, PartialEq, Eq)]
+#[derive(Clone, Copy, Debug, Default, PartialEq, Eq)]
 pub struct Assembler {
     pub count: usize,
     pub ids: [i32; 16],
@@ -87,7 +87,7 @@ pub struct Assembler {
 }
 
 #[repr(C)]
-#[derive(Clone, Copy, Debug, PartialEq, Eq)]
+#[derive(Clone, Copy, Debug, Default, PartialEq, Eq)]
 pub struct Replay {
     pub image: Image,
     pub assembler: Assembler,
@@ -122,26 +122,23 @@ macro_rules! replies {
 }
 
 replies! {
-    RecordReply { next: Record, code: i32 }
     PositionReply { code: i32, position: i64 }
-    OfferReply { next: Record, code: i32, position: i64 }
-    ClaimReply { next: Record, code: i32, position: i64, claim: Claim }
+    ClaimReply { code: i32, position: i64, claim: Claim }
     SpanReply { code: i32, start: usize, length: usize }
-    AppendReply { next: Record, code: i32, is_tripped: bool, offset: usize }
-    AppendClaimReply { next: Record, code: i32, is_tripped: bool, offset: usize, claim: Claim }
+    AppendReply { code: i32, is_tripped: bool, offset: usize }
+    AppendClaimReply { code: i32, is_tripped: bool, offset: usize, claim: Claim }
     HeaderReply { code: i32, fields: Header }
     FrameLengthReply { code: i32, state: i32, length: usize }
-    ReadReply { code: i32, offset: usize, fragments: usize }
+    ReadReply { code: i32, fragments: u32, offset: usize }
     ScanReply { code: i32, offset: usize }
     GapReply { code: i32, is_gap: bool, is_being_written: bool, term_id: i32, offset: usize, length: usize }
     AvailabilityReply { code: i32, outcome: i64 }
-    PollReply { next: Image, code: i32, fragments: usize, entries: usize }
-    PeekReply { next: Image, code: i32, position: i64, entries: usize }
-    BlockReply { next: Image, code: i32, offset: usize, length: usize, session_id: i32, term_id: i32 }
-    ImageReply { next: Image, code: i32 }
+    PollReply { code: i32, fragments: u32, entries: usize }
+    PeekReply { code: i32, entries: u32, position: i64 }
+    BlockReply { code: i32, offset: usize, length: usize, session_id: i32, term_id: i32 }
     EndOfStreamReply { code: i32, is_eos: bool }
-    AssemblyReply { next: Assembler, code: i32, place: i32, start: usize, length: usize }
-    NextReply { next: Replay, code: i32, place: i32, start: usize, length: usize }
+    AssemblyReply { code: i32, place: i32, start: usize, length: usize }
+    NextReply { code: i32, place: i32, start: usize, length: usize }
     CountReply { code: i32, messages: usize, bytes: usize }
     CardWriteReply { code: i32, length: usize }
     CardReadReply { code: i32, card: Card, note_start: usize, note_length: usize }
@@ -149,12 +146,11 @@ replies! {
 
 /// Functions of the face that take no slice.
 pub use face::{
-    logbuffer_align as align, logbuffer_assembler_new as assembler_new, logbuffer_available_window as available_window,
-    logbuffer_close as close, logbuffer_compute_position as compute_position, logbuffer_image_new as image_new,
-    logbuffer_index_by_position as index_by_position, logbuffer_index_by_term_count as index_by_term_count,
+    logbuffer_align as align, logbuffer_available_window as available_window, logbuffer_close as close,
+    logbuffer_compute_position as compute_position, logbuffer_index_by_position as index_by_position, logbuffer_index_by_term_count as index_by_term_count,
     logbuffer_is_power_of_two as is_power_of_two, logbuffer_position as position,
     logbuffer_position_bits_to_shift as position_bits_to_shift, logbuffer_publication_limit as publication_limit,
-    logbuffer_replay_new as replay_new, logbuffer_set_publication_limit as set_publication_limit, logbuffer_term_id as term_id,
+    logbuffer_set_publication_limit as set_publication_limit, logbuffer_term_id as term_id,
     logbuffer_term_offset as term_offset,
 };
 
@@ -168,12 +164,12 @@ mod face {
 
     #[rustfmt::skip]
     unsafe extern "C" {
-        pub safe fn logbuffer_set_publication_limit(rec: Record, limit: i64) -> RecordReply;
-        pub safe fn logbuffer_close(rec: Record) -> RecordReply;
-        pub safe fn logbuffer_rotate_log(rec: Record, count: i32, term_id: i32) -> RecordReply;
-        pub safe fn logbuffer_position(rec: Record) -> PositionReply;
-        pub safe fn logbuffer_publication_limit(rec: Record) -> PositionReply;
-        pub safe fn logbuffer_available_window(rec: Record) -> PositionReply;
+        pub safe fn logbuffer_set_publication_limit(rec: &mut Record, limit: i64) -> i32;
+        pub safe fn logbuffer_close(rec: &mut Record) -> i32;
+        pub safe fn logbuffer_rotate_log(rec: &mut Record, count: i32, term_id: i32) -> i32;
+        pub safe fn logbuffer_position(rec: &Record) -> PositionReply;
+        pub safe fn logbuffer_publication_limit(rec: &Record) -> PositionReply;
+        pub safe fn logbuffer_available_window(rec: &Record) -> PositionReply;
         pub safe fn logbuffer_align(value: u32) -> usize;
         pub safe fn logbuffer_is_power_of_two(value: u32) -> bool;
         pub safe fn logbuffer_term_id(raw_tail: i64) -> i32;
@@ -182,94 +178,96 @@ mod face {
         pub safe fn logbuffer_index_by_position(position: u64, bits: u32) -> usize;
         pub safe fn logbuffer_position_bits_to_shift(term_length: u32) -> u32;
         pub safe fn logbuffer_compute_position(term_id: i32, offset: u32, bits: u32, initial_term_id: i32) -> PositionReply;
-        pub safe fn logbuffer_image_new(position: i64, session_id: i32) -> Image;
-        pub safe fn logbuffer_assembler_new() -> Assembler;
-        pub safe fn logbuffer_replay_new(session_id: i32) -> Replay;
+        pub safe fn logbuffer_image_new(image: &mut Image, position: i64, session_id: i32);
+        pub safe fn logbuffer_assembler_new(assembler: &mut Assembler);
+        pub safe fn logbuffer_replay_new(replay: &mut Replay, session_id: i32);
 
         pub fn logbuffer_open(
-            log: Out, log_length: usize, term_length: i32, mtu_length: i32, initial_term_id: i32, session_id: i32, stream_id: i32,
-        ) -> RecordReply;
-        pub fn logbuffer_offer(
-            rec: Record, log: Out, log_length: usize, message: In, message_length: usize, reserved_value: i64,
-        ) -> OfferReply;
-        pub fn logbuffer_try_claim(rec: Record, log: Out, log_length: usize, length: i32) -> ClaimReply;
-        pub fn logbuffer_claim_body(rec: Record, log: In, log_length: usize, claim: Claim) -> SpanReply;
-        pub fn logbuffer_claim_body_number(rec: Record, log: In, log_length: usize, claim: Claim) -> i32;
-        pub fn logbuffer_claim_write(
-            rec: Record, log: Out, log_length: usize, claim: Claim, bytes: In, bytes_length: usize,
+            rec: &mut Record, log: Out, log_length: usize, term_length: i32, mtu_length: i32, initial_term_id: i32, session_id: i32,
+            stream_id: i32,
         ) -> i32;
-        pub fn logbuffer_commit(rec: Record, log: Out, log_length: usize, claim: Claim) -> i32;
-        pub fn logbuffer_abort(rec: Record, log: Out, log_length: usize, claim: Claim) -> i32;
+        pub fn logbuffer_offer(
+            rec: &mut Record, log: Out, log_length: usize, message: In, message_length: usize, reserved_value: i64,
+        ) -> PositionReply;
+        pub fn logbuffer_try_claim(rec: &mut Record, log: Out, log_length: usize, length: i32) -> ClaimReply;
+        pub fn logbuffer_claim_body(rec: &Record, log: In, log_length: usize, claim: Claim) -> SpanReply;
+        pub fn logbuffer_claim_body_number(rec: &Record, log: In, log_length: usize, claim: Claim) -> i32;
+        pub fn logbuffer_claim_write(
+            rec: &Record, log: Out, log_length: usize, claim: Claim, bytes: In, bytes_length: usize,
+        ) -> i32;
+        pub fn logbuffer_commit(rec: &Record, log: Out, log_length: usize, claim: Claim) -> i32;
+        pub fn logbuffer_abort(rec: &Record, log: Out, log_length: usize, claim: Claim) -> i32;
         pub fn logbuffer_append_unfragmented_message(
-            rec: Record, log: Out, log_length: usize, partition: i32, message: In, message_length: usize, reserved_value: i64,
+            rec: &mut Record, log: Out, log_length: usize, partition: i32, message: In, message_length: usize, reserved_value: i64,
             term_id: i32,
         ) -> AppendReply;
         pub fn logbuffer_append_fragmented_message(
-            rec: Record, log: Out, log_length: usize, partition: i32, message: In, message_length: usize, reserved_value: i64,
+            rec: &mut Record, log: Out, log_length: usize, partition: i32, message: In, message_length: usize, reserved_value: i64,
             payload_limit: i32, term_id: i32,
         ) -> AppendReply;
         pub fn logbuffer_append_claim(
-            rec: Record, log: Out, log_length: usize, partition: i32, length: i32, term_id: i32,
+            rec: &mut Record, log: Out, log_length: usize, partition: i32, length: i32, term_id: i32,
         ) -> AppendClaimReply;
-        pub fn logbuffer_header_fields(rec: Record, log: In, log_length: usize, partition: i32, offset: i32) -> HeaderReply;
-        pub fn logbuffer_frame_length(rec: Record, log: In, log_length: usize, partition: i32, offset: i32) -> FrameLengthReply;
+        pub fn logbuffer_header_fields(rec: &Record, log: In, log_length: usize, partition: i32, offset: i32) -> HeaderReply;
+        pub fn logbuffer_frame_length(rec: &Record, log: In, log_length: usize, partition: i32, offset: i32) -> FrameLengthReply;
         pub fn logbuffer_read(
-            rec: Record, log: In, log_length: usize, partition: i32, offset: i32, fragment_limit: i32, entries: Entries,
+            rec: &Record, log: In, log_length: usize, partition: i32, offset: i32, fragment_limit: i32, entries: Entries,
             entries_length: usize,
         ) -> ReadReply;
-        pub fn logbuffer_view(rec: Record, log: In, log_length: usize, partition: i32, offset: i32, length: i32) -> SpanReply;
-        pub fn logbuffer_view_number(rec: Record, log: In, log_length: usize, partition: i32, offset: i32, length: i32) -> i32;
-        pub fn logbuffer_scan(rec: Record, log: In, log_length: usize, partition: i32, offset: i32, limit: i32) -> ScanReply;
+        pub fn logbuffer_view(rec: &Record, log: In, log_length: usize, partition: i32, offset: i32, length: i32) -> SpanReply;
+        pub fn logbuffer_view_number(rec: &Record, log: In, log_length: usize, partition: i32, offset: i32, length: i32) -> i32;
+        pub fn logbuffer_scan(rec: &Record, log: In, log_length: usize, partition: i32, offset: i32, limit: i32) -> ScanReply;
         pub fn logbuffer_scan_for_gap(
-            rec: Record, log: In, log_length: usize, partition: i32, term_id: i32, offset: i32, high_mark: i32,
+            rec: &Record, log: In, log_length: usize, partition: i32, term_id: i32, offset: i32, high_mark: i32,
         ) -> GapReply;
         pub fn logbuffer_scan_for_availability(
-            rec: Record, log: In, log_length: usize, partition: i32, offset: i32, maximum: i32,
+            rec: &Record, log: In, log_length: usize, partition: i32, offset: i32, maximum: i32,
         ) -> AvailabilityReply;
         pub fn logbuffer_image_poll(
-            image: Image, rec: Record, log: In, log_length: usize, entries: Entries, entries_length: usize, fragment_limit: i32,
+            image: &mut Image, rec: &Record, log: In, log_length: usize, entries: Entries, entries_length: usize, fragment_limit: i32,
         ) -> PollReply;
         pub fn logbuffer_image_bounded_poll(
-            image: Image, rec: Record, log: In, log_length: usize, entries: Entries, entries_length: usize, limit_position: i64,
+            image: &mut Image, rec: &Record, log: In, log_length: usize, entries: Entries, entries_length: usize, limit_position: i64,
             fragment_limit: i32,
         ) -> PollReply;
         pub fn logbuffer_image_controlled_poll(
-            image: Image, rec: Record, log: In, log_length: usize, entries: Entries, entries_length: usize, actions: In,
+            image: &mut Image, rec: &Record, log: In, log_length: usize, entries: Entries, entries_length: usize, actions: In,
             actions_length: usize, fragment_limit: i32,
         ) -> PollReply;
         pub fn logbuffer_image_controlled_peek(
-            image: Image, rec: Record, log: In, log_length: usize, entries: Entries, entries_length: usize, actions: In,
+            image: &Image, rec: &Record, log: In, log_length: usize, entries: Entries, entries_length: usize, actions: In,
             actions_length: usize, start: i64, limit_position: i64,
         ) -> PeekReply;
-        pub fn logbuffer_image_block_poll(image: Image, rec: Record, log: In, log_length: usize, limit: i32) -> BlockReply;
+        pub fn logbuffer_image_block_poll(image: &mut Image, rec: &Record, log: In, log_length: usize, limit: i32) -> BlockReply;
         pub fn logbuffer_image_set_position(
-            image: Image, rec: Record, log: In, log_length: usize, new_position: i64,
-        ) -> ImageReply;
-        pub fn logbuffer_image_is_end_of_stream(image: Image, rec: Record, log: In, log_length: usize) -> EndOfStreamReply;
-        pub fn logbuffer_image_close(image: Image, rec: Record, log: In, log_length: usize) -> ImageReply;
+            image: &mut Image, rec: &Record, log: In, log_length: usize, new_position: i64,
+        ) -> i32;
+        pub fn logbuffer_image_is_end_of_stream(image: &Image, rec: &Record, log: In, log_length: usize) -> EndOfStreamReply;
+        pub fn logbuffer_image_close(image: &mut Image, rec: &Record, log: In, log_length: usize) -> i32;
         pub fn logbuffer_assembler_on_fragment(
-            assembler: Assembler, rec: Record, log: In, log_length: usize, buffer: Out, buffer_length: usize, partition: i32,
+            assembler: &mut Assembler, rec: &Record, log: In, log_length: usize, buffer: Out, buffer_length: usize, partition: i32,
             offset: i32,
         ) -> AssemblyReply;
         pub fn logbuffer_replay_next(
-            replay: Replay, rec: Record, log: In, log_length: usize, buffer: Out, buffer_length: usize,
+            replay: &mut Replay, rec: &Record, log: In, log_length: usize, buffer: Out, buffer_length: usize,
         ) -> NextReply;
         pub fn logbuffer_replay_count(
-            rec: Record, log: In, log_length: usize, buffer: Out, buffer_length: usize, session_id: i32,
+            rec: &Record, log: In, log_length: usize, buffer: Out, buffer_length: usize, session_id: i32,
         ) -> CountReply;
         pub fn logbuffer_card_write(
             card: Card, note: In, note_length: usize, out: Out, out_length: usize,
         ) -> CardWriteReply;
         pub fn logbuffer_card_read(bytes: In, bytes_length: usize) -> CardReadReply;
         pub fn logbuffer_shelve(
-            rec: Record, log: In, log_length: usize, partition: i32, out: Out, out_length: usize,
+            rec: &Record, log: In, log_length: usize, partition: i32, out: Out, out_length: usize,
         ) -> i32;
-        pub fn logbuffer_unshelve(rec: Record, shelf: In, shelf_length: usize, out: Out, out_length: usize) -> i32;
+        pub fn logbuffer_unshelve(rec: &Record, shelf: In, shelf_length: usize, out: Out, out_length: usize) -> i32;
     }
 }
 
 // Safe functions over slices. Each hands a slice on as pointer and length, which is all that the face asks (see the top).
 
+/// The record of an opened log, or the refusal's number.
 pub fn open(
     log: &mut [u8],
     term_length: i32,
@@ -277,74 +275,117 @@ pub fn open(
     initial_term_id: i32,
     session_id: i32,
     stream_id: i32,
-) -> RecordReply {
+) -> Result<Record, i32> {
+    let mut rec = Record {
+        tails: [0; 3],
+        active_term_count: 0,
+        initial_term_id,
+        term_length,
+        mtu_length,
+        session_id,
+        stream_id,
+        is_connected: 0,
+        publication_limit: 0,
+        end_of_stream_position: 0,
+        is_closed: false,
+    };
     // SAFETY: pointers and lengths are those of the slices.
-    unsafe { face::logbuffer_open(log.as_mut_ptr(), log.len(), term_length, mtu_length, initial_term_id, session_id, stream_id) }
+    let code = unsafe {
+        face::logbuffer_open(
+            &mut rec,
+            log.as_mut_ptr(),
+            log.len(),
+            term_length,
+            mtu_length,
+            initial_term_id,
+            session_id,
+            stream_id,
+        )
+    };
+    if code == 0 { Ok(rec) } else { Err(code) }
 }
 
-pub fn offer(rec: Record, log: &mut [u8], message: &[u8], reserved_value: i64) -> OfferReply {
+pub fn image_new(position: i64, session_id: i32) -> Image {
+    let mut image = Image::default();
+    face::logbuffer_image_new(&mut image, position, session_id);
+    image
+}
+
+pub fn assembler_new() -> Assembler {
+    let mut assembler = Assembler::default();
+    face::logbuffer_assembler_new(&mut assembler);
+    assembler
+}
+
+pub fn replay_new(session_id: i32) -> Replay {
+    let mut replay = Replay::default();
+    face::logbuffer_replay_new(&mut replay, session_id);
+    replay
+}
+
+pub fn offer(rec: &mut Record, log: &mut [u8], message: &[u8], reserved_value: i64) -> PositionReply {
     // SAFETY: pointers and lengths are those of the slices.
     unsafe { face::logbuffer_offer(rec, log.as_mut_ptr(), log.len(), message.as_ptr(), message.len(), reserved_value) }
 }
 
-pub fn try_claim(rec: Record, log: &mut [u8], length: i32) -> ClaimReply {
+pub fn try_claim(rec: &mut Record, log: &mut [u8], length: i32) -> ClaimReply {
     // SAFETY: pointers and lengths are those of the slices.
     unsafe { face::logbuffer_try_claim(rec, log.as_mut_ptr(), log.len(), length) }
 }
 
-pub fn claim_body(rec: Record, log: &[u8], claim: Claim) -> SpanReply {
+pub fn claim_body(rec: &Record, log: &[u8], claim: Claim) -> SpanReply {
     // SAFETY: pointers and lengths are those of the slices.
     unsafe { face::logbuffer_claim_body(rec, log.as_ptr(), log.len(), claim) }
 }
 
-pub fn claim_write(rec: Record, log: &mut [u8], claim: Claim, bytes: &[u8]) -> i32 {
+pub fn claim_write(rec: &Record, log: &mut [u8], claim: Claim, bytes: &[u8]) -> i32 {
     // SAFETY: pointers and lengths are those of the slices.
     unsafe { face::logbuffer_claim_write(rec, log.as_mut_ptr(), log.len(), claim, bytes.as_ptr(), bytes.len()) }
 }
 
-pub fn commit(rec: Record, log: &mut [u8], claim: Claim) -> i32 {
+pub fn commit(rec: &Record, log: &mut [u8], claim: Claim) -> i32 {
     // SAFETY: pointers and lengths are those of the slices.
     unsafe { face::logbuffer_commit(rec, log.as_mut_ptr(), log.len(), claim) }
 }
 
-pub fn abort(rec: Record, log: &mut [u8], claim: Claim) -> i32 {
+pub fn abort(rec: &Record, log: &mut [u8], claim: Claim) -> i32 {
     // SAFETY: pointers and lengths are those of the slices.
     unsafe { face::logbuffer_abort(rec, log.as_mut_ptr(), log.len(), claim) }
 }
 
-pub fn header_fields(rec: Record, log: &[u8], partition: i32, offset: i32) -> HeaderReply {
+pub fn header_fields(rec: &Record, log: &[u8], partition: i32, offset: i32) -> HeaderReply {
     // SAFETY: pointers and lengths are those of the slices.
     unsafe { face::logbuffer_header_fields(rec, log.as_ptr(), log.len(), partition, offset) }
 }
 
-pub fn frame_length(rec: Record, log: &[u8], partition: i32, offset: i32) -> FrameLengthReply {
+pub fn frame_length(rec: &Record, log: &[u8], partition: i32, offset: i32) -> FrameLengthReply {
     // SAFETY: pointers and lengths are those of the slices.
     unsafe { face::logbuffer_frame_length(rec, log.as_ptr(), log.len(), partition, offset) }
 }
 
-pub fn view(rec: Record, log: &[u8], partition: i32, offset: i32, length: i32) -> SpanReply {
+pub fn view(rec: &Record, log: &[u8], partition: i32, offset: i32, length: i32) -> SpanReply {
     // SAFETY: pointers and lengths are those of the slices.
     unsafe { face::logbuffer_view(rec, log.as_ptr(), log.len(), partition, offset, length) }
 }
 
-pub fn scan(rec: Record, log: &[u8], partition: i32, offset: i32, limit: i32) -> ScanReply {
+pub fn scan(rec: &Record, log: &[u8], partition: i32, offset: i32, limit: i32) -> ScanReply {
     // SAFETY: pointers and lengths are those of the slices.
     unsafe { face::logbuffer_scan(rec, log.as_ptr(), log.len(), partition, offset, limit) }
 }
 
-pub fn scan_for_gap(rec: Record, log: &[u8], partition: i32, term_id: i32, offset: i32, high_mark: i32) -> GapReply {
+pub fn scan_for_gap(rec: &Record, log: &[u8], partition: i32, term_id: i32, offset: i32, high_mark: i32) -> GapReply {
     // SAFETY: pointers and lengths are those of the slices.
     unsafe { face::logbuffer_scan_for_gap(rec, log.as_ptr(), log.len(), partition, term_id, offset, high_mark) }
 }
 
-pub fn scan_for_availability(rec: Record, log: &[u8], partition: i32, offset: i32, maximum: i32) -> AvailabilityReply {
+pub fn scan_for_availability(rec: &Record, log: &[u8], partition: i32, offset: i32, maximum: i32) -> AvailabilityReply {
     // SAFETY: pointers and lengths are those of the slices.
     unsafe { face::logbuffer_scan_for_availability(rec, log.as_ptr(), log.len(), partition, offset, maximum) }
 }
 
 pub fn image_bounded_poll(
-    image: Image,
-    rec: Record,
+    image: &mut Image,
+    rec: &Record,
     log: &[u8],
     entries: &mut [i32],
     limit_position: i64,
@@ -366,8 +407,8 @@ pub fn image_bounded_poll(
 }
 
 pub fn image_controlled_poll(
-    image: Image,
-    rec: Record,
+    image: &mut Image,
+    rec: &Record,
     log: &[u8],
     entries: &mut [i32],
     actions: &[u8],
@@ -390,8 +431,8 @@ pub fn image_controlled_poll(
 }
 
 pub fn image_controlled_peek(
-    image: Image,
-    rec: Record,
+    image: &Image,
+    rec: &Record,
     log: &[u8],
     entries: &mut [i32],
     actions: &[u8],
@@ -415,29 +456,29 @@ pub fn image_controlled_peek(
     }
 }
 
-pub fn image_block_poll(image: Image, rec: Record, log: &[u8], limit: i32) -> BlockReply {
+pub fn image_block_poll(image: &mut Image, rec: &Record, log: &[u8], limit: i32) -> BlockReply {
     // SAFETY: pointers and lengths are those of the slices.
     unsafe { face::logbuffer_image_block_poll(image, rec, log.as_ptr(), log.len(), limit) }
 }
 
-pub fn image_set_position(image: Image, rec: Record, log: &[u8], new_position: i64) -> ImageReply {
+pub fn image_set_position(image: &mut Image, rec: &Record, log: &[u8], new_position: i64) -> i32 {
     // SAFETY: pointers and lengths are those of the slices.
     unsafe { face::logbuffer_image_set_position(image, rec, log.as_ptr(), log.len(), new_position) }
 }
 
-pub fn image_is_end_of_stream(image: Image, rec: Record, log: &[u8]) -> EndOfStreamReply {
+pub fn image_is_end_of_stream(image: &Image, rec: &Record, log: &[u8]) -> EndOfStreamReply {
     // SAFETY: pointers and lengths are those of the slices.
     unsafe { face::logbuffer_image_is_end_of_stream(image, rec, log.as_ptr(), log.len()) }
 }
 
-pub fn image_close(image: Image, rec: Record, log: &[u8]) -> ImageReply {
+pub fn image_close(image: &mut Image, rec: &Record, log: &[u8]) -> i32 {
     // SAFETY: pointers and lengths are those of the slices.
     unsafe { face::logbuffer_image_close(image, rec, log.as_ptr(), log.len()) }
 }
 
 pub fn assembler_on_fragment(
-    assembler: Assembler,
-    rec: Record,
+    assembler: &mut Assembler,
+    rec: &Record,
     log: &[u8],
     buffer: &mut [u8],
     partition: i32,
@@ -458,12 +499,12 @@ pub fn assembler_on_fragment(
     }
 }
 
-pub fn replay_next(replay: Replay, rec: Record, log: &[u8], buffer: &mut [u8]) -> NextReply {
+pub fn replay_next(replay: &mut Replay, rec: &Record, log: &[u8], buffer: &mut [u8]) -> NextReply {
     // SAFETY: pointers and lengths are those of the slices.
     unsafe { face::logbuffer_replay_next(replay, rec, log.as_ptr(), log.len(), buffer.as_mut_ptr(), buffer.len()) }
 }
 
-pub fn replay_count(rec: Record, log: &[u8], buffer: &mut [u8], session_id: i32) -> CountReply {
+pub fn replay_count(rec: &Record, log: &[u8], buffer: &mut [u8], session_id: i32) -> CountReply {
     // SAFETY: pointers and lengths are those of the slices.
     unsafe { face::logbuffer_replay_count(rec, log.as_ptr(), log.len(), buffer.as_mut_ptr(), buffer.len(), session_id) }
 }
@@ -478,12 +519,12 @@ pub fn card_read(bytes: &[u8]) -> CardReadReply {
     unsafe { face::logbuffer_card_read(bytes.as_ptr(), bytes.len()) }
 }
 
-pub fn shelve(rec: Record, log: &[u8], partition: i32, out: &mut [u8]) -> i32 {
+pub fn shelve(rec: &Record, log: &[u8], partition: i32, out: &mut [u8]) -> i32 {
     // SAFETY: pointers and lengths are those of the slices.
     unsafe { face::logbuffer_shelve(rec, log.as_ptr(), log.len(), partition, out.as_mut_ptr(), out.len()) }
 }
 
-pub fn unshelve(rec: Record, shelf: &[u8], out: &mut [u8]) -> i32 {
+pub fn unshelve(rec: &Record, shelf: &[u8], out: &mut [u8]) -> i32 {
     // SAFETY: pointers and lengths are those of the slices.
     unsafe { face::logbuffer_unshelve(rec, shelf.as_ptr(), shelf.len(), out.as_mut_ptr(), out.len()) }
 }

@@ -1,2 +1,6 @@
--- The law that the functions' proofs share.
+-- The laws that the functions' proofs share, and the theorems of specs/Theorems.antt.
 pub mod Promised
+pub mod Halves
+pub mod Kept
+pub mod Steps
+pub mod Narrow

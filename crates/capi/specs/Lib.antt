@@ -1,3 +1,5 @@
--- How each answer crosses to C.
+-- How what C keeps lies in words, what is proved of that, and how each answer crosses to C.
+pub mod Words
+pub mod Theorems
 pub mod Replies
 pub mod Cards

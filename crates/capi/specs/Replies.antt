@@ -1,6 +1,6 @@
 -- Each answer as it crosses to C: document 01's number, 0 for none, and 01's values (`Answers` of the model), 0 where there are none. The place of a frame
 -- that is refused crosses where an answer has its first value, or a message its start (R-7 of document 02).
-use Prim.Native.Nat.{ℕ, _-_}
+use Prim.Native.Nat.{ℕ, _-_, min}
 use mathlib.Core.Bool.{Bool, true, false}
 use lib.Dec.{ltb}
 use lib.IntN.{ℤ, pos, negsuc}
@@ -8,16 +8,8 @@ use lib.ListN.{getD, length}
 use Rattle.model.specs.Answers.{Told, outcomeTold, positionedTold, offeredTold, claimedTold, locatedTold, appendedTold, appendedClaimTold, headerTold, lengthReadTold, readTold, scannedTold, gapTold, availabilityTold, polledTold, peekedTold, blockTold, endTold, assembledTold, replayedTold}
 use Rattle.model.specs.Errors.{numberOf, placeOf}
 use Rattle.model.specs.TermReader.{natural}
-use Rattle.model.specs.FragmentAssembler.{Sessions}
-use Rattle.model.specs.Replay.{ReplayState}
-use Rattle.model.specs.declared.LogRecord.{LogRecord}
 use Rattle.model.specs.declared.Claim.{Claim}
 use Rattle.model.specs.declared.HeaderFields.{HeaderFields}
-use Rattle.model.specs.declared.RecordReply.{RecordReply as RecordSaid}
-use Rattle.model.specs.declared.OfferReply.{OfferReply as OfferSaid}
-use Rattle.model.specs.declared.ClaimReply.{ClaimReply as ClaimSaid}
-use Rattle.model.specs.declared.AppendReply.{AppendReply as AppendSaid}
-use Rattle.model.specs.declared.AppendClaimReply.{AppendClaimReply as AppendClaimSaid}
 use Rattle.model.specs.declared.Outcome.{Outcome}
 use Rattle.model.specs.declared.Positioned.{Positioned}
 use Rattle.model.specs.declared.Offered.{Offered}
@@ -39,19 +31,10 @@ use Rattle.model.specs.declared.EndOfStream.{EndOfStream}
 use Rattle.model.specs.declared.EndOfStream.the-variants.{Is, Refused as EndOfStreamRefused}
 use Rattle.model.specs.declared.Assembled.{Assembled}
 use Rattle.model.specs.declared.Replayed.{Replayed}
-use Rattle.logbuffer.specs.declared.fragment_assembler.FragmentAssembler.{FragmentAssembler}
-use Rattle.image.specs.Images.{imageOf}
-use Rattle.image.specs.declared.Image.{Image}
-use Rattle.image.specs.declared.PollReply.{PollReply as PollSaid}
-use Rattle.image.specs.declared.PeekReply.{PeekReply as PeekSaid}
-use Rattle.image.specs.declared.BlockReply.{BlockReply as BlockSaid}
-use Rattle.image.specs.declared.ImageReply.{ImageReply as ImageSaid}
-use Rattle.replay.specs.declared.Replay.{Replay}
 use Rattle.replay.specs.declared.Counted.{Counted}
 use Rattle.replay.specs.declared.Counted.the-variants.{Counts, Refused as CountRefused}
-use Rattle.capi.specs.declared.replies.RecordReply.{RecordReply}
+use Rattle.capi.specs.Words.{claimWords}
 use Rattle.capi.specs.declared.replies.PositionReply.{PositionReply}
-use Rattle.capi.specs.declared.replies.OfferReply.{OfferReply}
 use Rattle.capi.specs.declared.replies.ClaimReply.{ClaimReply}
 use Rattle.capi.specs.declared.replies.SpanReply.{SpanReply}
 use Rattle.capi.specs.declared.replies.AppendReply.{AppendReply}
@@ -65,7 +48,6 @@ use Rattle.capi.specs.declared.replies.AvailabilityReply.{AvailabilityRe
 use Rattle.capi.specs.declared.replies.PollReply.{PollReply}
 use Rattle.capi.specs.declared.replies.PeekReply.{PeekReply}
 use Rattle.capi.specs.declared.replies.BlockReply.{BlockReply}
-use Rattle.capi.specs.declared.replies.ImageReply.{ImageReply}
 use Rattle.capi.specs.declared.replies.EndOfStreamReply.{EndOfStreamReply}
 use Rattle.capi.specs.declared.replies.AssemblyReply.{AssemblyReply}
 use Rattle.capi.specs.declared.replies.NextReply.{NextReply}
@@ -89,58 +71,45 @@ valueOrPlace i t = getD (t .values) i (pos (t .place))
 abbrev pub sizeOrPlace : ℕ → Told → ℕ
 sizeOrPlace i t = natural (valueOrPlace i t)
 
+-- A number that 32 bits hold; none that a call gives is cut (`NothingCut` of Theorems).
+abbrev pub cut32 : ℕ → ℕ
+cut32 n = min n 4294967295
+
 -- ---- the record's calls
 
 abbrev pub outcomeNumber : Outcome → ℤ
 outcomeNumber a = outcomeTold a .number
-
-abbrev pub recordReply : RecordSaid → RecordReply
-recordReply o = record { next = o .next; code = outcomeNumber (o .answer) }
 
 abbrev pub positionReply : Positioned → PositionReply
 positionReply a = record { code = positionedTold a .number; position = value 0 (positionedTold a) }
 
 -- ---- writing
 
-abbrev pub offerBy : LogRecord → Offered → OfferReply
-offerBy nx a = record { next = nx; code = offeredTold a .number; position = value 0 (offeredTold a) }
-
-abbrev pub offerReply : OfferSaid → OfferReply
-offerReply o = offerBy (o .next) (o .answer)
+abbrev pub offerReply : Offered → PositionReply
+offerReply a = record { code = offeredTold a .number; position = value 0 (offeredTold a) }
 
 -- a claim's record after a first value
 abbrev pub claimAt : Told → Claim
 claimAt t = record { partition = value 1 t; offset = value 2 t; length = value 3 t; «term_id» = value 4 t }
 
-abbrev pub claimBy : LogRecord → Claimed → ClaimReply
-claimBy nx a = record { next = nx; code = claimedTold a .number; position = value 0 (claimedTold a); claim = claimAt (claimedTold a) }
-
-abbrev pub claimReply : ClaimSaid → ClaimReply
-claimReply o = claimBy (o .next) (o .answer)
+abbrev pub claimReply : Claimed → ClaimReply
+claimReply a = record { code = claimedTold a .number; position = value 0 (claimedTold a); claim = claimWords (claimAt (claimedTold a)) }
 
 -- a part of the log by its first index and its length
 abbrev pub spanReply : Located → SpanReply
 spanReply a = record { code = locatedTold a .number; start = size 0 (locatedTold a); length = size 1 (locatedTold a) - size 0 (locatedTold a) }
 
-abbrev pub appendBy : LogRecord → Appended → AppendReply
-appendBy nx a =
-    record { next = nx; code = appendedTold a .number; «is_tripped» = negative (value 0 (appendedTold a)); offset = size 0 (appendedTold a) }
+abbrev pub appendReply : Appended → AppendReply
+appendReply a = record { code = appendedTold a .number; «is_tripped» = negative (value 0 (appendedTold a)); offset = size 0 (appendedTold a) }
 
-abbrev pub appendReply : AppendSaid → AppendReply
-appendReply o = appendBy (o .next) (o .answer)
-
-abbrev pub appendClaimBy : LogRecord → AppendedClaim → AppendClaimReply
-appendClaimBy nx a =
+abbrev pub appendClaimReply : AppendedClaim → AppendClaimReply
+appendClaimReply a =
     record {
-      next = nx;
       code = appendedClaimTold a .number;
       «is_tripped» = negative (value 0 (appendedClaimTold a));
       offset = size 0 (appendedClaimTold a);
-      claim = claimAt (appendedClaimTold a);
+      claim = claimWords (claimAt (appendedClaimTold a));
     }
-
-abbrev pub appendClaimReply : AppendClaimSaid → AppendClaimReply
-appendClaimReply o = appendClaimBy (o .next) (o .answer)
 
 -- ---- frames of a term
 
@@ -167,7 +136,7 @@ abbrev pub frameLengthReply : FrameLengthRead → FrameLengthReply
 frameLengthReply a = record { code = lengthReadTold a .number; state = value 0 (lengthReadTold a); length = size 1 (lengthReadTold a) }
 
 abbrev pub readReply : TermRead → ReadReply
-readReply a = record { code = readTold a .number; offset = sizeOrPlace 0 (readTold a); fragments = size 1 (readTold a) }
+readReply a = record { code = readTold a .number; fragments = cut32 (size 1 (readTold a)); offset = sizeOrPlace 0 (readTold a) }
 
 abbrev pub scanReply : Scanned → ScanReply
 scanReply a = record { code = scannedTold a .number; offset = sizeOrPlace 0 (scannedTold a) }
@@ -194,34 +163,21 @@ availabilityReply a = record { code = availabilityTold a .number; outcome = valu
 
 -- ---- images
 
-abbrev pub pollBy : Image → Polled → PollReply
-pollBy nx a = record { next = nx; code = polledTold a .number; fragments = sizeOrPlace 0 (polledTold a); entries = size 1 (polledTold a) }
+abbrev pub pollReply : Polled → PollReply
+pollReply a = record { code = polledTold a .number; fragments = cut32 (sizeOrPlace 0 (polledTold a)); entries = size 1 (polledTold a) }
 
-abbrev pub pollReply : PollSaid → PollReply
-pollReply o = pollBy (o .next) (o .answer)
+abbrev pub peekReply : Peeked → PeekReply
+peekReply a = record { code = peekedTold a .number; entries = cut32 (size 1 (peekedTold a)); position = valueOrPlace 0 (peekedTold a) }
 
-abbrev pub peekBy : Image → Peeked → PeekReply
-peekBy nx a = record { next = nx; code = peekedTold a .number; position = valueOrPlace 0 (peekedTold a); entries = size 1 (peekedTold a) }
-
-abbrev pub peekReply : PeekSaid → PeekReply
-peekReply o = peekBy (o .next) (o .answer)
-
-abbrev pub blockBy : Image → BlockPolled → BlockReply
-blockBy nx a =
+abbrev pub blockReply : BlockPolled → BlockReply
+blockReply a =
     record {
-      next = nx;
       code = blockTold a .number;
       offset = sizeOrPlace 0 (blockTold a);
       length = size 1 (blockTold a);
       «session_id» = value 2 (blockTold a);
       «term_id» = value 3 (blockTold a);
     }
-
-abbrev pub blockReply : BlockSaid → BlockReply
-blockReply o = blockBy (o .next) (o .answer)
-
-abbrev pub imageReply : ImageSaid → ImageReply
-imageReply o = record { next = o .next; code = outcomeNumber (o .answer) }
 
 -- yes and no cross as themselves
 abbrev pub isYes : EndOfStream → Bool
@@ -233,26 +189,18 @@ endOfStreamReply a = record { code = endTold a .number; «is_eos» = isYes a }
 
 -- ---- assembler and replay; the place of a message is 0 nowhere, 1 in the log, 2 in the lent buffer
 
-abbrev pub assemblerOf : Sessions → FragmentAssembler
-assemblerOf s = record { count = s .count; ids = s .ids; held = s .held }
-
-abbrev pub assemblyBy : FragmentAssembler → Assembled → AssemblyReply
-assemblyBy nx a =
+abbrev pub assemblyReply : Assembled → AssemblyReply
+assemblyReply a =
     record {
-      next = nx;
       code = assembledTold a .number;
       place = value 0 (assembledTold a);
       start = sizeOrPlace 1 (assembledTold a);
       length = size 2 (assembledTold a);
     }
 
-abbrev pub replayOf : ReplayState → Replay
-replayOf s = record { image = imageOf (s .image); assembler = assemblerOf (s .sessions) }
-
-abbrev pub nextBy : Replay → Replayed → NextReply
-nextBy nx a =
+abbrev pub nextReply : Replayed → NextReply
+nextReply a =
     record {
-      next = nx;
       code = replayedTold a .number;
       place = value 0 (replayedTold a);
       start = sizeOrPlace 1 (replayedTold a);

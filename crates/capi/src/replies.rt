@@ -1,21 +1,20 @@
 // What crosses to C: each answer as 01's number, 0 where nothing was refused, and its values, 0 where there are none. An enum does not
 // cross, so each family of answers has its structs here, and a function for each number in them. A reply refused 22 or 23 has the place of the frame in
-// its first value, which a refusal leaves free; the assembler's and a replay's has it in `start`.
+// 01's first value, which a refusal leaves free; the assembler's and a replay's has it in `start`. A reply of 16 bytes comes back in two registers, so a
+// number that 32 bits hold stands beside the code. A claim is two words, stored as wide as they are handed back.
 ghost use mathlib.Core.Path.{_≡_};
 ghost use Prim.Native.Nat.{_-_};
 ghost use mathlib.Core.List.{[]};
 ghost use Rattle.model.specs.Answers.{answered};
 ghost use Rattle.model.specs.declared.FrameLengthRead.the-variants.{Length};
-ghost use Rattle.capi.specs.Replies.{outcomeNumber, positionReply, claimAt, offerBy, claimBy, spanReply, appendBy, appendClaimBy, fieldsAt, headerReply, frameLengthReply, readReply, scanReply, gapReply, availabilityReply, pollBy, peekBy, blockBy, endOfStreamReply, assemblyBy, nextBy, countReply};
-use image::Image;
+ghost use Rattle.capi.specs.Replies.{outcomeNumber, cut32, positionReply, offerReply, claimReply, spanReply, appendReply, appendClaimReply, fieldsAt, headerReply, frameLengthReply, readReply, scanReply, gapReply, availabilityReply, pollReply, peekReply, blockReply, endOfStreamReply, assemblyReply, nextReply, countReply};
+use crate::words;
 use logbuffer::errors;
-use logbuffer::fragment_assembler::FragmentAssembler;
 use model::Appended;
 use model::AppendedClaim;
 use model::Assembled;
 use model::AvailabilityScanned;
 use model::BlockPolled;
-use model::Claim;
 use model::Claimed;
 use model::EndOfStream;
 use model::FrameLength;
@@ -24,7 +23,6 @@ use model::GapScanned;
 use model::HeaderFields;
 use model::HeaderRead;
 use model::Located;
-use model::LogRecord;
 use model::Offered;
 use model::Outcome;
 use model::Peeked;
@@ -34,13 +32,6 @@ use model::Replayed;
 use model::Scanned;
 use model::TermRead;
 use replay::Counted;
-use replay::Replay;
-
-#[repr(C)]
-pub struct RecordReply {
-    pub next: LogRecord,
-    pub code: i32,
-}
 
 #[repr(C)]
 pub struct PositionReply {
@@ -49,18 +40,10 @@ pub struct PositionReply {
 }
 
 #[repr(C)]
-pub struct OfferReply {
-    pub next: LogRecord,
-    pub code: i32,
-    pub position: i64,
-}
-
-#[repr(C)]
 pub struct ClaimReply {
-    pub next: LogRecord,
     pub code: i32,
     pub position: i64,
-    pub claim: Claim,
+    pub claim: [i64; 2],
 }
 
 #[repr(C)]
@@ -72,7 +55,6 @@ pub struct SpanReply {
 
 #[repr(C)]
 pub struct AppendReply {
-    pub next: LogRecord,
     pub code: i32,
     pub is_tripped: bool,
     pub offset: usize,
@@ -80,11 +62,10 @@ pub struct AppendReply {
 
 #[repr(C)]
 pub struct AppendClaimReply {
-    pub next: LogRecord,
     pub code: i32,
     pub is_tripped: bool,
     pub offset: usize,
-    pub claim: Claim,
+    pub claim: [i64; 2],
 }
 
 #[repr(C)]
@@ -104,8 +85,8 @@ pub struct FrameLengthReply {
 #[repr(C)]
 pub struct ReadReply {
     pub code: i32,
+    pub fragments: u32,
     pub offset: usize,
-    pub fragments: usize,
 }
 
 #[repr(C)]
@@ -132,34 +113,25 @@ pub struct AvailabilityReply {
 
 #[repr(C)]
 pub struct PollReply {
-    pub next: Image,
     pub code: i32,
-    pub fragments: usize,
+    pub fragments: u32,
     pub entries: usize,
 }
 
 #[repr(C)]
 pub struct PeekReply {
-    pub next: Image,
     pub code: i32,
+    pub entries: u32,
     pub position: i64,
-    pub entries: usize,
 }
 
 #[repr(C)]
 pub struct BlockReply {
-    pub next: Image,
     pub code: i32,
     pub offset: usize,
     pub length: usize,
     pub session_id: i32,
     pub term_id: i32,
-}
-
-#[repr(C)]
-pub struct ImageReply {
-    pub next: Image,
-    pub code: i32,
 }
 
 #[repr(C)]
@@ -170,7 +142,6 @@ pub struct EndOfStreamReply {
 
 #[repr(C)]
 pub struct AssemblyReply {
-    pub next: FragmentAssembler,
     pub code: i32,
     pub place: i32,
     pub start: usize,
@@ -179,7 +150,6 @@ pub struct AssemblyReply {
 
 #[repr(C)]
 pub struct NextReply {
-    pub next: Replay,
     pub code: i32,
     pub place: i32,
     pub start: usize,
@@ -191,6 +161,13 @@ pub struct CountReply {
     pub code: i32,
     pub messages: usize,
     pub bytes: usize,
+}
+
+// A number that stands beside a code: none that a call gives is cut (`NothingCut` of specs/Theorems.antt).
+fn narrow(n: usize) -> u32
+    ensures { λ r. ⌜ r ≡ cut32 n ⌝ }
+{
+    if n < 4294967295 { n as u32 } else { 4294967295 }
 }
 
 // What was done, by number alone.
@@ -218,50 +195,34 @@ pub fn positioned(answer: Positioned) -> PositionReply
     }
 }
 
-// The claim of a refused call.
-fn no_claim() -> Claim
-    ensures { λ r. ⌜ r ≡ claimAt (answered []) ⌝ }
-{
-    Claim {
-        partition: 0,
-        offset: 0,
-        length: 0,
-        term_id: 0,
-    }
-}
-
-pub fn offered(next: LogRecord, answer: Offered) -> OfferReply
-    ensures { λ r. ⌜ r ≡ offerBy next answer ⌝ }
+pub fn offered(answer: Offered) -> PositionReply
+    ensures { λ r. ⌜ r ≡ offerReply answer ⌝ }
 {
     match answer {
-        Offered::Position(p) => OfferReply {
-            next: next,
+        Offered::Position(p) => PositionReply {
             code: 0,
             position: p,
         },
-        Offered::Refused(e) => OfferReply {
-            next: next,
+        Offered::Refused(e) => PositionReply {
             code: errors::number(e),
             position: 0,
         },
     }
 }
 
-pub fn claimed(next: LogRecord, answer: Claimed) -> ClaimReply
-    ensures { λ r. ⌜ r ≡ claimBy next answer ⌝ }
+pub fn claimed(answer: Claimed) -> ClaimReply
+    ensures { λ r. ⌜ r ≡ claimReply answer ⌝ }
 {
     match answer {
         Claimed::Position(p, claim) => ClaimReply {
-            next: next,
             code: 0,
             position: p,
-            claim: claim,
+            claim: words::claim_words(claim),
         },
         Claimed::Refused(e) => ClaimReply {
-            next: next,
             code: errors::number(e),
             position: 0,
-            claim: no_claim(),
+            claim: [0; 2],
         },
     }
 }
@@ -294,24 +255,21 @@ pub fn located(answer: Located) -> SpanReply
     }
 }
 
-pub fn appended(next: LogRecord, answer: Appended) -> AppendReply
-    ensures { λ r. ⌜ r ≡ appendBy next answer ⌝ }
+pub fn appended(answer: Appended) -> AppendReply
+    ensures { λ r. ⌜ r ≡ appendReply answer ⌝ }
 {
     match answer {
         Appended::Offset(end) => AppendReply {
-            next: next,
             code: 0,
             is_tripped: false,
             offset: end,
         },
         Appended::Tripped => AppendReply {
-            next: next,
             code: 0,
             is_tripped: true,
             offset: 0,
         },
         Appended::Refused(e) => AppendReply {
-            next: next,
             code: errors::number(e),
             is_tripped: false,
             offset: 0,
@@ -319,30 +277,27 @@ pub fn appended(next: LogRecord, answer: Appended) -> AppendReply
     }
 }
 
-pub fn appended_claim(next: LogRecord, answer: AppendedClaim) -> AppendClaimReply
-    ensures { λ r. ⌜ r ≡ appendClaimBy next answer ⌝ }
+pub fn appended_claim(answer: AppendedClaim) -> AppendClaimReply
+    ensures { λ r. ⌜ r ≡ appendClaimReply answer ⌝ }
 {
     match answer {
         AppendedClaim::Claimed(end, claim) => AppendClaimReply {
-            next: next,
             code: 0,
             is_tripped: false,
             offset: end,
-            claim: claim,
+            claim: words::claim_words(claim),
         },
         AppendedClaim::Tripped => AppendClaimReply {
-            next: next,
             code: 0,
             is_tripped: true,
             offset: 0,
-            claim: no_claim(),
+            claim: [0; 2],
         },
         AppendedClaim::Refused(e) => AppendClaimReply {
-            next: next,
             code: errors::number(e),
             is_tripped: false,
             offset: 0,
-            claim: no_claim(),
+            claim: [0; 2],
         },
     }
 }
@@ -422,7 +377,7 @@ pub fn term_read(answer: TermRead) -> ReadReply
         TermRead::Outcome(offset, fragments) => ReadReply {
             code: 0,
             offset: offset,
-            fragments: fragments,
+            fragments: narrow(fragments),
         },
         TermRead::Refused(e) => ReadReply {
             code: errors::number(e),
@@ -494,37 +449,33 @@ pub fn availability_scanned(answer: AvailabilityScanned) -> AvailabilityReply
     }
 }
 
-pub fn polled(next: Image, answer: Polled) -> PollReply
-    ensures { λ r. ⌜ r ≡ pollBy next answer ⌝ }
+pub fn polled(answer: Polled) -> PollReply
+    ensures { λ r. ⌜ r ≡ pollReply answer ⌝ }
 {
     match answer {
         Polled::Fragments(fragments, entries) => PollReply {
-            next: next,
             code: 0,
-            fragments: fragments,
+            fragments: narrow(fragments),
             entries: entries,
         },
         Polled::Refused(e) => PollReply {
-            next: next,
             code: errors::number(e),
-            fragments: errors::place(e) as usize,
+            fragments: narrow(errors::place(e) as usize),
             entries: 0,
         },
     }
 }
 
-pub fn peeked(next: Image, answer: Peeked) -> PeekReply
-    ensures { λ r. ⌜ r ≡ peekBy next answer ⌝ }
+pub fn peeked(answer: Peeked) -> PeekReply
+    ensures { λ r. ⌜ r ≡ peekReply answer ⌝ }
 {
     match answer {
         Peeked::Position(p, entries) => PeekReply {
-            next: next,
             code: 0,
             position: p,
-            entries: entries,
+            entries: narrow(entries),
         },
         Peeked::Refused(e) => PeekReply {
-            next: next,
             code: errors::number(e),
             position: errors::place(e) as i64,
             entries: 0,
@@ -532,12 +483,11 @@ pub fn peeked(next: Image, answer: Peeked) -> PeekReply
     }
 }
 
-pub fn block_polled(next: Image, answer: BlockPolled) -> BlockReply
-    ensures { λ r. ⌜ r ≡ blockBy next answer ⌝ }
+pub fn block_polled(answer: BlockPolled) -> BlockReply
+    ensures { λ r. ⌜ r ≡ blockReply answer ⌝ }
 {
     match answer {
         BlockPolled::Block(offset, length, session_id, term_id) => BlockReply {
-            next: next,
             code: 0,
             offset: offset,
             length: length,
@@ -545,7 +495,6 @@ pub fn block_polled(next: Image, answer: BlockPolled) -> BlockReply
             term_id: term_id,
         },
         BlockPolled::Refused(e) => BlockReply {
-            next: next,
             code: errors::number(e),
             offset: errors::place(e) as usize,
             length: 0,
@@ -568,33 +517,29 @@ pub fn end_of_stream(answer: EndOfStream) -> EndOfStreamReply
 }
 
 // Where a message lies: 0 there is none, 1 in the log, 2 in the lent buffer.
-pub fn assembled(next: FragmentAssembler, answer: Assembled) -> AssemblyReply
-    ensures { λ r. ⌜ r ≡ assemblyBy next answer ⌝ }
+pub fn assembled(answer: Assembled) -> AssemblyReply
+    ensures { λ r. ⌜ r ≡ assemblyReply answer ⌝ }
 {
     match answer {
         Assembled::Nothing => AssemblyReply {
-            next: next,
             code: 0,
             place: 0,
             start: 0,
             length: 0,
         },
         Assembled::Fragment(at, n) => AssemblyReply {
-            next: next,
             code: 0,
             place: 1,
             start: at,
             length: n,
         },
         Assembled::Message(at, n) => AssemblyReply {
-            next: next,
             code: 0,
             place: 2,
             start: at,
             length: n,
         },
         Assembled::Refused(e) => AssemblyReply {
-            next: next,
             code: errors::number(e),
             place: 0,
             start: errors::place(e) as usize,
@@ -603,33 +548,29 @@ pub fn assembled(next: FragmentAssembler, answer: Assembled) -> AssemblyReply
     }
 }
 
-pub fn replayed(next: Replay, answer: Replayed) -> NextReply
-    ensures { λ r. ⌜ r ≡ nextBy next answer ⌝ }
+pub fn replayed(answer: Replayed) -> NextReply
+    ensures { λ r. ⌜ r ≡ nextReply answer ⌝ }
 {
     match answer {
         Replayed::End => NextReply {
-            next: next,
             code: 0,
             place: 0,
             start: 0,
             length: 0,
         },
         Replayed::InLog(at, n) => NextReply {
-            next: next,
             code: 0,
             place: 1,
             start: at,
             length: n,
         },
         Replayed::InBuffer(at, n) => NextReply {
-            next: next,
             code: 0,
             place: 2,
             start: at,
             length: n,
         },
         Replayed::Refused(e) => NextReply {
-            next: next,
             code: errors::number(e),
             place: 0,
             start: errors::place(e) as usize,

@@ -2,7 +2,8 @@
 ghost use mathlib.Core.Path.{_≡_};
 ghost use lib.ListN.{length};
 ghost use Rattle.shelf.specs.Calls.{shelvedNumber, shelveOf, shelveBytes, unshelveOf, unshelveBytes};
-use model::LogRecord;
+ghost use Rattle.capi.specs.Words.{recordIn};
+use crate::words;
 use shelf::Shelved;
 
 fn shelved_code(answer: Shelved) -> i32
@@ -16,21 +17,21 @@ fn shelved_code(answer: Shelved) -> i32
 
 #[no_mangle]
 pub extern "C" fn logbuffer_shelve(
-    rec: LogRecord,
+    rec: &[i64; 10],
     log: &[u8],
     partition: i32,
     out: &mut [u8],
 ) -> i32
-    ensures { λ r. ⌜ r ≡ shelvedNumber (shelveOf rec (now (log .entry)) partition (length (now (out .entry)))) ⌝ }
-    ensures { λ _. ⌜ now (out .exit) ≡ shelveBytes rec (now (log .entry)) partition (now (out .entry)) ⌝ }
+    ensures { λ r. ⌜ r ≡ shelvedNumber (shelveOf (recordIn (now (rec .entry))) (now (log .entry)) partition (length (now (out .entry)))) ⌝ }
+    ensures { λ _. ⌜ now (out .exit) ≡ shelveBytes (recordIn (now (rec .entry))) (now (log .entry)) partition (now (out .entry)) ⌝ }
 {
-    shelved_code(shelf::shelve(rec, log, partition, out))
+    shelved_code(shelf::shelve(words::record_in(rec), log, partition, out))
 }
 
 #[no_mangle]
-pub extern "C" fn logbuffer_unshelve(rec: LogRecord, shelf: &[u8], out: &mut [u8]) -> i32
-    ensures { λ r. ⌜ r ≡ shelvedNumber (unshelveOf rec (now (shelf .entry)) (length (now (out .entry)))) ⌝ }
-    ensures { λ _. ⌜ now (out .exit) ≡ unshelveBytes rec (now (shelf .entry)) (now (out .entry)) ⌝ }
+pub extern "C" fn logbuffer_unshelve(rec: &[i64; 10], shelf: &[u8], out: &mut [u8]) -> i32
+    ensures { λ r. ⌜ r ≡ shelvedNumber (unshelveOf (recordIn (now (rec .entry))) (now (shelf .entry)) (length (now (out .entry)))) ⌝ }
+    ensures { λ _. ⌜ now (out .exit) ≡ unshelveBytes (recordIn (now (rec .entry))) (now (shelf .entry)) (now (out .entry)) ⌝ }
 {
-    shelved_code(shelf::unshelve(rec, shelf, out))
+    shelved_code(shelf::unshelve(words::record_in(rec), shelf, out))
 }

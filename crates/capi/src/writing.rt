@@ -1,37 +1,42 @@
-// Opening, the publication's calls, claims and appenders under their C names.
+// Opening, the publication's calls, claims and appenders under their C names. The record stays with the caller: a call reads its words, and writes those that
+// the next record has other numbers in.
 ghost use mathlib.Core.Path.{_≡_};
 ghost use Rattle.model.specs.Parts.{locatedNumber};
 ghost use Rattle.model.specs.LogBufferDescriptor.{rotateLogOf};
 ghost use Rattle.model.specs.BufferClaim.{locateOf, writeOf, writeBytes, commitOf, commitBytes, abortBytes};
 ghost use Rattle.model.specs.TermAppender.{unfragmentedReply, unfragmentedBytes, fragmentedReply, fragmentedBytes, claimAppendReply, claimAppendBytes};
 ghost use Rattle.model.specs.Publication.{openOf, openBytes, limitOf, closeOf, positionCall, limitCall, windowCall, offerOf, offerBytes, claimOf, claimBytes};
-ghost use Rattle.capi.specs.Replies.{outcomeNumber, recordReply, positionReply, offerReply, claimReply, spanReply, appendReply, appendClaimReply};
+ghost use Rattle.capi.specs.Words.{recordIn, recordOut, limitOut, closedOut, openedOut};
+ghost use Rattle.capi.specs.Replies.{outcomeNumber, positionReply, offerReply, claimReply, spanReply, appendReply, appendClaimReply};
 use crate::replies;
 use crate::replies::AppendClaimReply;
 use crate::replies::AppendReply;
 use crate::replies::ClaimReply;
-use crate::replies::OfferReply;
 use crate::replies::PositionReply;
-use crate::replies::RecordReply;
 use crate::replies::SpanReply;
+use crate::words;
 use logbuffer::buffer_claim;
+use logbuffer::errors;
 use logbuffer::log_buffer_descriptor;
 use logbuffer::term_appender;
 use model::Claim;
-use model::LogRecord;
+use model::Outcome;
 use publication::opening;
 use publication::positions;
 
+// Refused, it leaves record and log as they were.
 #[no_mangle]
 pub extern "C" fn logbuffer_open(
+    rec: &mut [i64; 10],
     log: &mut [u8],
     term_length: i32,
     mtu_length: i32,
     initial_term_id: i32,
     session_id: i32,
     stream_id: i32,
-) -> RecordReply
-    ensures { λ r. ⌜ r ≡ recordReply (openOf (now (log .entry)) «term_length» «mtu_length» «initial_term_id» «session_id» «stream_id») ⌝ }
+) -> i32
+    ensures { λ r. ⌜ r ≡ outcomeNumber (openOf (now (log .entry)) «term_length» «mtu_length» «initial_term_id» «session_id» «stream_id» .answer) ⌝ }
+    ensures { λ _. ⌜ now (rec .exit) ≡ openedOut (now (rec .entry)) (openOf (now (log .entry)) «term_length» «mtu_length» «initial_term_id» «session_id» «stream_id») ⌝ }
     ensures { λ _. ⌜ now (log .exit) ≡ openBytes (now (log .entry)) «term_length» «mtu_length» «initial_term_id» «session_id» «stream_id» ⌝ }
 {
     let o = opening::open_log(
@@ -44,156 +49,165 @@ pub extern "C" fn logbuffer_open(
     );
     let next = o.next;
     let answer = o.answer;
-    RecordReply {
-        next: next,
-        code: replies::outcome_code(answer),
+    match answer {
+        Outcome::Done => {
+            words::record_filled(rec, next);
+            0
+        }
+        Outcome::Refused(e) => errors::number(e),
     }
 }
 
 #[no_mangle]
-pub extern "C" fn logbuffer_set_publication_limit(rec: LogRecord, limit: i64) -> RecordReply
-    ensures { λ r. ⌜ r ≡ recordReply (limitOf rec limit) ⌝ }
+pub extern "C" fn logbuffer_set_publication_limit(rec: &mut [i64; 10], limit: i64) -> i32
+    ensures { λ r. ⌜ r ≡ outcomeNumber (limitOf (recordIn (now (rec .entry))) limit .answer) ⌝ }
+    ensures { λ _. ⌜ now (rec .exit) ≡ limitOut (now (rec .entry)) (limitOf (recordIn (now (rec .entry))) limit .next) ⌝ }
 {
-    let o = positions::set_publication_limit(rec, limit);
+    let o = positions::set_publication_limit(words::record_in(rec), limit);
     let next = o.next;
     let answer = o.answer;
-    RecordReply {
-        next: next,
-        code: replies::outcome_code(answer),
-    }
+    words::limit_out(rec, next);
+    replies::outcome_code(answer)
 }
 
 #[no_mangle]
-pub extern "C" fn logbuffer_close(rec: LogRecord) -> RecordReply
-    ensures { λ r. ⌜ r ≡ recordReply (closeOf rec) ⌝ }
+pub extern "C" fn logbuffer_close(rec: &mut [i64; 10]) -> i32
+    ensures { λ r. ⌜ r ≡ outcomeNumber (closeOf (recordIn (now (rec .entry))) .answer) ⌝ }
+    ensures { λ _. ⌜ now (rec .exit) ≡ closedOut (now (rec .entry)) (closeOf (recordIn (now (rec .entry))) .next) ⌝ }
 {
-    let o = positions::close(rec);
+    let o = positions::close(words::record_in(rec));
     let next = o.next;
     let answer = o.answer;
-    RecordReply {
-        next: next,
-        code: replies::outcome_code(answer),
-    }
+    words::closed_out(rec, next);
+    replies::outcome_code(answer)
 }
 
 #[no_mangle]
-pub extern "C" fn logbuffer_rotate_log(rec: LogRecord, count: i32, term_id: i32) -> RecordReply
-    ensures { λ r. ⌜ r ≡ recordReply (rotateLogOf rec count «term_id») ⌝ }
+pub extern "C" fn logbuffer_rotate_log(rec: &mut [i64; 10], count: i32, term_id: i32) -> i32
+    ensures { λ r. ⌜ r ≡ outcomeNumber (rotateLogOf (recordIn (now (rec .entry))) count «term_id» .answer) ⌝ }
+    ensures { λ _. ⌜ now (rec .exit) ≡ recordOut (now (rec .entry)) (rotateLogOf (recordIn (now (rec .entry))) count «term_id» .next) ⌝ }
 {
-    let o = log_buffer_descriptor::rotate_log(rec, count, term_id);
+    let o = log_buffer_descriptor::rotate_log(words::record_in(rec), count, term_id);
     let next = o.next;
     let answer = o.answer;
-    RecordReply {
-        next: next,
-        code: replies::outcome_code(answer),
-    }
+    words::record_out(rec, next);
+    replies::outcome_code(answer)
 }
 
 #[no_mangle]
-pub extern "C" fn logbuffer_position(rec: LogRecord) -> PositionReply
-    ensures { λ r. ⌜ r ≡ positionReply (positionCall rec) ⌝ }
+pub extern "C" fn logbuffer_position(rec: &[i64; 10]) -> PositionReply
+    ensures { λ r. ⌜ r ≡ positionReply (positionCall (recordIn (now (rec .entry)))) ⌝ }
 {
-    replies::positioned(positions::position(rec))
+    replies::positioned(positions::position(words::record_in(rec)))
 }
 
 #[no_mangle]
-pub extern "C" fn logbuffer_publication_limit(rec: LogRecord) -> PositionReply
-    ensures { λ r. ⌜ r ≡ positionReply (limitCall rec) ⌝ }
+pub extern "C" fn logbuffer_publication_limit(rec: &[i64; 10]) -> PositionReply
+    ensures { λ r. ⌜ r ≡ positionReply (limitCall (recordIn (now (rec .entry)))) ⌝ }
 {
-    replies::positioned(positions::publication_limit(rec))
+    replies::positioned(positions::publication_limit(words::record_in(rec)))
 }
 
 #[no_mangle]
-pub extern "C" fn logbuffer_available_window(rec: LogRecord) -> PositionReply
-    ensures { λ r. ⌜ r ≡ positionReply (windowCall rec) ⌝ }
+pub extern "C" fn logbuffer_available_window(rec: &[i64; 10]) -> PositionReply
+    ensures { λ r. ⌜ r ≡ positionReply (windowCall (recordIn (now (rec .entry)))) ⌝ }
 {
-    replies::positioned(positions::available_window(rec))
+    replies::positioned(positions::available_window(words::record_in(rec)))
 }
 
 #[no_mangle]
 pub extern "C" fn logbuffer_offer(
-    rec: LogRecord,
+    rec: &mut [i64; 10],
     log: &mut [u8],
     message: &[u8],
     reserved_value: i64,
-) -> OfferReply
-    ensures { λ r. ⌜ r ≡ offerReply (offerOf rec (now (log .entry)) (now (message .entry))) ⌝ }
-    ensures { λ _. ⌜ now (log .exit) ≡ offerBytes rec (now (log .entry)) (now (message .entry)) «reserved_value» ⌝ }
+) -> PositionReply
+    ensures { λ r. ⌜ r ≡ offerReply (offerOf (recordIn (now (rec .entry))) (now (log .entry)) (now (message .entry)) .answer) ⌝ }
+    ensures { λ _. ⌜ now (rec .exit) ≡ recordOut (now (rec .entry)) (offerOf (recordIn (now (rec .entry))) (now (log .entry)) (now (message .entry)) .next) ⌝ }
+    ensures { λ _. ⌜ now (log .exit) ≡ offerBytes (recordIn (now (rec .entry))) (now (log .entry)) (now (message .entry)) «reserved_value» ⌝ }
 {
-    let o = publication::offer(rec, log, message, reserved_value);
+    let o = publication::offer(words::record_in(rec), log, message, reserved_value);
     let next = o.next;
     let answer = o.answer;
-    replies::offered(next, answer)
+    words::record_out(rec, next);
+    replies::offered(answer)
 }
 
 #[no_mangle]
-pub extern "C" fn logbuffer_try_claim(rec: LogRecord, log: &mut [u8], length: i32) -> ClaimReply
-    ensures { λ r. ⌜ r ≡ claimReply (claimOf rec (now (log .entry)) length) ⌝ }
-    ensures { λ _. ⌜ now (log .exit) ≡ claimBytes rec (now (log .entry)) length ⌝ }
+pub extern "C" fn logbuffer_try_claim(
+    rec: &mut [i64; 10],
+    log: &mut [u8],
+    length: i32,
+) -> ClaimReply
+    ensures { λ r. ⌜ r ≡ claimReply (claimOf (recordIn (now (rec .entry))) (now (log .entry)) length .answer) ⌝ }
+    ensures { λ _. ⌜ now (rec .exit) ≡ recordOut (now (rec .entry)) (claimOf (recordIn (now (rec .entry))) (now (log .entry)) length .next) ⌝ }
+    ensures { λ _. ⌜ now (log .exit) ≡ claimBytes (recordIn (now (rec .entry))) (now (log .entry)) length ⌝ }
 {
-    let o = publication::try_claim(rec, log, length);
+    let o = publication::try_claim(words::record_in(rec), log, length);
     let next = o.next;
     let answer = o.answer;
-    replies::claimed(next, answer)
+    words::record_out(rec, next);
+    replies::claimed(answer)
 }
 
 #[no_mangle]
-pub extern "C" fn logbuffer_claim_body(rec: LogRecord, log: &[u8], claim: Claim) -> SpanReply
-    ensures { λ r. ⌜ r ≡ spanReply (locateOf rec (now (log .entry)) claim) ⌝ }
+pub extern "C" fn logbuffer_claim_body(rec: &[i64; 10], log: &[u8], claim: Claim) -> SpanReply
+    ensures { λ r. ⌜ r ≡ spanReply (locateOf (recordIn (now (rec .entry))) (now (log .entry)) claim) ⌝ }
 {
-    replies::located(buffer_claim::locate(rec, log, claim))
+    replies::located(buffer_claim::locate(words::record_in(rec), log, claim))
 }
 
 #[no_mangle]
-pub extern "C" fn logbuffer_claim_body_number(rec: LogRecord, log: &[u8], claim: Claim) -> i32
-    ensures { λ r. ⌜ r ≡ locatedNumber (locateOf rec (now (log .entry)) claim) ⌝ }
+pub extern "C" fn logbuffer_claim_body_number(rec: &[i64; 10], log: &[u8], claim: Claim) -> i32
+    ensures { λ r. ⌜ r ≡ locatedNumber (locateOf (recordIn (now (rec .entry))) (now (log .entry)) claim) ⌝ }
 {
-    buffer_claim::body_number(rec, log, claim)
+    buffer_claim::body_number(words::record_in(rec), log, claim)
 }
 
 #[no_mangle]
 pub extern "C" fn logbuffer_claim_write(
-    rec: LogRecord,
+    rec: &[i64; 10],
     log: &mut [u8],
     claim: Claim,
     bytes: &[u8],
 ) -> i32
-    ensures { λ r. ⌜ r ≡ outcomeNumber (writeOf rec (now (log .entry)) claim (now (bytes .entry))) ⌝ }
-    ensures { λ _. ⌜ now (log .exit) ≡ writeBytes rec (now (log .entry)) claim (now (bytes .entry)) ⌝ }
+    ensures { λ r. ⌜ r ≡ outcomeNumber (writeOf (recordIn (now (rec .entry))) (now (log .entry)) claim (now (bytes .entry))) ⌝ }
+    ensures { λ _. ⌜ now (log .exit) ≡ writeBytes (recordIn (now (rec .entry))) (now (log .entry)) claim (now (bytes .entry)) ⌝ }
 {
-    replies::outcome_code(buffer_claim::write(rec, log, claim, bytes))
+    replies::outcome_code(buffer_claim::write(words::record_in(rec), log, claim, bytes))
 }
 
 #[no_mangle]
-pub extern "C" fn logbuffer_commit(rec: LogRecord, log: &mut [u8], claim: Claim) -> i32
-    ensures { λ r. ⌜ r ≡ outcomeNumber (commitOf rec (now (log .entry)) claim) ⌝ }
-    ensures { λ _. ⌜ now (log .exit) ≡ commitBytes rec (now (log .entry)) claim ⌝ }
+pub extern "C" fn logbuffer_commit(rec: &[i64; 10], log: &mut [u8], claim: Claim) -> i32
+    ensures { λ r. ⌜ r ≡ outcomeNumber (commitOf (recordIn (now (rec .entry))) (now (log .entry)) claim) ⌝ }
+    ensures { λ _. ⌜ now (log .exit) ≡ commitBytes (recordIn (now (rec .entry))) (now (log .entry)) claim ⌝ }
 {
-    replies::outcome_code(buffer_claim::commit(rec, log, claim))
+    replies::outcome_code(buffer_claim::commit(words::record_in(rec), log, claim))
 }
 
 #[no_mangle]
-pub extern "C" fn logbuffer_abort(rec: LogRecord, log: &mut [u8], claim: Claim) -> i32
-    ensures { λ r. ⌜ r ≡ outcomeNumber (commitOf rec (now (log .entry)) claim) ⌝ }
-    ensures { λ _. ⌜ now (log .exit) ≡ abortBytes rec (now (log .entry)) claim ⌝ }
+pub extern "C" fn logbuffer_abort(rec: &[i64; 10], log: &mut [u8], claim: Claim) -> i32
+    ensures { λ r. ⌜ r ≡ outcomeNumber (commitOf (recordIn (now (rec .entry))) (now (log .entry)) claim) ⌝ }
+    ensures { λ _. ⌜ now (log .exit) ≡ abortBytes (recordIn (now (rec .entry))) (now (log .entry)) claim ⌝ }
 {
-    replies::outcome_code(buffer_claim::abort(rec, log, claim))
+    replies::outcome_code(buffer_claim::abort(words::record_in(rec), log, claim))
 }
 
 #[no_mangle]
 pub extern "C" fn logbuffer_append_unfragmented_message(
-    rec: LogRecord,
+    rec: &mut [i64; 10],
     log: &mut [u8],
     partition: i32,
     message: &[u8],
     reserved_value: i64,
     term_id: i32,
 ) -> AppendReply
-    ensures { λ r. ⌜ r ≡ appendReply (unfragmentedReply rec (now (log .entry)) partition (now (message .entry)) «term_id») ⌝ }
-    ensures { λ _. ⌜ now (log .exit) ≡ unfragmentedBytes rec (now (log .entry)) partition (now (message .entry)) «reserved_value» «term_id» ⌝ }
+    ensures { λ r. ⌜ r ≡ appendReply (unfragmentedReply (recordIn (now (rec .entry))) (now (log .entry)) partition (now (message .entry)) «term_id» .answer) ⌝ }
+    ensures { λ _. ⌜ now (rec .exit) ≡ recordOut (now (rec .entry)) (unfragmentedReply (recordIn (now (rec .entry))) (now (log .entry)) partition (now (message .entry)) «term_id» .next) ⌝ }
+    ensures { λ _. ⌜ now (log .exit) ≡ unfragmentedBytes (recordIn (now (rec .entry))) (now (log .entry)) partition (now (message .entry)) «reserved_value» «term_id» ⌝ }
 {
     let o = term_appender::append_unfragmented_message(
-        rec,
+        words::record_in(rec),
         log,
         partition,
         message,
@@ -202,12 +216,13 @@ pub extern "C" fn logbuffer_append_unfragmented_message(
     );
     let next = o.next;
     let answer = o.answer;
-    replies::appended(next, answer)
+    words::record_out(rec, next);
+    replies::appended(answer)
 }
 
 #[no_mangle]
 pub extern "C" fn logbuffer_append_fragmented_message(
-    rec: LogRecord,
+    rec: &mut [i64; 10],
     log: &mut [u8],
     partition: i32,
     message: &[u8],
@@ -215,11 +230,12 @@ pub extern "C" fn logbuffer_append_fragmented_message(
     payload_limit: i32,
     term_id: i32,
 ) -> AppendReply
-    ensures { λ r. ⌜ r ≡ appendReply (fragmentedReply rec (now (log .entry)) partition (now (message .entry)) «payload_limit» «term_id») ⌝ }
-    ensures { λ _. ⌜ now (log .exit) ≡ fragmentedBytes rec (now (log .entry)) partition (now (message .entry)) «reserved_value» «payload_limit» «term_id» ⌝ }
+    ensures { λ r. ⌜ r ≡ appendReply (fragmentedReply (recordIn (now (rec .entry))) (now (log .entry)) partition (now (message .entry)) «payload_limit» «term_id» .answer) ⌝ }
+    ensures { λ _. ⌜ now (rec .exit) ≡ recordOut (now (rec .entry)) (fragmentedReply (recordIn (now (rec .entry))) (now (log .entry)) partition (now (message .entry)) «payload_limit» «term_id» .next) ⌝ }
+    ensures { λ _. ⌜ now (log .exit) ≡ fragmentedBytes (recordIn (now (rec .entry))) (now (log .entry)) partition (now (message .entry)) «reserved_value» «payload_limit» «term_id» ⌝ }
 {
     let o = term_appender::append_fragmented_message(
-        rec,
+        words::record_in(rec),
         log,
         partition,
         message,
@@ -229,22 +245,25 @@ pub extern "C" fn logbuffer_append_fragmented_message(
     );
     let next = o.next;
     let answer = o.answer;
-    replies::appended(next, answer)
+    words::record_out(rec, next);
+    replies::appended(answer)
 }
 
 #[no_mangle]
 pub extern "C" fn logbuffer_append_claim(
-    rec: LogRecord,
+    rec: &mut [i64; 10],
     log: &mut [u8],
     partition: i32,
     length: i32,
     term_id: i32,
 ) -> AppendClaimReply
-    ensures { λ r. ⌜ r ≡ appendClaimReply (claimAppendReply rec (now (log .entry)) partition length «term_id») ⌝ }
-    ensures { λ _. ⌜ now (log .exit) ≡ claimAppendBytes rec (now (log .entry)) partition length «term_id» ⌝ }
+    ensures { λ r. ⌜ r ≡ appendClaimReply (claimAppendReply (recordIn (now (rec .entry))) (now (log .entry)) partition length «term_id» .answer) ⌝ }
+    ensures { λ _. ⌜ now (rec .exit) ≡ recordOut (now (rec .entry)) (claimAppendReply (recordIn (now (rec .entry))) (now (log .entry)) partition length «term_id» .next) ⌝ }
+    ensures { λ _. ⌜ now (log .exit) ≡ claimAppendBytes (recordIn (now (rec .entry))) (now (log .entry)) partition length «term_id» ⌝ }
 {
-    let o = term_appender::claim(rec, log, partition, length, term_id);
+    let o = term_appender::claim(words::record_in(rec), log, partition, length, term_id);
     let next = o.next;
     let answer = o.answer;
-    replies::appended_claim(next, answer)
+    words::record_out(rec, next);
+    replies::appended_claim(answer)
 }

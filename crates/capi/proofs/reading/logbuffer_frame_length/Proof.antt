@@ -4,7 +4,9 @@ use Rattle.capi.proofs.reading.logbuffer_frame_length.Statement.{statem
 use Rattle.capi.proofs.reading.logbuffer_frame_length.Tie as tie
 
 returns : tie.Need-returns
-returns c = rw (c .frame-length-read .ensures, c .before .frame-length-at .ensures) (search needs)
+returns c =
+    let f = c .before .frame-length-at .ensures in rw (c .frame-length-read .ensures, f, c .before .before .record-in .ensures) (search needs)
 
 pub logbuffer-frame-length-spec : {M : Type 1} → statement M
-logbuffer-frame-length-spec = tie.close (tie.spec (search needs) (search needs) returns)
+logbuffer-frame-length-spec =
+    tie.close (tie.spec (search needs) (search needs) (search needs) returns)

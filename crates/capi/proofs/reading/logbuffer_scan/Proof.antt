@@ -4,7 +4,9 @@ use Rattle.capi.proofs.reading.logbuffer_scan.Statement.{statement}
 use Rattle.capi.proofs.reading.logbuffer_scan.Tie as tie
 
 returns : tie.Need-returns
-returns c = rw (c .scanned .ensures, c .before .scan .ensures) (search needs)
+returns c =
+    let f = c .before .scan .ensures in rw (c .scanned .ensures, f, c .before .before .record-in .ensures) (search needs)
 
 pub logbuffer-scan-spec : {M : Type 1} → statement M
-logbuffer-scan-spec = tie.close (tie.spec (search needs) (search needs) returns)
+logbuffer-scan-spec =
+    tie.close (tie.spec (search needs) (search needs) (search needs) returns)

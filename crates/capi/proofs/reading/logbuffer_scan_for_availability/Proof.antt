@@ -5,8 +5,8 @@ use Rattle.capi.proofs.reading.logbuffer_scan_for_availability.Tie as t
 
 returns : tie.Need-returns
 returns c =
-    rw (c .availability-scanned .ensures, c .before .scan-for-availability .ensures) (search needs)
+    let f = c .before .scan-for-availability .ensures in rw (c .availability-scanned .ensures, f, c .before .before .record-in .ensures) (search needs)
 
 pub logbuffer-scan-for-availability-spec : {M : Type 1} → statement M
 logbuffer-scan-for-availability-spec =
-    tie.close (tie.spec (search needs) (search needs) returns)
+    tie.close (tie.spec (search needs) (search needs) (search needs) returns)

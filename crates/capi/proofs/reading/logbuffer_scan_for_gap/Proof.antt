@@ -4,8 +4,9 @@ use Rattle.capi.proofs.reading.logbuffer_scan_for_gap.Statement.{statem
 use Rattle.capi.proofs.reading.logbuffer_scan_for_gap.Tie as tie
 
 returns : tie.Need-returns
-returns c = rw (c .gap-scanned .ensures, c .before .scan-for-gap .ensures) (search needs)
+returns c =
+    let f = c .before .scan-for-gap .ensures in rw (c .gap-scanned .ensures, f, c .before .before .record-in .ensures) (search needs)
 
 pub logbuffer-scan-for-gap-spec : {M : Type 1} → statement M
 logbuffer-scan-for-gap-spec =
-    tie.close (tie.spec (search needs) (search needs) returns)
+    tie.close (tie.spec (search needs) (search needs) (search needs) returns)

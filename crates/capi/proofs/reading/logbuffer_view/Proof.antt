@@ -4,7 +4,9 @@ use Rattle.capi.proofs.reading.logbuffer_view.Statement.{statement}
 use Rattle.capi.proofs.reading.logbuffer_view.Tie as tie
 
 returns : tie.Need-returns
-returns c = rw (c .located .ensures, c .before .view-span .ensures) (search needs)
+returns c =
+    let f = c .before .view-span .ensures in rw (c .located .ensures, f, c .before .before .record-in .ensures) (search needs)
 
 pub logbuffer-view-spec : {M : Type 1} → statement M
-logbuffer-view-spec = tie.close (tie.spec (search needs) (search needs) returns)
+logbuffer-view-spec =
+    tie.close (tie.spec (search needs) (search needs) (search needs) returns)

@@ -4,11 +4,11 @@ use Rattle.capi.proofs.replies.term_read.Statement.{statement}
 use Rattle.capi.proofs.replies.term_read.Tie as tie
 
 returns : tie.Need-returns
-returns c = rw (c .before .answer .given .1)
+returns c = search (needs, c .narrow .ensures, c .before .before .answer .given .1)
 
 returns-2 : tie.Need-returns-2
 returns-2 c = search (needs, ← c .before .number .ensures, ← c .place .ensures, c .before .before .before .answer2 .given .1)
 
 pub term-read-spec : {M : Type 1} → statement M
 term-read-spec =
-    tie.close (tie.spec (search needs) (search needs) (search needs) (search needs) (search needs) returns returns-2)
+    tie.close (tie.spec (search needs) (search needs) (search needs) (search needs) (search needs) (search needs) returns returns-2)

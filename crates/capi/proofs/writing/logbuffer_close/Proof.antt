@@ -1,11 +1,13 @@
--- The call's promise, carried into the reply.
+-- The call's promise, carried into the reply and the words; signed arguments that were handed on are those given.
 use Rattle.capi.proofs.Promised.{promised}
 use borrow.Author.Needs.{needs}
 use Rattle.capi.proofs.writing.logbuffer_close.Statement.{statement}
 use Rattle.capi.proofs.writing.logbuffer_close.Tie as tie
 
 returns : tie.Need-returns
-returns c = search (promised (c .outcome-code .ensures), needs, c .before .before .close .ensures)
+returns c =
+    let f = c .before .before .before .before .close .ensures in rw (promised (c .outcome-code .ensures) (search needs), c .before .closed-out .ensures, f, c .before .before .before .before .before .record-in .ensures) (search needs)
 
 pub logbuffer-close-spec : {M : Type 1} → statement M
-logbuffer-close-spec = tie.close (tie.spec (search needs) (search needs) returns)
+logbuffer-close-spec =
+    tie.close (tie.spec (search needs) (search needs) (search needs) (search needs) returns)

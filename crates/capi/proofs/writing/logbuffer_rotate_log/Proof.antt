@@ -1,4 +1,4 @@
--- The call's promise, carried into the reply; signed arguments that were handed on are those given.
+-- The call's promise, carried into the reply and the words; signed arguments that were handed on are those given.
 use Rattle.capi.proofs.Promised.{promised}
 use borrow.Author.Needs.{needs}
 use Rattle.capi.proofs.writing.logbuffer_rotate_log.Statement.{statement}
@@ -6,7 +6,8 @@ use Rattle.capi.proofs.writing.logbuffer_rotate_log.Tie as tie
 
 returns : tie.Need-returns
 returns c =
-    search (promised (c .outcome-code .ensures), needs, c .before .before .rotate-log .ensures)
+    let f = c .before .before .before .before .rotate-log .ensures in rw (promised (c .outcome-code .ensures) (search needs), c .before .record-out .ensures, f, c .before .before .before .before .before .record-in .ensures) (search needs)
 
 pub logbuffer-rotate-log-spec : {M : Type 1} → statement M
-logbuffer-rotate-log-spec = tie.close (tie.spec (search needs) (search needs) returns)
+logbuffer-rotate-log-spec =
+    tie.close (tie.spec (search needs) (search needs) (search needs) (search needs) returns)

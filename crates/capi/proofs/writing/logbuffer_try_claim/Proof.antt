@@ -1,12 +1,26 @@
--- The call's promise, carried into the reply; signed arguments that were handed on are those given.
+-- The call's promise, carried into the reply and the words; signed arguments that were handed on are those given.
+use mathlib.Core.Path.{ap, _∙_}
+use lib.IntN.{ℤ}
+use mir.Facts.{toZ-ofZ}
+use Rattle.model.specs.declared.LogRecord.{LogRecord}
+use Rattle.model.specs.declared.ClaimReply.{ClaimReply}
+use Rattle.model.specs.Publication.{claimOf, claimBytes}
+use Rattle.capi.specs.Words.{recordOut}
+use Rattle.capi.specs.Replies.{claimReply}
+use Rattle.capi.proofs.Promised.{of-2}
 use borrow.Author.Needs.{needs}
 use Rattle.capi.proofs.writing.logbuffer_try_claim.Statement.{statement}
 use Rattle.capi.proofs.writing.logbuffer_try_claim.Tie as tie
 
 returns : tie.Need-returns
 returns c =
-    let f = c .before .before .before .before .try-claim .ensures in rw (c .claimed .ensures, f .0, f .1) (search needs)
+    let s = c .before .before .before .before .before .before .before .before .before .before .before in
+    let a = s .args in
+    let f = c .before .before .before .before .before .before .try-claim .ensures in
+    let q0 = of-2 (λ (r : LogRecord) (y : ℤ). claimOf r (a .log .now) y) (f .0) (c .before .before .before .before .before .before .before .before .record-in .ensures) (toZ-ofZ (s .fits .length)) in
+    let q1 = of-2 (λ (r : LogRecord) (y : ℤ). claimBytes r (a .log .now) y) (f .1) (c .before .before .before .before .before .before .before .before .record-in .ensures) (toZ-ofZ (s .fits .length)) in
+    (c .claimed .ensures ∙ ap (λ (o : ClaimReply). claimReply (o .answer)) q0, (c .before .record-out .ensures ∙ ap (λ (o : ClaimReply). recordOut (a .rec .now) (o .next)) q0, q1))
 
 pub logbuffer-try-claim-spec : {M : Type 1} → statement M
 logbuffer-try-claim-spec =
-    tie.close (tie.spec (search needs) (search needs) (search needs) returns)
+    tie.close (tie.spec (search needs) (search needs) (search needs) (search needs) (search needs) returns)

@@ -1,0 +1,97 @@
+-- Packing again what was unpacked changes no word: the theorems of specs/Theorems.antt that say so.
+use mathlib.Core.Path.{_≡_, refl, ap, ap₂, _∙_}
+use mathlib.Core.Bool.{Bool, true, false, cond}
+use Prim.Native.Nat.{ℕ, _+_, _*_, _/_, _%_, _<_}
+use mathlib.Core.List.{List}
+use native.Mathlib.Omega.{arith}
+use lib.IntN.{ℤ, pos, negsuc}
+use lib.ListN.{set}
+use lib.Seq.{set-getD}
+use mir.Syntax.{w32, w64}
+use mir.Val.{Fits, SFits, ofZ, toZ}
+use mir.Facts.{toZ-ofZ, ofZ-toZ}
+use Rattle.model.specs.Bytes.{word, long}
+use Rattle.logbuffer.specs.Assembler.{sessionsOf}
+use Rattle.capi.specs.Words.{at, lowOf, highOf, pairOf, flagOf, countOut, shutBits, idsFrom, heldFrom, idsTo, heldTo, assemblerFrom, assemblerTo}
+use Rattle.capi.specs.Theorems.{RecordKept, ImageKept, AssemblerKept, ReplayKept}
+
+-- ---- parts of a word
+
+pub long-bound : (z : ℤ) → SFits w64 z → long z < 18446744073709551616
+long-bound (pos n) f = omega arith
+long-bound (negsuc n) f = omega arith
+
+pub word-bound : (z : ℤ) → SFits w32 z → word z < 4294967296
+word-bound (pos n) f = omega arith
+word-bound (negsuc n) f = omega arith
+
+pub bits64 : (n : ℕ) → n < 18446744073709551616 → long (toZ w64 n) ≡ n
+bits64 n h = let f : Fits w64 n = record { fits = h } in ofZ-toZ f
+
+pub bits32 : (n : ℕ) → n < 4294967296 → word (toZ w32 n) ≡ n
+bits32 n h = let f : Fits w32 n = record { fits = h } in ofZ-toZ f
+
+-- the bits of the halves
+pub low-bits : (w : ℤ) → word (lowOf w) ≡ long w % 4294967296
+low-bits w =
+    let n = long w in
+    let h : n % 4294967296 * 4294967296 < 18446744073709551616 = omega arith in
+    let e : n % 4294967296 * 4294967296 / 4294967296 ≡ n % 4294967296 = omega arith in
+    let k : n % 4294967296 < 4294967296 = omega arith in
+    ap (λ (m : ℕ). word (toZ w32 (m / 4294967296))) (bits64 (n % 4294967296 * 4294967296) h) ∙ ap (λ (m : ℕ). word (toZ w32 m)) e ∙ bits32 (n % 4294967296) k
+
+pub high-bits : (w : ℤ) → SFits w64 w → word (highOf w) ≡ long w / 4294967296
+high-bits w f =
+    let n = long w in
+    let b : n < 18446744073709551616 = long-bound w f in
+    let h : n / 4294967296 < 4294967296 = omega (arith, b) in bits32 (n / 4294967296) h
+
+pub pair-same : (w : ℤ) → SFits w64 w → pairOf (lowOf w) (highOf w) ≡ w
+pair-same w f =
+    let n = long w in
+    let e : n % 4294967296 + n / 4294967296 * 4294967296 ≡ n = omega arith in
+    ap₂ (λ (a b : ℕ). toZ w64 (a + b * 4294967296)) (low-bits w) (high-bits w f) ∙ ap (toZ w64) e ∙ toZ-ofZ f
+
+pub count-same : (w : ℤ) → SFits w64 w → countOut (long w) ≡ w
+count-same w f = toZ-ofZ f
+
+-- ---- words stored where they are
+
+-- a list that is the words so far, and a word stored in it that is the word there
+stored : (w : List ℤ) (i : ℕ) {v : List ℤ} {x : ℤ} → v ≡ w → x ≡ at w i → set v i x ≡ w
+stored w i p q = ap₂ (λ (u : List ℤ) (y : ℤ). set u i y) p q ∙ set-getD w i (pos 0)
+
+pub record-kept : RecordKept
+record-kept w h =
+    let t = stored w 2 (stored w 1 (stored w 0 refl refl) refl) refl in
+    (stored w 3 t (pair-same (at w 3) (h .fits 3)), (stored w 7 refl refl, closed (flagOf (long (at w 9)))))
+  where
+    closed : (b : Bool) → cond b w (cond b (set w 9 (toZ w64 (long (at w 9) + 1))) w) ≡ w
+    closed true = refl
+    closed false = refl
+
+pub image-kept : ImageKept
+image-kept w h = (stored w 0 refl refl, closed (flagOf (long (at w 1) / 4294967296)))
+  where
+    closed : (b : Bool) → cond b w (cond b (set w 1 (toZ w64 (shutBits (long (at w 1)) (flagOf (long (at w 1) / 1099511627776))))) w) ≡ w
+    closed true = refl
+    closed false = refl
+
+-- the words of an assembler from a word on
+module _ (w : List ℤ) (fits : (i : ℕ) → SFits w64 (at w i)) where
+  ids-kept : (i : ℕ) {v : List ℤ} → v ≡ w → idsTo v i (idsFrom w i) ≡ w
+  ids-kept i p =
+      stored w (i + 7) (stored w (i + 6) (stored w (i + 5) (stored w (i + 4) (stored w (i + 3) (stored w (i + 2) (stored w (i + 1) (stored w i p (pair-same (at w i) (fits i))) (pair-same (at w (i + 1)) (fits (i + 1)))) (pair-same (at w (i + 2)) (fits (i + 2)))) (pair-same (at w (i + 3)) (fits (i + 3)))) (pair-same (at w (i + 4)) (fits (i + 4)))) (pair-same (at w (i + 5)) (fits (i + 5)))) (pair-same (at w (i + 6)) (fits (i + 6)))) (pair-same (at w (i + 7)) (fits (i + 7)))
+
+  held-kept : (i : ℕ) {v : List ℤ} → v ≡ w → heldTo v i (heldFrom w i) ≡ w
+  held-kept i p =
+      stored w (i + 15) (stored w (i + 14) (stored w (i + 13) (stored w (i + 12) (stored w (i + 11) (stored w (i + 10) (stored w (i + 9) (stored w (i + 8) (stored w (i + 7) (stored w (i + 6) (stored w (i + 5) (stored w (i + 4) (stored w (i + 3) (stored w (i + 2) (stored w (i + 1) (stored w i p (count-same (at w i) (fits i))) (count-same (at w (i + 1)) (fits (i + 1)))) (count-same (at w (i + 2)) (fits (i + 2)))) (count-same (at w (i + 3)) (fits (i + 3)))) (count-same (at w (i + 4)) (fits (i + 4)))) (count-same (at w (i + 5)) (fits (i + 5)))) (count-same (at w (i + 6)) (fits (i + 6)))) (count-same (at w (i + 7)) (fits (i + 7)))) (count-same (at w (i + 8)) (fits (i + 8)))) (count-same (at w (i + 9)) (fits (i + 9)))) (count-same (at w (i + 10)) (fits (i + 10)))) (count-same (at w (i + 11)) (fits (i + 11)))) (count-same (at w (i + 12)) (fits (i + 12)))) (count-same (at w (i + 13)) (fits (i + 13)))) (count-same (at w (i + 14)) (fits (i + 14)))) (count-same (at w (i + 15)) (fits (i + 15)))
+
+  pub sessions-kept : (i : ℕ) {v : List ℤ} → v ≡ w → assemblerTo v i (sessionsOf (assemblerFrom w i)) ≡ w
+  sessions-kept i p = held-kept (i + 9) (ids-kept (i + 1) (stored w i p (count-same (at w i) (fits i))))
+
+pub assembler-kept : AssemblerKept
+assembler-kept w h = sessions-kept w (h .fits) 0 refl
+
+pub replay-kept : ReplayKept
+replay-kept w buffer h = sessions-kept w (h .fits) 2 (stored w 0 refl refl)

@@ -1,0 +1,274 @@
+-- What a call leaves in the words is read again as the next record or image that it gives: the theorems of specs/Theorems.antt on calls in a row.
+use mathlib.Core.Path.{_≡_, refl, sym, ap, ap₂, _∙_, subst}
+use mathlib.Core.Bool.{Bool, true, false, cond, not}
+use Prim.Native.Nat.{ℕ, zero, suc, _+_, _*_, _/_, _%_, _≤_, _<_}
+use mathlib.Core.List.{List, [], _∷_}
+use native.Mathlib.Omega.{arith}
+use borrow.Author.Tests.{eqb-true}
+use lib.Dec.{eqb, ltb}
+use lib.IntN.{ℤ}
+use lib.ListN.{length, set}
+use lib.ListN.{length-set}
+use mir.Syntax.{w32, w64}
+use mir.Val.{Fits, SFits, toZ}
+use mir.Facts.{toZ-ofZ, sfits-toZ}
+use Rattle.model.specs.Bytes.{word, long}
+use Rattle.model.specs.declared.LogRecord.{LogRecord}
+use Rattle.model.specs.declared.Reading.{Reading}
+use Rattle.model.specs.declared.Verdict.{Verdict}
+use Rattle.model.specs.declared.Verdict.the-variants.{Pass, Refuse}
+use Rattle.model.specs.FrameDescriptor.{space}
+use Rattle.model.specs.LogBufferDescriptor.{active, reading, readingOf, soundRecord, sound, rawOf, changed, withTail, withCount, withLimit, withClosed, idOf, tailOf, nextTail, rotated, greatest, lastTerm, payloadLimit}
+use Rattle.model.specs.Publication.{refuseIf, changeOf, place, afterClosed, tooLong, fits, onTrip, tripNext, appendNext, needOf, tailRoom, beforeAppend, offerVerdict, nextBy, offerOf, claimVerdict, claimOf}
+use Rattle.model.specs.declared.Error.{Error}
+use Rattle.model.specs.declared.Error.the-variants.{IllegalArgument, IllegalRecord, PublicationClosed, ExceedsMaxPayloadLength, ExceedsMaxMessageLength}
+use Rattle.model.specs.declared.Outcome.the-variants.{Done, Refused}
+use Rattle.model.specs.declared.RecordReply.{RecordReply}
+use Rattle.model.specs.Image.{movedTo}
+use Rattle.model.specs.History.{Call, offer, claim, fill, commit, abort, setLimit, close, World, step}
+use Rattle.model.specs.Corollaries.{RefusalsChangeNothing}
+use Rattle.model.proofs.Sound.{sound-true}
+use Rattle.model.proofs.Corollaries.{refusals-change-nothing}
+use Rattle.image.specs.Images.{stateOf}
+use Rattle.capi.specs.Words.{at, lowOf, highOf, pairOf, flagOf, recordIn, recordOut, limitOut, closedOut, imageIn, imageOut}
+use Rattle.capi.specs.Theorems.{Words, Moved, RecordBack, world, wordsBy, RefusalsKeep, StepsBack, ImageBack}
+use Rattle.capi.proofs.Kept.{long-bound, word-bound, bits64, bits32, record-kept}
+
+-- ---- halves of a pair
+
+pair-bits : (a b : ℤ) → SFits w32 a → SFits w32 b → long (pairOf a b) ≡ word a + word b * 4294967296
+pair-bits a b f g =
+    let x = word-bound a f in
+    let y = word-bound b g in
+    let h : word a + word b * 4294967296 < 18446744073709551616 = omega (arith, x, y) in bits64 (word a + word b * 4294967296) h
+
+low-of : (a b : ℤ) → SFits w32 a → SFits w32 b → lowOf (pairOf a b) ≡ a
+low-of a b f g =
+    let x = word-bound a f in
+    let k : (word a + word b * 4294967296) % 4294967296 * 4294967296 < 18446744073709551616 = omega arith in
+    let e : (word a + word b * 4294967296) % 4294967296 * 4294967296 / 4294967296 ≡ word a = omega (arith, x) in
+    ap (λ (n : ℕ). toZ w32 (long (toZ w64 (n % 4294967296 * 4294967296)) / 4294967296)) (pair-bits a b f g)
+    ∙ ap (λ (n : ℕ). toZ w32 (n / 4294967296)) (bits64 _ k) ∙ ap (toZ w32) e ∙ toZ-ofZ f
+
+high-of : (a b : ℤ) → SFits w32 a → SFits w32 b → highOf (pairOf a b) ≡ b
+high-of a b f g =
+    let x = word-bound a f in
+    let e : (word a + word b * 4294967296) / 4294967296 ≡ word b = omega (arith, x) in
+    ap (λ (n : ℕ). toZ w32 (n / 4294967296)) (pair-bits a b f g) ∙ ap (toZ w32) e ∙ toZ-ofZ g
+
+high-fits : (w : ℤ) → SFits w64 w → SFits w32 (highOf w)
+high-fits w f =
+    let b = long-bound w f in
+    let h : long w / 4294967296 < 4294967296 = omega (arith, b) in
+    let k : Fits w32 (long w / 4294967296) = record { fits = h } in sfits-toZ k
+
+low-fits : (w : ℤ) → SFits w32 (lowOf w)
+low-fits w =
+    let h : long w % 4294967296 * 4294967296 < 18446744073709551616 = omega arith in
+    let e : long w % 4294967296 * 4294967296 / 4294967296 < 4294967296 = omega arith in
+    let k : Fits w32 (long w % 4294967296 * 4294967296 / 4294967296) = record { fits = e } in
+    subst (λ (n : ℕ). SFits w32 (toZ w32 (n / 4294967296))) (sym (bits64 (long w % 4294967296 * 4294967296) h)) (sfits-toZ k)
+
+-- ---- lists of a known length
+
+split : (P : List ℤ → Type 0) (n : ℕ) → ((x : ℤ) (xs : List ℤ) → length xs ≡ n → P (x ∷ xs)) → (w : List ℤ) → length w ≡ suc n → P w
+split P n f [] h = absurd (omega (arith, h))
+split P n f (x ∷ xs) h = f x xs (omega (arith, h))
+
+none : (P : List ℤ → Type 0) → P [] → (w : List ℤ) → length w ≡ 0 → P w
+none P p [] h = p
+none P p (x ∷ xs) h = absurd (omega (arith, h))
+
+two : (P : List ℤ → Type 0) → ((a0 a1 : ℤ) → P (a0 ∷ a1 ∷ [])) → (w : List ℤ) → length w ≡ 2 → P w
+two P f w h = split P 1 (λ (a0 : ℤ) (w0 : List ℤ) (h0 : length w0 ≡ 1). split (λ (v : List ℤ). P (a0 ∷ v)) 0 (λ (a1 : ℤ) (w1 : List ℤ) (h1 : length w1 ≡ 0). none (λ (v : List ℤ). P (a0 ∷ a1 ∷ v)) (f a0 a1) w1 h1) w0 h0) w h
+
+three-words : (P : List ℤ → Type 0) → ((a0 a1 a2 : ℤ) → P (a0 ∷ a1 ∷ a2 ∷ [])) → (w : List ℤ) → length w ≡ 3 → P w
+three-words P f w h = split P 2 (λ (a0 : ℤ) (w0 : List ℤ) (h0 : length w0 ≡ 2). split (λ (v : List ℤ). P (a0 ∷ v)) 1 (λ (a1 : ℤ) (w1 : List ℤ) (h1 : length w1 ≡ 1). split (λ (v : List ℤ). P (a0 ∷ a1 ∷ v)) 0 (λ (a2 : ℤ) (w2 : List ℤ) (h2 : length w2 ≡ 0). none (λ (v : List ℤ). P (a0 ∷ a1 ∷ a2 ∷ v)) (f a0 a1 a2) w2 h2) w1 h1) w0 h0) w h
+
+ten : (P : List ℤ → Type 0) → ((a0 a1 a2 a3 a4 a5 a6 a7 a8 a9 : ℤ) → P (a0 ∷ a1 ∷ a2 ∷ a3 ∷ a4 ∷ a5 ∷ a6 ∷ a7 ∷ a8 ∷ a9 ∷ [])) → (w : List ℤ) → length w ≡ 10 → P w
+ten P f w h = split P 9 (λ (a0 : ℤ) (w0 : List ℤ) (h0 : length w0 ≡ 9). split (λ (v : List ℤ). P (a0 ∷ v)) 8 (λ (a1 : ℤ) (w1 : List ℤ) (h1 : length w1 ≡ 8). split (λ (v : List ℤ). P (a0 ∷ a1 ∷ v)) 7 (λ (a2 : ℤ) (w2 : List ℤ) (h2 : length w2 ≡ 7). split (λ (v : List ℤ). P (a0 ∷ a1 ∷ a2 ∷ v)) 6 (λ (a3 : ℤ) (w3 : List ℤ) (h3 : length w3 ≡ 6). split (λ (v : List ℤ). P (a0 ∷ a1 ∷ a2 ∷ a3 ∷ v)) 5 (λ (a4 : ℤ) (w4 : List ℤ) (h4 : length w4 ≡ 5). split (λ (v : List ℤ). P (a0 ∷ a1 ∷ a2 ∷ a3 ∷ a4 ∷ v)) 4 (λ (a5 : ℤ) (w5 : List ℤ) (h5 : length w5 ≡ 4). split (λ (v : List ℤ). P (a0 ∷ a1 ∷ a2 ∷ a3 ∷ a4 ∷ a5 ∷ v)) 3 (λ (a6 : ℤ) (w6 : List ℤ) (h6 : length w6 ≡ 3). split (λ (v : List ℤ). P (a0 ∷ a1 ∷ a2 ∷ a3 ∷ a4 ∷ a5 ∷ a6 ∷ v)) 2 (λ (a7 : ℤ) (w7 : List ℤ) (h7 : length w7 ≡ 2). split (λ (v : List ℤ). P (a0 ∷ a1 ∷ a2 ∷ a3 ∷ a4 ∷ a5 ∷ a6 ∷ a7 ∷ v)) 1 (λ (a8 : ℤ) (w8 : List ℤ) (h8 : length w8 ≡ 1). split (λ (v : List ℤ). P (a0 ∷ a1 ∷ a2 ∷ a3 ∷ a4 ∷ a5 ∷ a6 ∷ a7 ∷ a8 ∷ v)) 0 (λ (a9 : ℤ) (w9 : List ℤ) (h9 : length w9 ≡ 0). none (λ (v : List ℤ). P (a0 ∷ a1 ∷ a2 ∷ a3 ∷ a4 ∷ a5 ∷ a6 ∷ a7 ∷ a8 ∷ a9 ∷ v)) (f a0 a1 a2 a3 a4 a5 a6 a7 a8 a9) w9 h9) w8 h8) w7 h7) w6 h6) w5 h5) w4 h4) w3 h3) w2 h2) w1 h1) w0 h0) w h
+
+-- ---- the record
+
+abbrev ReadBack : List ℤ → ℤ → List ℤ → Type 0
+ReadBack w n ts =
+    recordIn (recordOut w (changed (recordIn w) ts n (recordIn w .«publication_limit») (recordIn w .«is_closed»))) ≡ changed (recordIn w) ts n (recordIn w .«publication_limit») (recordIn w .«is_closed»)
+
+back-at : (w ts : List ℤ) (n : ℤ) → length w ≡ 10 → length ts ≡ 3 → SFits w32 n → SFits w64 (at w 3) → ReadBack w n ts
+unfolding changed
+back-at w ts n h k f g =
+    ten (λ (v : List ℤ). SFits w64 (at v 3) → ReadBack v n ts)
+    (λ a0 a1 a2 a3 a4 a5 a6 a7 a8 a9 g3. three-words (ReadBack (a0 ∷ a1 ∷ a2 ∷ a3 ∷ a4 ∷ a5 ∷ a6 ∷ a7 ∷ a8 ∷ a9 ∷ []) n)
+    (λ t0 t1 t2. fields a3 a4 a5 a6 a7 a8 a9 t0 t1 t2 (low-of n (highOf a3) f (high-fits a3 g3)) (high-of n (highOf a3) f (high-fits a3 g3))) ts k) w h g
+  where
+    fields : (a3 a4 a5 a6 a7 a8 a9 t0 t1 t2 : ℤ) {x y z : ℤ} → x ≡ n → y ≡ z
+        → _≡_ {A = LogRecord} (record { tails = t0 ∷ t1 ∷ t2 ∷ []; «active_term_count» = x; «initial_term_id» = y; «term_length» = lowOf a4; «mtu_length» = highOf a4; «session_id» = lowOf a5; «stream_id» = highOf a5; «is_connected» = lowOf a6; «publication_limit» = a7; «end_of_stream_position» = a8; «is_closed» = flagOf (long a9) })
+        (record { tails = t0 ∷ t1 ∷ t2 ∷ []; «active_term_count» = n; «initial_term_id» = z; «term_length» = lowOf a4; «mtu_length» = highOf a4; «session_id» = lowOf a5; «stream_id» = highOf a5; «is_connected» = lowOf a6; «publication_limit» = a7; «end_of_stream_position» = a8; «is_closed» = flagOf (long a9) })
+    fields a3 a4 a5 a6 a7 a8 a9 t0 t1 t2 p q = cc
+
+pub record-back : RecordBack
+record-back w r h m =
+    subst (λ (x : LogRecord). recordIn (recordOut w x) ≡ x) (sym (m .same)) (back-at w (m .tails) (m .count) (h .count) (m .three) (m .fits) (h .fits 3))
+
+-- ---- the changes that calls make: each leaves a record moved from the one that a call was given
+
+module _ {a : LogRecord} where
+  tail-moved : {r : LogRecord} (k id offset : ℕ) → Moved a r → Moved a (withTail r k id offset)
+  unfolding withTail changed
+  tail-moved k id offset m =
+      record {
+        tails = set (m .tails) k (rawOf id offset);
+        count = m .count;
+        three = length-set (m .tails) k (rawOf id offset) ∙ m .three;
+        fits = m .fits;
+        same = ap (λ (r : LogRecord). withTail r k id offset) (m .same);
+      }
+
+  count-moved : {r : LogRecord} (n : ℕ) → n < 4294967296 → Moved a r → Moved a (withCount r n)
+  unfolding withCount changed
+  count-moved n h m =
+      let k : Fits w32 n = record { fits = h } in
+      record { tails = m .tails; count = toZ w32 n; three = m .three; fits = sfits-toZ k; same = ap (λ (r : LogRecord). withCount r n) (m .same) }
+
+  pick : {r s : LogRecord} (b : Bool) → Moved a r → Moved a s → Moved a (cond b r s)
+  pick true m n = m
+  pick false m n = n
+
+  rotated-moved : {r : LogRecord} (count id : ℕ) → count + 1 < 4294967296 → Moved a r → Moved a (rotated r count id)
+  unfolding rotated nextTail
+  rotated-moved {r} count id h m =
+      count-moved (count + 1) h (pick (eqb (idOf (tailOf r ((count + 1) % 3)) + 2) id) (tail-moved ((count + 1) % 3) (id + 1) 0 m) m)
+
+-- the record of some words, as it is
+words-moved : (w : List ℤ) → Moved (recordIn w) (recordIn w)
+unfolding changed
+words-moved w = record { tails = recordIn w .tails; count = lowOf (at w 3); three = refl; fits = low-fits (at w 3); same = refl }
+
+-- an append that was let through, of a count that row 2 bounds
+append-moved : (w : List ℤ) (needed : ℕ) → reading (recordIn w) .count ≤ 2147483647 → Moved (recordIn w) (appendNext (recordIn w) (reading (recordIn w)) needed)
+unfolding appendNext onTrip
+append-moved w needed h =
+    let v = reading (recordIn w) in
+    let m = tail-moved (active (recordIn w)) (v .id) (v .offset + needed) (words-moved w) in
+    let b : v .count + 1 < 4294967296 = omega (arith, h) in
+    pick (fits v needed) m (pick (ltb (greatest v) (place v + v .offset)) m (pick (lastTerm (v .count) (v .id)) m (rotated-moved (v .count) (v .id) b m)))
+
+-- what passed the ladder has passed row 2
+passed-rung : (b : Bool) (e : Error) (rest : Verdict) → refuseIf b e rest ≡ Pass → (b ≡ false) × (rest ≡ Pass)
+passed-rung true e rest h = absurd (let z : _≡_ {A = ℕ} 0 1 = cc in omega arith)
+passed-rung false e rest h = (refl, h)
+
+not-not : (b : Bool) → not b ≡ false → b ≡ true
+not-not true h = refl
+not-not false h = absurd (let z : _≡_ {A = ℕ} 0 1 = cc in omega arith)
+
+-- rows 1 and 2, with which both ladders begin
+second-rung : (v : Reading) (n m : ℕ) (rest : Verdict) → refuseIf (ltb 2147483647 m) IllegalArgument (refuseIf (not (sound v n)) IllegalRecord rest) ≡ Pass → v .count ≤ 2147483647
+second-rung v n m rest h =
+    let p = passed-rung (ltb 2147483647 m) IllegalArgument (refuseIf (not (sound v n)) IllegalRecord rest) h in
+    let q = passed-rung (not (sound v n)) IllegalRecord rest (p .1) in
+    sound-true v n (not-not (sound v n) (q .0)) .count-high
+
+offer-count : (v : Reading) (n m : ℕ) (rest : Verdict) → beforeAppend v n m rest ≡ Pass → v .count ≤ 2147483647
+unfolding beforeAppend
+offer-count v n m rest h =
+    second-rung v n m (refuseIf (v .closed) PublicationClosed (afterClosed v m (refuseIf (tooLong v m) ExceedsMaxMessageLength rest))) h
+
+claim-count : (v : Reading) (n m : ℕ) → claimVerdict v n m ≡ Pass → v .count ≤ 2147483647
+unfolding claimVerdict
+claim-count v n m h =
+    second-rung v n m (refuseIf (v .closed) PublicationClosed (refuseIf (ltb (payloadLimit v) m) ExceedsMaxPayloadLength (afterClosed v m (tailRoom v (space m))))) h
+
+next-moved : (w : List ℤ) (needed : ℕ) (x : Verdict) → (x ≡ Pass → reading (recordIn w) .count ≤ 2147483647)
+    → Moved (recordIn w) (nextBy (recordIn w) (reading (recordIn w)) needed x)
+next-moved w needed (Refuse e) h = words-moved w
+next-moved w needed Pass h = append-moved w needed (h refl)
+
+offer-moved : (w : List ℤ) (log m : List ℕ) → Moved (recordIn w) (offerOf (recordIn w) log m .next)
+unfolding offerOf
+offer-moved w log m =
+    let v = reading (recordIn w) in
+    next-moved w (needOf v (length m)) (offerVerdict v (length log) (length m)) (offer-count v (length log) (length m) (tailRoom v (needOf v (length m))))
+
+claim-moved : (w : List ℤ) (log : List ℕ) (n : ℤ) → Moved (recordIn w) (claimOf (recordIn w) log n .next)
+unfolding claimOf
+claim-moved w log n =
+    let v = reading (recordIn w) in
+    next-moved w (space (word n)) (claimVerdict v (length log) (word n)) (claim-count v (length log) (word n))
+
+-- ---- limit and close
+
+limit-at : (w : List ℤ) (n : ℤ) → length w ≡ 10 → recordIn (limitOut w (withLimit (recordIn w) n)) ≡ withLimit (recordIn w) n
+unfolding withLimit changed
+limit-at w n h = ten (λ (v : List ℤ). recordIn (limitOut v (withLimit (recordIn v) n)) ≡ withLimit (recordIn v) n) (λ a0 a1 a2 a3 a4 a5 a6 a7 a8 a9. refl) w h
+
+-- a flag's byte, set
+set-flag : (z : ℤ) → SFits w64 z → flagOf (long z) ≡ false → flagOf (long (toZ w64 (long z + 1))) ≡ true
+set-flag z f h =
+    let b = long-bound z f in
+    let e : long z % 256 ≡ 0 = eqb-true (long z % 256) 0 (not-false (eqb (long z % 256) 0) h) in
+    let k : long z + 1 < 18446744073709551616 = omega (arith, b, e) in
+    let g : (long z + 1) % 256 ≡ 1 = omega (arith, e) in
+    ap flagOf (bits64 (long z + 1) k) ∙ ap (λ (n : ℕ). not (eqb n 0)) g
+  where
+    not-false : (b : Bool) → not b ≡ false → b ≡ true
+    not-false true h = refl
+    not-false false h = absurd (let z : _≡_ {A = ℕ} 0 1 = cc in omega arith)
+
+-- a record by its flag alone
+closed-by : (r : LogRecord) (b : Bool) → b ≡ true → changed r (r .tails) (r .«active_term_count») (r .«publication_limit») b ≡ withClosed r
+unfolding withClosed
+closed-by r b e = ap (changed r (r .tails) (r .«active_term_count») (r .«publication_limit»)) e
+
+close-at : (w : List ℤ) → length w ≡ 10 → SFits w64 (at w 9) → recordIn (closedOut w (withClosed (recordIn w))) ≡ withClosed (recordIn w)
+unfolding withClosed changed
+close-at w h f =
+    ten (λ (v : List ℤ). SFits w64 (at v 9) → recordIn (closedOut v (withClosed (recordIn v))) ≡ withClosed (recordIn v))
+    (λ a0 a1 a2 a3 a4 a5 a6 a7 a8 a9 f9. go a0 a1 a2 a3 a4 a5 a6 a7 a8 a9 f9 (flagOf (long a9)) refl) w h f
+  where
+    go : (a0 a1 a2 a3 a4 a5 a6 a7 a8 a9 : ℤ) → SFits w64 a9 → (b : Bool) → flagOf (long a9) ≡ b
+        → recordIn (cond b (a0 ∷ a1 ∷ a2 ∷ a3 ∷ a4 ∷ a5 ∷ a6 ∷ a7 ∷ a8 ∷ a9 ∷ []) (a0 ∷ a1 ∷ a2 ∷ a3 ∷ a4 ∷ a5 ∷ a6 ∷ a7 ∷ a8 ∷ toZ w64 (long a9 + 1) ∷ []))
+        ≡ withClosed (recordIn (a0 ∷ a1 ∷ a2 ∷ a3 ∷ a4 ∷ a5 ∷ a6 ∷ a7 ∷ a8 ∷ a9 ∷ []))
+    go a0 a1 a2 a3 a4 a5 a6 a7 a8 a9 f9 true e = closed-by (recordIn (a0 ∷ a1 ∷ a2 ∷ a3 ∷ a4 ∷ a5 ∷ a6 ∷ a7 ∷ a8 ∷ a9 ∷ [])) (flagOf (long a9)) e
+    go a0 a1 a2 a3 a4 a5 a6 a7 a8 a9 f9 false e =
+        closed-by (recordIn (a0 ∷ a1 ∷ a2 ∷ a3 ∷ a4 ∷ a5 ∷ a6 ∷ a7 ∷ a8 ∷ a9 ∷ [])) (flagOf (long (toZ w64 (long a9 + 1)))) (set-flag a9 f9 e)
+
+-- the new record, or the old one
+change-back : (w : List ℤ) (next : LogRecord) (out : List ℤ → LogRecord → List ℤ) → recordIn (out w next) ≡ next → recordIn (out w (recordIn w)) ≡ recordIn w
+    → recordIn (out w (changeOf (recordIn w) next .next)) ≡ changeOf (recordIn w) next .next
+unfolding changeOf
+change-back w next out new old = go (soundRecord (reading next))
+  where
+    go : (b : Bool)
+        → recordIn (out w (cond {A = RecordReply} b (record { next = next; answer = Done }) (record { next = recordIn w; answer = Refused IllegalRecord }) .next))
+        ≡ cond {A = RecordReply} b (record { next = next; answer = Done }) (record { next = recordIn w; answer = Refused IllegalRecord }) .next
+    go true = new
+    go false = old
+
+-- ---- the theorems
+
+pub steps-back : StepsBack
+unfolding step
+steps-back w log (offer m reserved) h = record-back w _ h (offer-moved w log m)
+steps-back w log (claim n) h = record-back w _ h (claim-moved w log n)
+steps-back w log (fill c b) h = refl
+steps-back w log (commit c) h = refl
+steps-back w log (abort c) h = refl
+steps-back w log (setLimit n) h = change-back w (withLimit (recordIn w) n) limitOut (limit-at w n (h .count)) (ap recordIn (record-kept w h .1 .0))
+steps-back w log close h = change-back w (withClosed (recordIn w)) closedOut (close-at w (h .count) (h .fits 9)) (ap recordIn (record-kept w h .1 .1))
+
+pub refusals-keep : RefusalsKeep
+unfolding RefusalsChangeNothing
+refusals-keep w log y e h refused trip = ap (wordsBy w y) (ap (λ (x : World). x .record·) (refusals-change-nothing (world w log) y e refused trip)) ∙ kept y
+  where
+    kept : (y : Call) → wordsBy w y (recordIn w) ≡ w
+    kept (offer m reserved) = record-kept w h .0
+    kept (claim n) = record-kept w h .0
+    kept (fill c b) = refl
+    kept (commit c) = refl
+    kept (abort c) = refl
+    kept (setLimit n) = record-kept w h .1 .0
+    kept close = record-kept w h .1 .1
+
+pub image-back : ImageBack
+image-back w p h = two (λ (v : List ℤ). stateOf (imageIn (imageOut v (movedTo (stateOf (imageIn v)) p))) ≡ movedTo (stateOf (imageIn v)) p) (λ a0 a1. refl) w (h .count)

@@ -1,0 +1,176 @@
+// The image's calls under their C names. The image stays with the caller: a call that moves writes its position, closing its flags. Read replays next.
+ghost use mathlib.Core.Path.{_≡_};
+ghost use Rattle.model.specs.Image.{newImage, pollOf, boundedPollOf, controlledPollOf, peekOf, peekSlots, blockPollOf, setPositionOf, endOfStreamOf, closeImageOf};
+ghost use Rattle.image.specs.Images.{stateOf};
+ghost use Rattle.capi.specs.Words.{recordIn, imageIn, imageOut, shutOut, imageFilled};
+ghost use Rattle.capi.specs.Replies.{outcomeNumber, pollReply, peekReply, blockReply, endOfStreamReply};
+use crate::replies;
+use crate::replies::BlockReply;
+use crate::replies::EndOfStreamReply;
+use crate::replies::PeekReply;
+use crate::replies::PollReply;
+use crate::words;
+use image::Image;
+
+#[no_mangle]
+pub extern "C" fn logbuffer_image_new(image: &mut [i64; 2], position: i64, session_id: i32)
+    ensures { λ _. ⌜ now (image .exit) ≡ imageFilled (now (image .entry)) (newImage position «session_id») ⌝ }
+{
+    words::image_filled(image, Image::new(position, session_id))
+}
+
+#[no_mangle]
+pub extern "C" fn logbuffer_image_poll(
+    image: &mut [i64; 2],
+    rec: &[i64; 10],
+    log: &[u8],
+    entries: &mut [i32],
+    fragment_limit: i32,
+) -> PollReply
+    ensures { λ r. ⌜ r ≡ pollReply (pollOf (recordIn (now (rec .entry))) (now (log .entry)) (stateOf (imageIn (now (image .entry)))) (now (entries .entry)) «fragment_limit» .answer) ⌝ }
+    ensures { λ _. ⌜ now (image .exit) ≡ imageOut (now (image .entry)) (pollOf (recordIn (now (rec .entry))) (now (log .entry)) (stateOf (imageIn (now (image .entry)))) (now (entries .entry)) «fragment_limit» .next) ⌝ }
+    ensures { λ _. ⌜ now (entries .exit) ≡ pollOf (recordIn (now (rec .entry))) (now (log .entry)) (stateOf (imageIn (now (image .entry)))) (now (entries .entry)) «fragment_limit» .slots ⌝ }
+{
+    let i = words::image_in(image);
+    let o = i.poll(words::record_in(rec), log, entries, fragment_limit);
+    let next = o.next;
+    let answer = o.answer;
+    words::image_out(image, next);
+    replies::polled(answer)
+}
+
+#[no_mangle]
+pub extern "C" fn logbuffer_image_bounded_poll(
+    image: &mut [i64; 2],
+    rec: &[i64; 10],
+    log: &[u8],
+    entries: &mut [i32],
+    limit_position: i64,
+    fragment_limit: i32,
+) -> PollReply
+    ensures { λ r. ⌜ r ≡ pollReply (boundedPollOf (recordIn (now (rec .entry))) (now (log .entry)) (stateOf (imageIn (now (image .entry)))) (now (entries .entry)) «limit_position» «fragment_limit» .answer) ⌝ }
+    ensures { λ _. ⌜ now (image .exit) ≡ imageOut (now (image .entry)) (boundedPollOf (recordIn (now (rec .entry))) (now (log .entry)) (stateOf (imageIn (now (image .entry)))) (now (entries .entry)) «limit_position» «fragment_limit» .next) ⌝ }
+    ensures { λ _. ⌜ now (entries .exit) ≡ boundedPollOf (recordIn (now (rec .entry))) (now (log .entry)) (stateOf (imageIn (now (image .entry)))) (now (entries .entry)) «limit_position» «fragment_limit» .slots ⌝ }
+{
+    let i = words::image_in(image);
+    let o = i.bounded_poll(
+        words::record_in(rec),
+        log,
+        entries,
+        limit_position,
+        fragment_limit,
+    );
+    let next = o.next;
+    let answer = o.answer;
+    words::image_out(image, next);
+    replies::polled(answer)
+}
+
+#[no_mangle]
+pub extern "C" fn logbuffer_image_controlled_poll(
+    image: &mut [i64; 2],
+    rec: &[i64; 10],
+    log: &[u8],
+    entries: &mut [i32],
+    actions: &[u8],
+    fragment_limit: i32,
+) -> PollReply
+    ensures { λ r. ⌜ r ≡ pollReply (controlledPollOf (recordIn (now (rec .entry))) (now (log .entry)) (stateOf (imageIn (now (image .entry)))) (now (entries .entry)) (now (actions .entry)) «fragment_limit» .answer) ⌝ }
+    ensures { λ _. ⌜ now (image .exit) ≡ imageOut (now (image .entry)) (controlledPollOf (recordIn (now (rec .entry))) (now (log .entry)) (stateOf (imageIn (now (image .entry)))) (now (entries .entry)) (now (actions .entry)) «fragment_limit» .next) ⌝ }
+    ensures { λ _. ⌜ now (entries .exit) ≡ controlledPollOf (recordIn (now (rec .entry))) (now (log .entry)) (stateOf (imageIn (now (image .entry)))) (now (entries .entry)) (now (actions .entry)) «fragment_limit» .slots ⌝ }
+{
+    let i = words::image_in(image);
+    let o = i.controlled_poll(words::record_in(rec), log, entries, actions, fragment_limit);
+    let next = o.next;
+    let answer = o.answer;
+    words::image_out(image, next);
+    replies::polled(answer)
+}
+
+// It moves nothing.
+#[no_mangle]
+pub extern "C" fn logbuffer_image_controlled_peek(
+    image: &[i64; 2],
+    rec: &[i64; 10],
+    log: &[u8],
+    entries: &mut [i32],
+    actions: &[u8],
+    start: i64,
+    limit_position: i64,
+) -> PeekReply
+    ensures { λ r. ⌜ r ≡ peekReply (peekOf (recordIn (now (rec .entry))) (now (log .entry)) (stateOf (imageIn (now (image .entry)))) (now (entries .entry)) (now (actions .entry)) start «limit_position») ⌝ }
+    ensures { λ _. ⌜ now (entries .exit) ≡ peekSlots (recordIn (now (rec .entry))) (now (log .entry)) (stateOf (imageIn (now (image .entry)))) (now (entries .entry)) (now (actions .entry)) start «limit_position» ⌝ }
+{
+    let i = words::image_in(image);
+    let o = i.controlled_peek(
+        words::record_in(rec),
+        log,
+        entries,
+        actions,
+        start,
+        limit_position,
+    );
+    let answer = o.answer;
+    replies::peeked(answer)
+}
+
+#[no_mangle]
+pub extern "C" fn logbuffer_image_block_poll(
+    image: &mut [i64; 2],
+    rec: &[i64; 10],
+    log: &[u8],
+    limit: i32,
+) -> BlockReply
+    ensures { λ r. ⌜ r ≡ blockReply (blockPollOf (recordIn (now (rec .entry))) (now (log .entry)) (stateOf (imageIn (now (image .entry)))) limit .answer) ⌝ }
+    ensures { λ _. ⌜ now (image .exit) ≡ imageOut (now (image .entry)) (blockPollOf (recordIn (now (rec .entry))) (now (log .entry)) (stateOf (imageIn (now (image .entry)))) limit .next) ⌝ }
+{
+    let i = words::image_in(image);
+    let o = i.block_poll(words::record_in(rec), log, limit);
+    let next = o.next;
+    let answer = o.answer;
+    words::image_out(image, next);
+    replies::block_polled(answer)
+}
+
+#[no_mangle]
+pub extern "C" fn logbuffer_image_set_position(
+    image: &mut [i64; 2],
+    rec: &[i64; 10],
+    log: &[u8],
+    new_position: i64,
+) -> i32
+    ensures { λ r. ⌜ r ≡ outcomeNumber (setPositionOf (recordIn (now (rec .entry))) (now (log .entry)) (stateOf (imageIn (now (image .entry)))) «new_position» .answer) ⌝ }
+    ensures { λ _. ⌜ now (image .exit) ≡ imageOut (now (image .entry)) (setPositionOf (recordIn (now (rec .entry))) (now (log .entry)) (stateOf (imageIn (now (image .entry)))) «new_position» .next) ⌝ }
+{
+    let i = words::image_in(image);
+    let o = i.set_position(words::record_in(rec), log, new_position);
+    let next = o.next;
+    let answer = o.answer;
+    words::image_out(image, next);
+    replies::outcome_code(answer)
+}
+
+#[no_mangle]
+pub extern "C" fn logbuffer_image_is_end_of_stream(
+    image: &[i64; 2],
+    rec: &[i64; 10],
+    log: &[u8],
+) -> EndOfStreamReply
+    ensures { λ r. ⌜ r ≡ endOfStreamReply (endOfStreamOf (recordIn (now (rec .entry))) (now (log .entry)) (stateOf (imageIn (now (image .entry))))) ⌝ }
+{
+    let i = words::image_in(image);
+    replies::end_of_stream(i.is_end_of_stream(words::record_in(rec), log))
+}
+
+#[no_mangle]
+pub extern "C" fn logbuffer_image_close(image: &mut [i64; 2], rec: &[i64; 10], log: &[u8]) -> i32
+    ensures { λ r. ⌜ r ≡ outcomeNumber (closeImageOf (recordIn (now (rec .entry))) (now (log .entry)) (stateOf (imageIn (now (image .entry)))) .answer) ⌝ }
+    ensures { λ _. ⌜ now (image .exit) ≡ shutOut (now (image .entry)) (closeImageOf (recordIn (now (rec .entry))) (now (log .entry)) (stateOf (imageIn (now (image .entry)))) .next) ⌝ }
+{
+    let i = words::image_in(image);
+    let o = i.close(words::record_in(rec), log);
+    let next = o.next;
+    let answer = o.answer;
+    words::shut_out(image, next);
+    replies::outcome_code(answer)
+}

@@ -1,0 +1,375 @@
+// What C keeps and lends by a pointer, as words: specs/Words.antt draws how a record, an image, an assembler and a replay lie. A call reads the words that
+// it needs and writes those that it changes; every index is a constant, so that nothing has to stand in memory besides.
+ghost use mathlib.Core.Path.{_≡_};
+ghost use Rattle.logbuffer.specs.Assembler.{sessionsOf};
+ghost use Rattle.image.specs.Images.{stateOf};
+ghost use Rattle.capi.specs.Words.{lowOf, highOf, pairOf, flagOf, recordIn, recordOut, limitOut, closedOut, recordFilled, imageAt, imageIn, imageOut, shutBits, shutOut, imageFilled, idsFrom, heldFrom, idsTo, heldTo, assemblerIn, assemblerTo, assemblerOut, replayIn, claimWords};
+use image::Image;
+use logbuffer::cast;
+use logbuffer::fragment_assembler::FragmentAssembler;
+use logbuffer::log_buffer_descriptor;
+use model::Claim;
+use model::LogRecord;
+use replay::Replay;
+
+// ---- parts of a word
+
+fn low(w: i64) -> i32
+    ensures { λ r. ⌜ r ≡ lowOf w ⌝ }
+{
+    log_buffer_descriptor::term_id(cast::to_i64(cast::long(w) % 4294967296 * 4294967296))
+}
+
+fn high(w: i64) -> i32
+    ensures { λ r. ⌜ r ≡ highOf w ⌝ }
+{
+    log_buffer_descriptor::term_id(w)
+}
+
+fn pair(low: i32, high: i32) -> i64
+    ensures { λ r. ⌜ r ≡ pairOf low high ⌝ }
+{
+    cast::to_i64(cast::word(low) + cast::word(high) * 4294967296)
+}
+
+// A flag in the lowest byte: any byte but 0 is yes.
+fn flag(bits: usize) -> bool
+    ensures { λ r. ⌜ r ≡ flagOf bits ⌝ }
+{
+    bits % 256 != 0
+}
+
+// ---- the record
+
+pub(crate) fn record_in(w: &[i64; 10]) -> LogRecord
+    ensures { λ r. ⌜ r ≡ recordIn (now (w .entry)) ⌝ }
+{
+    LogRecord {
+        tails: [w[0], w[1], w[2]],
+        active_term_count: low(w[3]),
+        initial_term_id: high(w[3]),
+        term_length: low(w[4]),
+        mtu_length: high(w[4]),
+        session_id: low(w[5]),
+        stream_id: high(w[5]),
+        is_connected: low(w[6]),
+        publication_limit: w[7],
+        end_of_stream_position: w[8],
+        is_closed: flag(cast::long(w[9])),
+    }
+}
+
+// After an append or a rotation.
+pub(crate) fn record_out(w: &mut [i64; 10], next: LogRecord)
+    ensures { λ _. ⌜ now (w .exit) ≡ recordOut (now (w .entry)) next ⌝ }
+{
+    let tails = next.tails;
+    w[0] = tails[0];
+    w[1] = tails[1];
+    w[2] = tails[2];
+    w[3] = pair(next.active_term_count, next.initial_term_id);
+}
+
+// After a limit change.
+pub(crate) fn limit_out(w: &mut [i64; 10], next: LogRecord)
+    ensures { λ _. ⌜ now (w .exit) ≡ limitOut (now (w .entry)) next ⌝ }
+{
+    let limit = next.publication_limit;
+    w[7] = limit;
+}
+
+// After closing: a record that was closed, or that is not, stays.
+pub(crate) fn closed_out(w: &mut [i64; 10], next: LogRecord)
+    ensures { λ _. ⌜ now (w .exit) ≡ closedOut (now (w .entry)) next ⌝ }
+{
+    let bits = cast::long(w[9]);
+    if flag(bits) {
+        return;
+    }
+    if next.is_closed {
+        w[9] = cast::to_i64(bits + 1);
+    }
+}
+
+// Every word of a record that is not closed, the gaps 0.
+pub(crate) fn record_filled(w: &mut [i64; 10], next: LogRecord)
+    ensures { λ _. ⌜ now (w .exit) ≡ recordFilled (now (w .entry)) next ⌝ }
+{
+    record_out(w, next);
+    w[4] = pair(next.term_length, next.mtu_length);
+    w[5] = pair(next.session_id, next.stream_id);
+    w[6] = pair(next.is_connected, 0);
+    let limit = next.publication_limit;
+    w[7] = limit;
+    let end = next.end_of_stream_position;
+    w[8] = end;
+    w[9] = 0;
+}
+
+// ---- an image
+
+fn image_at(position: i64, w: i64) -> Image
+    ensures { λ r. ⌜ r ≡ imageAt position w ⌝ }
+{
+    let bits = cast::long(w);
+    Image {
+        position: position,
+        session_id: low(w),
+        is_closed: flag(bits / 4294967296),
+        is_eos: flag(bits / 1099511627776),
+    }
+}
+
+pub(crate) fn image_in(w: &[i64; 2]) -> Image
+    ensures { λ r. ⌜ r ≡ imageIn (now (w .entry)) ⌝ }
+{
+    image_at(w[0], w[1])
+}
+
+// After a call that moves.
+pub(crate) fn image_out(w: &mut [i64; 2], next: Image)
+    ensures { λ _. ⌜ now (w .exit) ≡ imageOut (now (w .entry)) (stateOf next) ⌝ }
+{
+    let position = next.position;
+    w[0] = position;
+}
+
+// The flags of an image that is closed now; its session and the gap stay.
+fn shut(bits: usize, is_eos: bool) -> usize
+    ensures { λ r. ⌜ r ≡ shutBits bits «is_eos» ⌝ }
+{
+    let gap = bits / 281474976710656 * 281474976710656;
+    if is_eos {
+        return bits % 4294967296 + (4294967296 + (1099511627776 + gap));
+    }
+    bits % 4294967296 + (4294967296 + gap)
+}
+
+// After closing: an image that was closed, or that is not, stays.
+pub(crate) fn shut_out(w: &mut [i64; 2], next: Image)
+    ensures { λ _. ⌜ now (w .exit) ≡ shutOut (now (w .entry)) (stateOf next) ⌝ }
+{
+    let bits = cast::long(w[1]);
+    if flag(bits / 4294967296) {
+        return;
+    }
+    if next.is_closed {
+        w[1] = cast::to_i64(shut(bits, next.is_eos));
+    }
+}
+
+// Both words of a new image, its flags and the gap 0.
+pub(crate) fn image_filled(w: &mut [i64; 2], next: Image)
+    ensures { λ _. ⌜ now (w .exit) ≡ imageFilled (now (w .entry)) (stateOf next) ⌝ }
+{
+    let position = next.position;
+    w[0] = position;
+    w[1] = pair(next.session_id, 0);
+}
+
+// ---- an assembler
+
+fn ids_in(w: &[i64; 25]) -> [i32; 16]
+    ensures { λ r. ⌜ r ≡ idsFrom (now (w .entry)) 1 ⌝ }
+{
+    [
+        low(w[1]),
+        high(w[1]),
+        low(w[2]),
+        high(w[2]),
+        low(w[3]),
+        high(w[3]),
+        low(w[4]),
+        high(w[4]),
+        low(w[5]),
+        high(w[5]),
+        low(w[6]),
+        high(w[6]),
+        low(w[7]),
+        high(w[7]),
+        low(w[8]),
+        high(w[8]),
+    ]
+}
+
+fn held_in(w: &[i64; 25]) -> [usize; 16]
+    ensures { λ r. ⌜ r ≡ heldFrom (now (w .entry)) 9 ⌝ }
+{
+    [
+        cast::long(w[9]),
+        cast::long(w[10]),
+        cast::long(w[11]),
+        cast::long(w[12]),
+        cast::long(w[13]),
+        cast::long(w[14]),
+        cast::long(w[15]),
+        cast::long(w[16]),
+        cast::long(w[17]),
+        cast::long(w[18]),
+        cast::long(w[19]),
+        cast::long(w[20]),
+        cast::long(w[21]),
+        cast::long(w[22]),
+        cast::long(w[23]),
+        cast::long(w[24]),
+    ]
+}
+
+pub(crate) fn assembler_in(w: &[i64; 25]) -> FragmentAssembler
+    ensures { λ r. ⌜ r ≡ assemblerIn (now (w .entry)) ⌝ }
+{
+    FragmentAssembler {
+        count: cast::long(w[0]),
+        ids: ids_in(w),
+        held: held_in(w),
+    }
+}
+
+fn ids_out(w: &mut [i64; 25], ids: &[i32; 16])
+    ensures { λ _. ⌜ now (w .exit) ≡ idsTo (now (w .entry)) 1 (now (ids .entry)) ⌝ }
+{
+    w[1] = pair(ids[0], ids[1]);
+    w[2] = pair(ids[2], ids[3]);
+    w[3] = pair(ids[4], ids[5]);
+    w[4] = pair(ids[6], ids[7]);
+    w[5] = pair(ids[8], ids[9]);
+    w[6] = pair(ids[10], ids[11]);
+    w[7] = pair(ids[12], ids[13]);
+    w[8] = pair(ids[14], ids[15]);
+}
+
+fn held_out(w: &mut [i64; 25], held: &[usize; 16])
+    ensures { λ _. ⌜ now (w .exit) ≡ heldTo (now (w .entry)) 9 (now (held .entry)) ⌝ }
+{
+    w[9] = cast::to_i64(held[0]);
+    w[10] = cast::to_i64(held[1]);
+    w[11] = cast::to_i64(held[2]);
+    w[12] = cast::to_i64(held[3]);
+    w[13] = cast::to_i64(held[4]);
+    w[14] = cast::to_i64(held[5]);
+    w[15] = cast::to_i64(held[6]);
+    w[16] = cast::to_i64(held[7]);
+    w[17] = cast::to_i64(held[8]);
+    w[18] = cast::to_i64(held[9]);
+    w[19] = cast::to_i64(held[10]);
+    w[20] = cast::to_i64(held[11]);
+    w[21] = cast::to_i64(held[12]);
+    w[22] = cast::to_i64(held[13]);
+    w[23] = cast::to_i64(held[14]);
+    w[24] = cast::to_i64(held[15]);
+}
+
+pub(crate) fn assembler_out(w: &mut [i64; 25], next: FragmentAssembler)
+    ensures { λ _. ⌜ now (w .exit) ≡ assemblerOut (now (w .entry)) (sessionsOf next) ⌝ }
+{
+    w[0] = cast::to_i64(next.count);
+    let ids = next.ids;
+    let held = next.held;
+    ids_out(w, &ids);
+    held_out(w, &held);
+}
+
+// ---- a replay
+
+pub(crate) fn replay_in(w: &[i64; 27]) -> Replay
+    ensures { λ r. ⌜ r ≡ replayIn (now (w .entry)) ⌝ }
+{
+    let assembler: [i64; 25] = [
+        w[2],
+        w[3],
+        w[4],
+        w[5],
+        w[6],
+        w[7],
+        w[8],
+        w[9],
+        w[10],
+        w[11],
+        w[12],
+        w[13],
+        w[14],
+        w[15],
+        w[16],
+        w[17],
+        w[18],
+        w[19],
+        w[20],
+        w[21],
+        w[22],
+        w[23],
+        w[24],
+        w[25],
+        w[26],
+    ];
+    Replay {
+        image: image_at(w[0], w[1]),
+        assembler: assembler_in(&assembler),
+    }
+}
+
+// The words of its assembler.
+fn sessions_out(w: &mut [i64; 27], next: FragmentAssembler)
+    ensures { λ _. ⌜ now (w .exit) ≡ assemblerTo (now (w .entry)) 2 (sessionsOf next) ⌝ }
+{
+    let mut assembler: [i64; 25] = [0; 25];
+    assembler_out(&mut assembler, next);
+    w[2] = assembler[0];
+    w[3] = assembler[1];
+    w[4] = assembler[2];
+    w[5] = assembler[3];
+    w[6] = assembler[4];
+    w[7] = assembler[5];
+    w[8] = assembler[6];
+    w[9] = assembler[7];
+    w[10] = assembler[8];
+    w[11] = assembler[9];
+    w[12] = assembler[10];
+    w[13] = assembler[11];
+    w[14] = assembler[12];
+    w[15] = assembler[13];
+    w[16] = assembler[14];
+    w[17] = assembler[15];
+    w[18] = assembler[16];
+    w[19] = assembler[17];
+    w[20] = assembler[18];
+    w[21] = assembler[19];
+    w[22] = assembler[20];
+    w[23] = assembler[21];
+    w[24] = assembler[22];
+    w[25] = assembler[23];
+    w[26] = assembler[24];
+}
+
+// After a message.
+pub(crate) fn replay_out(w: &mut [i64; 27], next: Replay)
+    ensures { λ _. ⌜ now (w .exit) ≡ assemblerTo (imageOut (now (w .entry)) (stateOf (next .image))) 2 (sessionsOf (next .assembler)) ⌝ }
+{
+    let image = next.image;
+    let assembler = next.assembler;
+    let position = image.position;
+    w[0] = position;
+    sessions_out(w, assembler);
+}
+
+// Every word of a new replay, its flags and the gap 0.
+pub(crate) fn replay_filled(w: &mut [i64; 27], next: Replay)
+    ensures { λ _. ⌜ now (w .exit) ≡ assemblerTo (imageFilled (now (w .entry)) (stateOf (next .image))) 2 (sessionsOf (next .assembler)) ⌝ }
+{
+    let image = next.image;
+    let assembler = next.assembler;
+    let position = image.position;
+    w[0] = position;
+    w[1] = pair(image.session_id, 0);
+    sessions_out(w, assembler);
+}
+
+// ---- a claim
+
+pub(crate) fn claim_words(claim: Claim) -> [i64; 2]
+    ensures { λ r. ⌜ r ≡ claimWords claim ⌝ }
+{
+    [
+        pair(claim.partition, claim.offset),
+        pair(claim.length, claim.term_id),
+    ]
+}

@@ -1,0 +1,110 @@
+/* The structs that the caller keeps, against the words of crates/capi/specs/Words.antt: size and offsets when compiled; and, run, that calls which
+ * are refused leave every byte, those between the fields too, and that calls which are not leave the bytes between the fields. */
+#include <stddef.h>
+
+#include "replayed.h"
+
+#define AT(type, field, word, byte) _Static_assert(offsetof(struct type, field) == 8 * (word) + (byte), #type "." #field)
+_Static_assert(sizeof(struct logbuffer_record) == 10 * 8, "a record is 10 words");
+AT(logbuffer_record, tails, 0, 0);
+AT(logbuffer_record, active_term_count, 3, 0);
+AT(logbuffer_record, initial_term_id, 3, 4);
+AT(logbuffer_record, term_length, 4, 0);
+AT(logbuffer_record, mtu_length, 4, 4);
+AT(logbuffer_record, session_id, 5, 0);
+AT(logbuffer_record, stream_id, 5, 4);
+AT(logbuffer_record, is_connected, 6, 0);
+AT(logbuffer_record, publication_limit, 7, 0);
+AT(logbuffer_record, end_of_stream_position, 8, 0);
+AT(logbuffer_record, is_closed, 9, 0);
+_Static_assert(sizeof(struct logbuffer_image) == 2 * 8, "an image is 2 words");
+AT(logbuffer_image, position, 0, 0);
+AT(logbuffer_image, session_id, 1, 0);
+AT(logbuffer_image, is_closed, 1, 4);
+AT(logbuffer_image, is_eos, 1, 5);
+_Static_assert(sizeof(struct logbuffer_assembler) == 25 * 8, "an assembler is 25 words");
+AT(logbuffer_assembler, count, 0, 0);
+AT(logbuffer_assembler, ids, 1, 0);
+AT(logbuffer_assembler, held, 9, 0);
+_Static_assert(sizeof(struct logbuffer_replay) == 27 * 8, "a replay is 27 words");
+AT(logbuffer_replay, image, 0, 0);
+AT(logbuffer_replay, assembler, 2, 0);
+_Static_assert(sizeof(struct logbuffer_claim) == 2 * 8, "a claim is 2 words");
+AT(logbuffer_claim, partition, 0, 0);
+AT(logbuffer_claim, offset, 0, 4);
+AT(logbuffer_claim, length, 1, 0);
+AT(logbuffer_claim, term_id, 1, 4);
+
+/* A record between two margins, all of it bytes. */
+static struct {
+    uint8_t before[64], record[80], after[64];
+} memory, kept;
+
+static struct logbuffer_record *rec(void) {
+    return (struct logbuffer_record *)memory.record;
+}
+
+/* The bytes between the record's fields, set; opening has made them 0. */
+static void fill_gaps(void) {
+    memset(memory.record + 52, 0xa7, 4);
+    memset(memory.record + 73, 0xb9, 7);
+}
+
+static bool gaps_are_kept(void) {
+    bool same = true;
+    for (int i = 0; i < 4; i++) same &= memory.record[52 + i] == 0xa7;
+    for (int i = 0; i < 7; i++) same &= memory.record[73 + i] == 0xb9;
+    return same;
+}
+
+static void refused(const char *call, int32_t code, int32_t wanted) {
+    printf("%s: refused %" PRId32 ", every byte stays\n", call, code);
+    expect(code == wanted && memcmp(&memory, &kept, sizeof memory) == 0, call, (size_t)code);
+}
+
+static void done(const char *call, int32_t code) {
+    printf("%s: the bytes between the fields stay\n", call);
+    expect(code == 0 && gaps_are_kept(), call, (size_t)code);
+    expect(memcmp(memory.before, kept.before, 64) == 0 && memcmp(memory.after, kept.after, 64) == 0, "a margin", 0);
+    kept = memory;
+}
+
+int main(void) {
+    memset(&memory, 0x5c, sizeof memory);
+    kept = memory;
+    refused("open", logbuffer_open(rec(), log_bytes, LOG - 1, TERM, MTU, 7, SESSION, 22), 2);
+    expect(logbuffer_open(rec(), log_bytes, LOG, TERM, MTU, 7, SESSION, 22) == 0, "open", 0);
+    fill_gaps();
+    kept = memory;
+    refused("offer over the limit", logbuffer_offer(rec(), log_bytes, LOG, (const uint8_t *)"coin", 4, 0).code, 8);
+    refused("limit", logbuffer_set_publication_limit(rec(), -1), 2);
+    done("limit", logbuffer_set_publication_limit(rec(), 1 << 20));
+    done("offer", logbuffer_offer(rec(), log_bytes, LOG, (const uint8_t *)"coin", 4, 0).code);
+    refused("claim", logbuffer_try_claim(rec(), log_bytes, LOG, MTU).code, 4);
+    refused("rotation", logbuffer_rotate_log(rec(), -1, 7), 1);
+    done("close", logbuffer_close(rec()));
+    done("close again", logbuffer_close(rec()));
+    refused("offer after close", logbuffer_offer(rec(), log_bytes, LOG, (const uint8_t *)"pin", 3, 0).code, 5);
+    memory.record[72] = 2;
+    kept = memory;
+    refused("offer with the flag's byte 2", logbuffer_offer(rec(), log_bytes, LOG, (const uint8_t *)"pin", 3, 0).code, 5);
+    done("close with the flag's byte 2", logbuffer_close(rec()));
+    expect(memory.record[72] == 2, "the flag's byte", 2);
+
+    struct message coin = {(const uint8_t *)"coin", 4};
+    expect(replayed(rec(), log_bytes, &coin, 1, 0) == 0, "the message does not come back", 0);
+    struct logbuffer_image image, was;
+    memset(&image, 0xc3, sizeof image);
+    logbuffer_image_new(&image, 16, SESSION);
+    memset((uint8_t *)&image + 14, 0xd1, 2);
+    memcpy(&was, &image, sizeof was);
+    int32_t numbers[2];
+    int32_t code = logbuffer_image_poll(&image, rec(), log_bytes, LOG, numbers, 2, 1).code;
+    expect(code == 3 && memcmp(&was, &image, sizeof was) == 0, "a refused poll changes the image", (size_t)code);
+    image.position = 0;
+    expect(logbuffer_image_poll(&image, rec(), log_bytes, LOG, numbers, 2, 1).fragments == 1, "a poll", 0);
+    expect(logbuffer_image_close(&image, rec(), log_bytes, LOG) == 0 && image.is_closed && !image.is_eos, "closing", 0);
+    expect(memcmp((uint8_t *)&was + 14, (uint8_t *)&image + 14, 2) == 0 && image.position == 64 && image.session_id == SESSION, "the image", 0);
+    printf("image: a refused poll leaves every byte, a poll and closing those between the fields\n");
+    return 0;
+}
