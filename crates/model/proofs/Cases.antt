@@ -11,6 +11,9 @@ use lib.IntN.{ℤ, pos, negsuc}
 use lib.Count.{ones, onesIn}
 use Rattle.model.specs.declared.LogRecord.{LogRecord}
 use Rattle.model.specs.declared.Claim.{Claim}
+use Rattle.model.specs.declared.OfferReply.{OfferReply}
+use Rattle.model.specs.declared.Rule.{Rule}
+use Rattle.model.specs.declared.Rule.the-variants.{PublicationClosed, ExceedsMaxPayloadLength, CountOutOfStep, LimitPastMaxPosition, TripPastMaxPosition, TermRotated, Unfragmented, Fragmented, Claimed}
 use Rattle.model.specs.Bytes.{le2, le4, le8, u16, u32, i32, splice, zeros}
 use Rattle.model.specs.Answers.{Told, outcomeTold, positionedTold, offeredTold, claimedTold, polledTold, gapTold, availabilityTold}
 use Rattle.model.specs.FrameDescriptor.{frameLength, frameAt}
@@ -18,6 +21,7 @@ use Rattle.model.specs.DataFrameHeader.{header24, headerBytes}
 use Rattle.model.specs.LogBufferDescriptor.{readingOf, soundRecord, sound, changed, withTail, withCount, nextTail, rotated, rawOf, termId, termOffset, positionOf}
 use Rattle.model.specs.TermAppender.{header, fragment, fragmentBytes, written, cutFrom, cut, sizes, need, padded, claimed, claimRecord}
 use Rattle.model.specs.BufferClaim.{goodClaim, matches, claimCheck, commitOf, commitBytes, abortBytes}
+use Rattle.model.specs.Rule.{order, holds, firstOf, decided}
 use Rattle.model.specs.Publication.{openRecord, positionCall, pressed, afterClosed, beforeAppend, onTrip, appendNext, offerOf, offerBytes, claimVerdict, claimOf, claimBytes}
 use Rattle.model.specs.TermReader.{walk}
 use Rattle.model.specs.TermScan.{scanVerdict, rebuild, gapLength, gapJudge, gapOf, availableFrom, availabilityJudge, availabilityOf}
@@ -53,6 +57,10 @@ tailAt offset = recordAt (tailsAt offset) (pos 7) 96 0 1000000 false
 abbrev pub lastAt : ℕ → ℕ → LogRecord
 lastAt mtu offset = recordAt (replicate 3 (rawOf 4294967295 offset)) (pos 0) mtu 2147483647 4611686018427387904 false
 
+-- a log in its first term whose tail shows the id of the second: its count is out of step
+abbrev pub aheadAt : ℕ → LogRecord
+aheadAt offset = recordAt (rawOf 2147483656 offset ∷ rawOf 2147483653 0 ∷ rawOf 2147483654 0 ∷ []) (pos 7) 96 0 1000000 false
+
 -- a message of n bytes
 abbrev pub bytes : ℕ → List ℕ
 bytes n = replicate n 1
@@ -60,6 +68,10 @@ bytes n = replicate n 1
 -- what is answered, in document 01's numbers
 abbrev pub is : ℤ → List ℤ → Told
 is number values = record { number = number; values = values; place = 0 }
+
+-- and by which rule
+abbrev offerSays : OfferReply → Told × Rule
+offerSays o = (offeredTold (o .answer), o .rule)
 
 module _ (log : List ℕ) (full : length log ≡ 196608) where
   -- ---- offers into an empty term
@@ -183,6 +195,40 @@ module _ (log : List ℕ) (full : length log ≡ 196608) where
   last-term-12 : offeredTold (offerOf (lastAt 65504 32768) log (bytes 60000) .answer) ≡ is (pos 12) []
   unfolding offerOf readingOf soundRecord sound rawOf pressed afterClosed beforeAppend ones onesIn onTrip
   last-term-12 = rw (full, need-one 65472 60000 (omega arith))
+
+  -- ---- the deciding rule (R-10 of document 02)
+
+  -- 6 twice: a term full at its own count rotates; a tail one term ahead of its count is refused as it stands, though its term is full too
+  rotates : offerSays (offerOf (tailAt 65472) log (bytes 64)) ≡ (is (pos 6) [], TermRotated)
+  unfolding offerOf readingOf soundRecord sound rawOf pressed afterClosed beforeAppend need sizes cut cutFrom zeros ones onesIn onTrip decided firstOf order holds
+  rotates = rw full
+
+  out-of-step : offerSays (offerOf (aheadAt 65472) log (bytes 64)) ≡ (is (pos 6) [], CountOutOfStep)
+  unfolding offerOf readingOf soundRecord sound rawOf pressed afterClosed beforeAppend need sizes cut cutFrom zeros ones onesIn onTrip decided firstOf order holds
+  out-of-step = rw full
+
+  -- 7 twice: by the limit, the last term full; and after a trip, below a limit of 2^62
+  past-at-limit : offerSays (offerOf (recordAt (replicate 3 (rawOf 4294967295 65536)) (pos 0) 96 2147483647 0 false) log (bytes 64)) ≡ (is (pos 7) [], LimitPastMaxPosition)
+  unfolding offerOf readingOf soundRecord sound rawOf pressed afterClosed beforeAppend need sizes cut cutFrom zeros ones onesIn onTrip decided firstOf order holds
+  past-at-limit = rw full
+
+  past-on-trip : offerSays (offerOf (lastAt 96 65472) log (bytes 64)) ≡ (is (pos 7) [], TripPastMaxPosition)
+  unfolding offerOf readingOf soundRecord sound rawOf pressed afterClosed beforeAppend need sizes cut cutFrom zeros ones onesIn onTrip decided firstOf order holds
+  past-on-trip = rw full
+
+  -- closed before too long; and too long before a count out of step
+  closed-decides : claimOf (recordAt (tailsAt 0) (pos 7) 96 0 1000000 true) log (pos 65) .rule ≡ PublicationClosed
+  unfolding claimOf readingOf soundRecord sound rawOf ones onesIn decided firstOf order holds
+  closed-decides = rw full
+
+  too-long-decides : claimOf (aheadAt 0) log (pos 65) .rule ≡ ExceedsMaxPayloadLength
+  unfolding claimOf readingOf soundRecord sound rawOf ones onesIn decided firstOf order holds
+  too-long-decides = rw full
+
+  -- accepted: in one frame, in more, claimed
+  accepted : offerOf (tailAt 0) log (bytes 64) .rule ∷ offerOf (tailAt 0) log (bytes 65) .rule ∷ claimOf (tailAt 0) log (pos 10) .rule ∷ [] ≡ Unfragmented ∷ Fragmented ∷ Claimed ∷ []
+  unfolding offerOf claimOf readingOf soundRecord sound rawOf need sizes cut cutFrom zeros ones onesIn decided firstOf order holds
+  accepted = rw full
 
 -- ---- numbers
 

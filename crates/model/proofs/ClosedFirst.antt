@@ -12,7 +12,7 @@ use Rattle.model.specs.declared.Reading.{Reading}
 use Rattle.model.specs.declared.Error.the-variants.{IllegalArgument, IllegalRecord, ExceedsMaxPayloadLength, PublicationClosed}
 use Rattle.model.specs.declared.Verdict.{Verdict}
 use Rattle.model.specs.declared.Verdict.the-variants.{Refuse}
-use Rattle.model.specs.declared.ClaimReply.{ClaimReply}
+use Rattle.model.specs.declared.Claimed.{Claimed}
 use Rattle.model.specs.Bytes.{word}
 use Rattle.model.specs.FrameDescriptor.{space}
 use Rattle.model.specs.LogBufferDescriptor.{active, reading, payloadLimit, sound}
@@ -49,9 +49,9 @@ module _ (r : LogRecord) (log : List ℕ) (m : ℤ) where
   abbrev rest : Verdict
   rest = afterClosed v (word m) (tailRoom v (space (word m)))
 
-  -- what a claim answers and leaves, by its verdict
-  abbrev reply : Verdict → ClaimReply
-  reply x = record { next = nextBy r v (space (word m)) x; answer = claimedBy r v (word m) x }
+  -- what a claim leaves and answers, by its verdict
+  abbrev reply : Verdict → LogRecord × Claimed
+  reply x = (nextBy r v (space (word m)) x, claimedBy r v (word m) x)
 
   abbrev bytes : Verdict → List ℕ
   bytes x = logBy r v log (claimed v log (active r * v .term) (word m)) (space (word m)) x

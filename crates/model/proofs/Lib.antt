@@ -51,3 +51,5 @@ pub mod HeaderRows
 -- the publication
 pub mod OfferLaws
 pub mod ClosedFirst
+pub mod RuleLaws
+pub mod DecidingRule

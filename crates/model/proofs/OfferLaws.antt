@@ -23,13 +23,16 @@ use Rattle.model.specs.declared.Appended.the-variants.{Offset, Tripped, 
 use Rattle.model.specs.declared.AppendReply.{AppendReply}
 use Rattle.model.specs.declared.Offered.the-variants.{Position, Refused as Declined}
 use Rattle.model.specs.declared.OfferReply.{OfferReply}
+use Rattle.model.specs.declared.Rule.{Rule}
 use Rattle.model.specs.Bytes.{word, long}
 use Rattle.model.specs.LogBufferDescriptor.{biased, reading, active, payloadLimit, greatest, sound, Sound, withTail, lastTerm, rotated, rotateLogOf}
 use Rattle.model.specs.TermAppender.{written, cut, padded, course, replyBy, bytesBy}
+use Rattle.model.specs.Rule.{message, decided}
 use Rattle.model.specs.Publication.{refuseIf, place, needOf, tooLong, pressed, afterClosed, tailRoom, beforeAppend, offerVerdict, fits, onTrip, tripError, tripNext, appendNext, offeredBy, nextBy, logBy, offerOf, offerBytes}
 use Rattle.model.proofs.Sound.{id-small}
 use Rattle.model.proofs.Append.{Went, course-says, appendReply, appendBytes}
 use Rattle.model.proofs.Moving.{rotate-moved}
+use Rattle.model.proofs.RuleLaws.{refusedRule, tripRule, offeredRule, offer-rule-refused, offer-rule-passed}
 
 -- ---- 6 (count), 7/8/9
 
@@ -201,22 +204,24 @@ not-last v h k = simp (ne-eqb _ _ h, ne-eqb _ _ k)
 
 -- ---- the append, and what its answer leads to
 
-abbrev pub afterBy : Reading → LogRecord → Appended → OfferReply
-afterBy v next (Offset end) = record { next = next; answer = Position (pos (v .count * v .term + end)) }
-afterBy v next Tripped = record { next = tripNext next v; answer = Declined (tripError v) }
-afterBy v next (Refused e) = record { next = next; answer = Declined e }
+-- for a message of m bytes
+abbrev pub afterBy : Reading → ℕ → LogRecord → Appended → OfferReply
+afterBy v m next (Offset end) = record { next = next; answer = Position (pos (v .count * v .term + end)); rule = offeredRule v m }
+afterBy v m next Tripped = record { next = tripNext next v; answer = Declined (tripError v); rule = tripRule v }
+afterBy v m next (Refused e) = record { next = next; answer = Declined e; rule = refusedRule e }
 
-abbrev pub after : Reading → AppendReply → OfferReply
-after v a = afterBy v (a .next) (a .answer)
+abbrev pub after : Reading → ℕ → AppendReply → OfferReply
+after v m a = afterBy v m (a .next) (a .answer)
 
 pub refused-is : (r : LogRecord) (log m : List ℕ) (reserved : ℤ) (e : Error) → beforeAppend (reading r) (length log) (length m) Pass ≡ Refuse e
-    → (record { next = r; answer = Declined e } ≡ offerOf r log m) × (log ≡ offerBytes r log m reserved)
+    → (record { next = r; answer = Declined e; rule = refusedRule e } ≡ offerOf r log m) × (log ≡ offerBytes r log m reserved)
 unfolding offerOf offerBytes
 refused-is r log m reserved e h =
     let v = reading r in
     let needed = needOf v (length m) in
     let q : offerVerdict v (length log) (length m) ≡ Refuse e = before-refuse v (length log) (length m) (tailRoom v needed) e h in (
-      sym (ap (λ (x : Verdict). record { next = nextBy r v needed x; answer = offeredBy v needed x }) q),
+      ap (λ (x : Rule). record { next = r; answer = Declined e; rule = x }) (offer-rule-refused v (length log) (length m) e q)
+          ∙ sym (ap (λ (x : Verdict). record { next = nextBy r v needed x; answer = offeredBy v needed x; rule = decided v (length log) (message (length m)) }) q),
       sym (ap (logBy r v log (written v log (active r * v .term) (v .offset) (cut (payloadLimit v) (long reserved) m)) needed) q),
     )
 
@@ -233,15 +238,18 @@ module _ (r : LogRecord) (log m : List ℕ) (reserved : ℤ) where
   abbrev new· : List ℕ
   new· = written v· log (active r * v· .term) (v· .offset) (cut (payloadLimit v·) (long reserved) m)
 
+  abbrev rule· : Rule
+  rule· = decided v· (length log) (message (length m))
+
   abbrev reply· : Verdict → OfferReply
-  reply· x = record { next = nextBy r v· nd· x; answer = offeredBy v· nd· x }
+  reply· x = record { next = nextBy r v· nd· x; answer = offeredBy v· nd· x; rule = rule· }
 
   abbrev moved· : LogRecord
   moved· = withTail r (active r) (v· .id) (v· .offset + nd·)
 
   -- what an offer that passes leaves and answers, by whether it fits
   abbrev passed· : Bool → OfferReply
-  passed· b = record { next = cond b moved· (tripNext moved· v·); answer = cond b (Position (pos (place v· + nd·))) (Declined (tripError v·)) }
+  passed· b = record { next = cond b moved· (tripNext moved· v·); answer = cond b (Position (pos (place v· + nd·))) (Declined (tripError v·)); rule = rule· }
 
   pass-is : (b : Bool) → fits v· nd· ≡ b → reply· Pass ≡ passed· b
   unfolding appendNext
@@ -249,22 +257,25 @@ module _ (r : LogRecord) (log m : List ℕ) (reserved : ℤ) where
 
   -- by the two tests that an append makes of a sound reading at its own term
   both : (a b : Bool) → leb (v· .offset + nd·) 2147483647 ≡ a → leb (v· .offset + nd·) (v· .term) ≡ b → x· ≡ cond a (cond b Fit Trip) (Deny TailOverflow) → offerVerdict v· (length log) (length m) ≡ tailRoom v· nd·
-      → (after v· (replyBy r v· (active r) nd· x·) ≡ offerOf r log m) × (bytesBy v· (active r) log new· x· ≡ offerBytes r log m reserved)
+      → (after v· (length m) (replyBy r v· (active r) nd· x·) ≡ offerOf r log m) × (bytesBy v· (active r) log new· x· ≡ offerBytes r log m reserved)
   unfolding offerOf offerBytes
   both false b ea eb ex ev =
       let w : offerVerdict v· (length log) (length m) ≡ Refuse TailOverflow = ev ∙ ap (λ (t : Bool). refuseIf t TailOverflow Pass) (lt-ltb 2147483647 (v· .offset + nd·) (leb-false (v· .offset + nd·) 2147483647 ea)) in (
-        ap (λ (x : Course). after v· (replyBy r v· (active r) nd· x)) ex ∙ sym (ap reply· w),
+        ap (λ (x : Course). after v· (length m) (replyBy r v· (active r) nd· x)) ex
+            ∙ ap (λ (x : Rule). record { next = r; answer = Declined TailOverflow; rule = x }) (offer-rule-refused v· (length log) (length m) TailOverflow w) ∙ sym (ap reply· w),
         ap (bytesBy v· (active r) log new·) ex ∙ sym (ap (logBy r v· log new· nd·) w),
       )
   both true false ea eb ex ev =
       let w : offerVerdict v· (length log) (length m) ≡ Pass = ev ∙ ap (λ (t : Bool). refuseIf t TailOverflow Pass) (le-ltb 2147483647 (v· .offset + nd·) (leb-true (v· .offset + nd·) 2147483647 ea)) in (
-        ap (λ (x : Course). after v· (replyBy r v· (active r) nd· x)) ex ∙ sym (ap reply· w ∙ pass-is false eb),
+        ap (λ (x : Course). after v· (length m) (replyBy r v· (active r) nd· x)) ex
+            ∙ ap (λ (x : Rule). record { next = tripNext moved· v·; answer = Declined (tripError v·); rule = x }) (offer-rule-passed v· (length log) (length m) false eb w) ∙ sym (ap reply· w ∙ pass-is false eb),
         ap (bytesBy v· (active r) log new·) ex ∙ sym (ap (logBy r v· log new· nd·) w ∙ ap (λ (t : Bool). cond t new· (padded v· log (active r * v· .term))) eb),
       )
   both true true ea eb ex ev =
       let w : offerVerdict v· (length log) (length m) ≡ Pass = ev ∙ ap (λ (t : Bool). refuseIf t TailOverflow Pass) (le-ltb 2147483647 (v· .offset + nd·) (leb-true (v· .offset + nd·) 2147483647 ea)) in
       let s : v· .count * v· .term + (v· .offset + nd·) ≡ place v· + nd· = omega arith in (
-        ap (λ (x : Course). after v· (replyBy r v· (active r) nd· x)) ex ∙ ap (λ (p : ℕ). record { next = moved·; answer = Position (pos p) }) s ∙ sym (ap reply· w ∙ pass-is true eb),
+        ap (λ (x : Course). after v· (length m) (replyBy r v· (active r) nd· x)) ex
+            ∙ ap₂ (λ (p : ℕ) (x : Rule). record { next = moved·; answer = Position (pos p); rule = x }) s (offer-rule-passed v· (length log) (length m) true eb w) ∙ sym (ap reply· w ∙ pass-is true eb),
         ap (bytesBy v· (active r) log new·) ex ∙ sym (ap (logBy r v· log new· nd·) w ∙ ap (λ (t : Bool). cond t new· (padded v· log (active r * v· .term))) eb),
       )
 
@@ -274,7 +285,7 @@ module _ (r : LogRecord) (log m : List ℕ) (reserved : ℤ) where
 
   -- an offer that nothing refuses before its append is the append, and what its answer leads to
   pub offer-is : beforeAppend v· (length log) (length m) Pass ≡ Pass
-      → (after v· (appendReply r log (active r) (payloadLimit v·) m (v· .id)) ≡ offerOf r log m)
+      → (after v· (length m) (appendReply r log (active r) (payloadLimit v·) m (v· .id)) ≡ offerOf r log m)
       × (appendBytes r log (active r) (payloadLimit v·) m (long reserved) (v· .id) ≡ offerBytes r log m reserved)
   offer-is h =
       both (leb (v· .offset + nd·) 2147483647) (leb (v· .offset + nd·) (v· .term)) refl refl (way (passed v· (length log) (length m) h .is-sound))

@@ -82,7 +82,7 @@ offer-lets v n m =
     (λ s. cond-case P (v .closed) (Refuse PublicationClosed) _ (λ e. no PublicationClosed)
     (λ e. after-lets v n m (needOf v m) _ (cond-case P (tooLong v m) (Refuse ExceedsMaxMessageLength) _ (λ e. no ExceedsMaxMessageLength) (λ e. room-lets v n (needOf v m) (not-false (sound v n) s))))))
 
-claim-lets : (v : Reading) (n m : ℕ) → Lets v n (space m) (claimVerdict v n m)
+pub claim-lets : (v : Reading) (n m : ℕ) → Lets v n (space m) (claimVerdict v n m)
 unfolding claimVerdict
 claim-lets v n m =
     let P = Lets v n (space m) in

@@ -11,8 +11,8 @@ use Rattle.model.specs.declared.LogRecord.{LogRecord}
 use Rattle.model.specs.declared.Reading.{Reading}
 use Rattle.model.specs.declared.Error.the-variants.{IllegalArgument, IllegalRecord, ExceedsMaxPayloadLength, PublicationClosed}
 use Rattle.model.specs.declared.Verdict.{Verdict}
+use Rattle.model.specs.declared.Claimed.{Claimed}
 use Rattle.model.specs.declared.Claimed.the-variants.{Refused as ClaimRefused}
-use Rattle.model.specs.declared.ClaimReply.{ClaimReply}
 use Rattle.model.specs.Bytes.{word}
 use Rattle.model.specs.FrameDescriptor.{space}
 use Rattle.model.specs.LogBufferDescriptor.{active, reading, payloadLimit, sound}
@@ -30,12 +30,12 @@ claimVerdictBefore v n m =
     (afterClosed v m
     (tailRoom v (space m))))))
 
-unfoldable pub claimBefore : LogRecord → List ℕ → ℤ → ClaimReply
-claimBefore r log m =
-    record {
-      next = nextBy r (reading r) (space (word m)) (claimVerdictBefore (reading r) (length log) (word m));
-      answer = claimedBy r (reading r) (word m) (claimVerdictBefore (reading r) (length log) (word m));
-    }
+-- the next record, and the answer
+unfoldable pub claimBefore : LogRecord → List ℕ → ℤ → LogRecord × Claimed
+claimBefore r log m = (
+  nextBy r (reading r) (space (word m)) (claimVerdictBefore (reading r) (length log) (word m)),
+  claimedBy r (reading r) (word m) (claimVerdictBefore (reading r) (length log) (word m)),
+)
 
 unfoldable pub claimBytesBefore : LogRecord → List ℕ → ℤ → List ℕ
 claimBytesBefore r log m =
@@ -44,6 +44,10 @@ claimBytesBefore r log m =
 
 -- ---- what R-3 changes
 
+-- next record and answer as they are now
+abbrev pub claimNow : LogRecord → List ℕ → ℤ → LogRecord × Claimed
+claimNow r log m = (claimOf r log m .next, claimOf r log m .answer)
+
 -- the one kind: rows 1 and 2 let the claim pass, the publication is closed, and the claim is over the payload limit
 unfoldable pub closedAndLong : LogRecord → List ℕ → ℤ → Bool
 closedAndLong r log m =
@@ -51,14 +55,14 @@ closedAndLong r log m =
 
 -- a claim of that kind: 5 for 4, and record and log as they were, now as before
 pub record FiveForFour (r : LogRecord) (log : List ℕ) (m : ℤ) : Type 0 where
-  pub before : claimBefore r log m ≡ record { next = r; answer = ClaimRefused ExceedsMaxPayloadLength }
-  pub now : claimOf r log m ≡ record { next = r; answer = ClaimRefused PublicationClosed }
+  pub before : claimBefore r log m ≡ (r, ClaimRefused ExceedsMaxPayloadLength)
+  pub now : claimNow r log m ≡ (r, ClaimRefused PublicationClosed)
   pub log-before : claimBytesBefore r log m ≡ log
   pub log-now : claimBytes r log m ≡ log
 
 -- any other: answer, next record and log are the old ones
 pub record AsBefore (r : LogRecord) (log : List ℕ) (m : ℤ) : Type 0 where
-  pub reply : claimOf r log m ≡ claimBefore r log m
+  pub reply : claimNow r log m ≡ claimBefore r log m
   pub bytes : claimBytes r log m ≡ claimBytesBefore r log m
 
 -- for every record, log and length

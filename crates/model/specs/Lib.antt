@@ -9,8 +9,10 @@ pub mod FrameDescriptor
 pub mod LogBufferDescriptor
 pub mod TermAppender
 pub mod BufferClaim
+pub mod Rule
 pub mod Publication
 pub mod ClosedFirst
+pub mod DecidingRule
 pub mod TermReader
 pub mod TermScan
 pub mod Image

@@ -1,5 +1,5 @@
 -- The publication: opening, limit change, close, position, limit, window, offer and claim. Each refusal stands in document 01's order
--- ("Answers, by number", last paragraph), as R-3 of document 02 amends it, with what it leaves. Read TermReader next.
+-- ("Answers, by number", last paragraph), as R-3 of document 02 amends it, with what it leaves. Which check decided is Rule's. Read TermReader next.
 use Prim.Native.Nat.{ℕ, _+_, _-_, _*_}
 use mathlib.Core.Bool.{Bool, false, cond, _&&_, not}
 use mathlib.Core.List.{List, [], _∷_}
@@ -26,6 +26,7 @@ use Rattle.model.specs.Bytes.{word, long, zeros}
 use Rattle.model.specs.FrameDescriptor.{space}
 use Rattle.model.specs.LogBufferDescriptor.{biased, rawOf, active, reading, payloadLimit, messageLimit, greatest, publisherPosition, soundRecord, sound, withTail, withLimit, withClosed, lastTerm, rotated}
 use Rattle.model.specs.TermAppender.{written, cut, need, padded, claimed, claimRecord}
+use Rattle.model.specs.Rule.{message, claim, decided}
 
 -- one rung of a ladder of refusals
 abbrev pub refuseIf : Bool → Error → Verdict → Verdict
@@ -191,6 +192,7 @@ offerOf r log m =
     record {
       next = nextBy r (reading r) (needOf (reading r) (length m)) (offerVerdict (reading r) (length log) (length m));
       answer = offeredBy (reading r) (needOf (reading r) (length m)) (offerVerdict (reading r) (length log) (length m));
+      rule = decided (reading r) (length log) (message (length m));
     }
 
 unfoldable pub offerBytes : LogRecord → List ℕ → List ℕ → ℤ → List ℕ
@@ -222,6 +224,7 @@ claimOf r log m =
     record {
       next = nextBy r (reading r) (space (word m)) (claimVerdict (reading r) (length log) (word m));
       answer = claimedBy r (reading r) (word m) (claimVerdict (reading r) (length log) (word m));
+      rule = decided (reading r) (length log) (claim (word m));
     }
 
 unfoldable pub claimBytes : LogRecord → List ℕ → ℤ → List ℕ

@@ -136,6 +136,27 @@ pub struct AppendClaimReply {
     pub answer: AppendedClaim,
 }
 
+// Which check decided an offer or a claim (R-10 of document 02), in the order of the checks. The names are those of the refusals, but for 6 and 7,
+// which two checks give each; the last three accept. specs/Rule.antt gives each its number, its place and its test.
+pub enum Rule {
+    IllegalArgument,
+    IllegalRecord,
+    PublicationClosed,
+    ExceedsMaxPayloadLength,
+    CountOutOfStep,
+    LimitPastMaxPosition,
+    BackPressured,
+    NotConnected,
+    ExceedsMaxMessageLength,
+    TailOverflow,
+    TripPastMaxPosition,
+    LastTerm,
+    TermRotated,
+    Unfragmented,
+    Fragmented,
+    Claimed,
+}
+
 pub enum Offered {
     Position(i64),
     Refused(Error),
@@ -144,6 +165,7 @@ pub enum Offered {
 pub struct OfferReply {
     pub next: LogRecord,
     pub answer: Offered,
+    pub rule: Rule,
 }
 
 pub enum Claimed {
@@ -154,6 +176,7 @@ pub enum Claimed {
 pub struct ClaimReply {
     pub next: LogRecord,
     pub answer: Claimed,
+    pub rule: Rule,
 }
 
 // Where a part of the log lies: its first index, and the index after its last.
