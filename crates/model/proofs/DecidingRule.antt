@@ -86,9 +86,9 @@ module _ (test : Rule → Bool) where
   least n (y ∷ ys) x r low high h =
       test-case (test y) (λ e. let z = cond-true (test y) y (firstOf test ys) e in (ap test z ∙ e, omega (arith, ap rulePlace z, r .0)))
       (λ e.
-        let l : n < rulePlace x = split (rulePlace x) n (λ (l : rulePlace x ≤ n). clash (test x) h (ap test (same-place x y (omega (arith, r .0))) ∙ e)) (λ (l : n < rulePlace x). l) in
-        let q = least (suc n) ys x (r .1) l (omega arith) h in
-        let z = cond-false (test y) y (firstOf test ys) e in (ap test z ∙ q .0, omega (arith, ap rulePlace z, q .1)))
+      let l : n < rulePlace x = split (rulePlace x) n (λ (l : rulePlace x ≤ n). clash (test x) h (ap test (same-place x y (omega (arith, r .0))) ∙ e)) (λ (l : n < rulePlace x). l) in
+      let q = least (suc n) ys x (r .1) l (omega arith) h in
+      let z = cond-false (test y) y (firstOf test ys) e in (ap test z ∙ q .0, omega (arith, ap rulePlace z, q .1)))
 
   -- of the whole order, where any rule holds
   first-in-order : (x : Rule) → test x ≡ true → (test (firstOf test order) ≡ true) × (rulePlace (firstOf test order) ≤ rulePlace x)

@@ -23,13 +23,17 @@ use Rattle.model.specs.declared.AppendedClaim.the-variants.{Claimed as Taken, T
 use Rattle.model.specs.declared.AppendClaimReply.{AppendClaimReply}
 use Rattle.model.specs.declared.Claimed.the-variants.{Position, Refused as Declined}
 use Rattle.model.specs.declared.ClaimReply.{ClaimReply}
+use Rattle.model.specs.declared.Rule.{Rule}
+use Rattle.model.specs.declared.Rule.the-variants.{Claimed as ByClaim}
 use Rattle.model.specs.Bytes.{word}
 use Rattle.model.specs.FrameDescriptor.{space}
 use Rattle.model.specs.LogBufferDescriptor.{biased, readingOf, reading, active, payloadLimit, sound, withTail}
 use Rattle.model.specs.TermAppender.{padded, claimed, course, bytesBy, claimRecord, claimAppendedBy}
+use Rattle.model.specs.Rule.{claim as asks, decided}
 use Rattle.model.specs.Publication.{refuseIf, place, afterClosed, tailRoom, claimVerdict, fits, tripError, tripNext, appendNext, nextBy, logBy, claimedBy, claimOf, claimBytes}
 use Rattle.model.proofs.Append.{claimingReply, claimingBytes, course-says}
 use Rattle.model.proofs.OfferLaws.{Turns, closed-pass, closed-refuse, trip-turns}
+use Rattle.model.proofs.RuleLaws.{refusedRule, tripRule, claim-rule-refused, claim-rule-passed}
 
 -- ---- the ladder
 
@@ -96,9 +100,9 @@ module _ (v : Reading) (n m : ℕ) where
 -- ---- the append, and what its answer leads to
 
 abbrev pub afterBy : Reading → LogRecord → AppendedClaim → ClaimReply
-afterBy v next (Taken end claim) = record { next = next; answer = Position (pos (v .count * v .term + end)) claim }
-afterBy v next Tripped = record { next = tripNext next v; answer = Declined (tripError v) }
-afterBy v next (Refused e) = record { next = next; answer = Declined e }
+afterBy v next (Taken end claim) = record { next = next; answer = Position (pos (v .count * v .term + end)) claim; rule = ByClaim }
+afterBy v next Tripped = record { next = tripNext next v; answer = Declined (tripError v); rule = tripRule v }
+afterBy v next (Refused e) = record { next = next; answer = Declined e; rule = refusedRule e }
 
 abbrev pub after : Reading → AppendClaimReply → ClaimReply
 after v a = afterBy v (a .next) (a .answer)
@@ -116,34 +120,43 @@ module _ (r : LogRecord) (log : List ℕ) (len : ℤ) where
   abbrev new· : List ℕ
   new· = claimed v· log (active r * v· .term) m·
 
+  abbrev rule· : Rule
+  rule· = decided v· (length log) (asks m·)
+
   abbrev reply· : Verdict → ClaimReply
-  reply· x = record { next = nextBy r v· (space m·) x; answer = claimedBy r v· m· x }
+  reply· x = record { next = nextBy r v· (space m·) x; answer = claimedBy r v· m· x; rule = rule· }
 
   abbrev moved· : LogRecord
   moved· = withTail r (active r) (v· .id) (v· .offset + space m·)
 
   -- what a claim that passes leaves and answers, by whether it fits
   abbrev passed· : Bool → ClaimReply
-  passed· b = record { next = cond b moved· (tripNext moved· v·); answer = cond b (Position (pos (place v· + space m·)) (claimRecord v· (active r) m·)) (Declined (tripError v·)) }
+  passed· b = record { next = cond b moved· (tripNext moved· v·); answer = cond b (Position (pos (place v· + space m·)) (claimRecord v· (active r) m·)) (Declined (tripError v·)); rule = rule· }
 
   pass-is : (b : Bool) → fits v· (space m·) ≡ b → reply· Pass ≡ passed· b
   unfolding appendNext
   pass-is b e = ap passed· e
 
-  pub claim-refused : (e : Error) → claimVerdict v· (length log) m· ≡ Refuse e → (record { next = r; answer = Declined e } ≡ claimOf r log len) × (log ≡ claimBytes r log len)
+  pub claim-refused : (e : Error) (x : Rule) → x ≡ refusedRule e → claimVerdict v· (length log) m· ≡ Refuse e
+      → (record { next = r; answer = Declined e; rule = x } ≡ claimOf r log len) × (log ≡ claimBytes r log len)
   unfolding claimOf claimBytes
-  claim-refused e h = (sym (ap reply· h), sym (ap (logBy r v· log new· (space m·)) h))
+  claim-refused e x q h = (
+    ap (λ (y : Rule). record { next = r; answer = Declined e; rule = y }) (q ∙ claim-rule-refused v· (length log) m· e h) ∙ sym (ap reply· h),
+    sym (ap (logBy r v· log new· (space m·)) h),
+  )
 
   both : (b : Bool) → leb (v· .offset + space m·) (v· .term) ≡ b → x· ≡ cond b Fit Trip → claimVerdict v· (length log) m· ≡ Pass
       → (after v· (claimAppendedBy r v· (active r) m· x·) ≡ claimOf r log len) × (bytesBy v· (active r) log new· x· ≡ claimBytes r log len)
   unfolding claimOf claimBytes
   both false eb ex w = (
-    ap (λ (x : Course). after v· (claimAppendedBy r v· (active r) m· x)) ex ∙ sym (ap reply· w ∙ pass-is false eb),
+    ap (λ (x : Course). after v· (claimAppendedBy r v· (active r) m· x)) ex
+        ∙ ap (λ (x : Rule). record { next = tripNext moved· v·; answer = Declined (tripError v·); rule = x }) (claim-rule-passed v· (length log) m· false eb w) ∙ sym (ap reply· w ∙ pass-is false eb),
     ap (bytesBy v· (active r) log new·) ex ∙ sym (ap (logBy r v· log new· (space m·)) w ∙ ap (λ (t : Bool). cond t new· (padded v· log (active r * v· .term))) eb),
   )
   both true eb ex w =
       let s : v· .count * v· .term + (v· .offset + space m·) ≡ place v· + space m· = omega arith in (
-        ap (λ (x : Course). after v· (claimAppendedBy r v· (active r) m· x)) ex ∙ ap (λ (p : ℕ). record { next = moved·; answer = Position (pos p) (claimRecord v· (active r) m·) }) s ∙ sym (ap reply· w ∙ pass-is true eb),
+        ap (λ (x : Course). after v· (claimAppendedBy r v· (active r) m· x)) ex
+            ∙ ap₂ (λ (p : ℕ) (x : Rule). record { next = moved·; answer = Position (pos p) (claimRecord v· (active r) m·); rule = x }) s (claim-rule-passed v· (length log) m· true eb w) ∙ sym (ap reply· w ∙ pass-is true eb),
         ap (bytesBy v· (active r) log new·) ex ∙ sym (ap (logBy r v· log new· (space m·)) w ∙ ap (λ (t : Bool). cond t new· (padded v· log (active r * v· .term))) eb),
       )
 

@@ -6,7 +6,10 @@ use lib.ListN.{length}
 use lib.IntN.{ℤ}
 use Rattle.model.specs.declared.LogRecord.{LogRecord}
 use Rattle.model.specs.declared.Reading.{Reading}
-use Rattle.model.specs.declared.Verdict.the-variants.{Pass}
+use Rattle.model.specs.declared.Error.{Error}
+use Rattle.model.specs.declared.Rule.{Rule}
+use Rattle.model.specs.declared.Verdict.the-variants.{Pass, Refuse}
+use Rattle.model.specs.declared.Offered.the-variants.{Refused as Declined}
 use Rattle.model.specs.declared.Appended.the-variants.{Offset, Tripped}
 use Rattle.model.specs.declared.AppendReply.{AppendReply}
 use Rattle.model.specs.Bytes.{word, long}
@@ -15,12 +18,20 @@ use Rattle.model.specs.TermAppender.{need, course}
 use Rattle.model.specs.Publication.{beforeAppend, offerOf, offerBytes}
 use Rattle.model.proofs.Append.{appendReply, appendBytes}
 use Rattle.model.proofs.Cut.{need-32}
-use Rattle.model.proofs.OfferLaws.{Turns, after, offer-is, end-in, trip-turns}
+use Rattle.model.proofs.OfferLaws.{Turns, after, refused-is, offer-is, end-in, trip-turns}
+use Rattle.model.proofs.RuleLaws.{refusedRule}
 
 -- the active partition, by the count that was read
 pub active-by : (r : LogRecord) (v : Reading) → v ≡ reading r → v .count % 3 ≡ active r
 unfolding readingOf
 active-by r v e = ap (λ (x : Reading). x .count % 3) e
+
+-- an offer that is refused before its append, with the rule of the refusal
+pub refused-by : (r : LogRecord) (log m : List ℕ) (reserved : ℤ) (e : Error) (x : Rule) → x ≡ refusedRule e → beforeAppend (reading r) (length log) (length m) Pass ≡ Refuse e
+    → (record { next = r; answer = Declined e; rule = x } ≡ offerOf r log m) × (log ≡ offerBytes r log m reserved)
+refused-by r log m reserved e x q h =
+    let law = refused-is r log m reserved e h in
+    (ap (λ (y : Rule). record { next = r; answer = Declined e; rule = y }) q ∙ law .0, law .1)
 
 module _ (r : LogRecord) (log m : List ℕ) (v : Reading) (k g : ℕ) (a : AppendReply) (ek : k ≡ active r) (ev : v ≡ reading r) (eg : g ≡ v .id)
     (ea : a ≡ appendReply r log k (v .mtu - 32) m g) where
@@ -29,12 +40,12 @@ module _ (r : LogRecord) (log m : List ℕ) (v : Reading) (k g : ℕ) (a : Appen
 
   -- an offer that nothing refuses before its append
   pub offer-by : (log′ : List ℕ) (reserved : ℤ) (z : ℕ) → z ≡ long reserved → beforeAppend v (length log) (length m) Pass ≡ Pass
-      → log′ ≡ appendBytes r log k (v .mtu - 32) m z g → (after v a ≡ offerOf r log m) × (log′ ≡ offerBytes r log m reserved)
+      → log′ ≡ appendBytes r log k (v .mtu - 32) m z g → (after v (length m) a ≡ offerOf r log m) × (log′ ≡ offerBytes r log m reserved)
   offer-by log′ reserved z ez h el =
       let law = offer-is r log m reserved (subst (λ (x : Reading). beforeAppend x (length log) (length m) Pass ≡ Pass) ev h) in
       let one : (u : Reading) (j : ℕ) → v ≡ u → k ≡ j → a ≡ appendReply r log j (payloadLimit u) m (u .id) = λ u j eu ej. cc in
       let two : (u : Reading) (j : ℕ) → v ≡ u → k ≡ j → log′ ≡ appendBytes r log j (payloadLimit u) m (long reserved) (u .id) = λ u j eu ej. cc in
-      (ap₂ after ev (one (reading r) (active r) ev ek) ∙ law .0, two (reading r) (active r) ev ek ∙ law .1)
+      (ap₂ (λ (x : Reading) (y : AppendReply). after x (length m) y) ev (one (reading r) (active r) ev ek) ∙ law .0, two (reading r) (active r) ev ek ∙ law .1)
 
   -- one that ends at an offset ends in its term
   pub end-by : (end : ℕ) → a .answer ≡ Offset end → end ≤ v .term

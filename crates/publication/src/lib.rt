@@ -10,6 +10,7 @@ ghost use Rattle.model.specs.Publication.{beforeAppend, tripNext, tripError, of
 ghost use Rattle.model.proofs.Sound.{Bounds};
 ghost use Rattle.model.proofs.Append.{appendReply, appendBytes, claimingReply, claimingBytes};
 ghost use Rattle.model.proofs.OfferLaws.{Turns};
+ghost use Rattle.model.proofs.RuleLaws.{tripRule};
 use logbuffer::cast;
 use logbuffer::data_frame_header::HEADER_LENGTH;
 use logbuffer::log_buffer_descriptor;
@@ -27,17 +28,20 @@ use model::LogRecord;
 use model::OfferReply;
 use model::Offered;
 use model::Reading;
+use model::Rule;
 use model::Verdict;
 
 mod judge;
 mod judge_claim;
 pub mod opening;
 pub mod positions;
+pub mod rule;
 
 // What an offer or a claim that tripped leaves and answers.
 struct Trip {
     next: LogRecord,
     error: Error,
+    rule: Rule,
 }
 
 // The term id of partition k's tail, as a rotation and a claim's record take it. Every index is a constant, so that the tails need not stand
@@ -59,7 +63,7 @@ fn own_term_id(rec: LogRecord, k: usize) -> i32
 // active term begins at `begin`.
 fn after_trip(next: LogRecord, v: Reading, begin: usize, count: i32, term_id: i32) -> Trip
     requires { ⌜ Bounds v × ((begin ≡ v .count * v .term) × Turns next v count «term_id») ⌝ }
-    ensures { λ r. ⌜ (r .next ≡ tripNext next v) × (r .error ≡ tripError v) ⌝ }
+    ensures { λ r. ⌜ (r .next ≡ tripNext next v) × ((r .error ≡ tripError v) × (r .rule ≡ tripRule v)) ⌝ }
 {
     let term = v.term;
     let active = v.count;
@@ -69,18 +73,21 @@ fn after_trip(next: LogRecord, v: Reading, begin: usize, count: i32, term_id: i3
         return Trip {
             next: next,
             error: Error::MaxPositionExceeded,
+            rule: Rule::TripPastMaxPosition,
         };
     }
     if id == 4294967295 {
         return Trip {
             next: next,
             error: Error::LastTerm,
+            rule: Rule::LastTerm,
         };
     }
     if active == 2147483647 {
         return Trip {
             next: next,
             error: Error::LastTerm,
+            rule: Rule::LastTerm,
         };
     }
     let turned = log_buffer_descriptor::rotate_log(next, count, term_id);
@@ -88,6 +95,7 @@ fn after_trip(next: LogRecord, v: Reading, begin: usize, count: i32, term_id: i3
     Trip {
         next: last,
         error: Error::AdminAction,
+        rule: Rule::TermRotated,
     }
 }
 
@@ -125,15 +133,8 @@ fn offer_on(rec: LogRecord, log: &mut [u8], v: Reading, message: &[u8], reserved
     let mtu = v.mtu;
     let count = v.count;
     let begin = judge::begin_position(v);
-    let a = append_message(
-        rec,
-        log,
-        v,
-        count % 3,
-        mtu - HEADER_LENGTH,
-        message,
-        reserved,
-    );
+    let payload = mtu - HEADER_LENGTH;
+    let a = append_message(rec, log, v, count % 3, payload, message, reserved);
     let answer = a.answer;
     let next = a.next;
     let Appended::Offset(end) = answer else {
@@ -142,19 +143,23 @@ fn offer_on(rec: LogRecord, log: &mut [u8], v: Reading, message: &[u8], reserved
             let t = after_trip(next, v, begin, rec.active_term_count, term_id);
             let last = t.next;
             let error = t.error;
+            let rule = t.rule;
             return OfferReply {
                 next: last,
                 answer: Offered::Refused(error),
+                rule: rule,
             };
         };
         return OfferReply {
             next: next,
             answer: Offered::Refused(e),
+            rule: rule::of_refusal(e),
         };
     };
     OfferReply {
         next: next,
         answer: Offered::Position((begin + end) as i64),
+        rule: rule::of_message(payload, message.len()),
     }
 }
 
@@ -168,6 +173,7 @@ pub fn offer(rec: LogRecord, log: &mut [u8], message: &[u8], reserved_value: i64
         Verdict::Refuse(e) => OfferReply {
             next: rec,
             answer: Offered::Refused(e),
+            rule: rule::of_refusal(e),
         },
         Verdict::Pass => offer_on(rec, log, v, message, reserved_value),
     }
@@ -216,19 +222,23 @@ fn claim_on(rec: LogRecord, log: &mut [u8], v: Reading, length: i32) -> ClaimRep
             let t = after_trip(next, v, begin, rec.active_term_count, term_id);
             let last = t.next;
             let error = t.error;
+            let rule = t.rule;
             return ClaimReply {
                 next: last,
                 answer: Claimed::Refused(error),
+                rule: rule,
             };
         };
         return ClaimReply {
             next: next,
             answer: Claimed::Refused(e),
+            rule: rule::of_refusal(e),
         };
     };
     ClaimReply {
         next: next,
         answer: Claimed::Position((begin + end) as i64, claim),
+        rule: Rule::Claimed,
     }
 }
 
@@ -241,6 +251,7 @@ pub fn try_claim(rec: LogRecord, log: &mut [u8], length: i32) -> ClaimReply
         return ClaimReply {
             next: rec,
             answer: Claimed::Refused(Error::IllegalArgument),
+            rule: Rule::IllegalArgument,
         };
     }
     let v = log_buffer_descriptor::read_active(rec);
@@ -248,6 +259,7 @@ pub fn try_claim(rec: LogRecord, log: &mut [u8], length: i32) -> ClaimReply
         Verdict::Refuse(e) => ClaimReply {
             next: rec,
             answer: Claimed::Refused(e),
+            rule: rule::of_refusal(e),
         },
         Verdict::Pass => claim_on(rec, log, v, length),
     }

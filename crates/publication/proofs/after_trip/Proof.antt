@@ -13,23 +13,23 @@ use Rattle.publication.proofs.after_trip.Statement.{statement}
 use Rattle.publication.proofs.after_trip.Tie as tie
 
 returns : tie.Need-returns
-returns c = let v = c .before .args .v in let h : greatest v < place v + v .offset = omega (arith, c .before .pre .1 .0, c .if1 .taken) in (trip-7 v _ _ _ h, trip-7 v _ _ _ h)
+returns c = let v = c .before .args .v in let h : greatest v < place v + v .offset = omega (arith, c .before .pre .1 .0, c .if1 .taken) in (trip-7 v _ _ _ h, (trip-7 v _ _ _ h, trip-7 v _ _ _ h))
 
 stays : (c : tie.Else1) → place (c .before .args .v) + c .before .args .v .offset ≤ greatest (c .before .args .v)
 stays c = omega (arith, c .before .pre .1 .0, c .if1 .left)
 
 returns-2 : tie.Need-returns-2
-returns-2 c = let v = c .before .before .args .v in let h = stays (c .before) in (trip-12-id v _ _ _ h (c .if2 .taken), trip-12-id v _ _ _ h (c .if2 .taken))
+returns-2 c = let v = c .before .before .args .v in let h = stays (c .before) in (trip-12-id v _ _ _ h (c .if2 .taken), (trip-12-id v _ _ _ h (c .if2 .taken), trip-12-id v _ _ _ h (c .if2 .taken)))
 
 returns-3 : tie.Need-returns-3
-returns-3 c = let v = c .before .before .before .args .v in let h = stays (c .before .before) in (trip-12-count v _ _ _ h (c .if3 .taken), trip-12-count v _ _ _ h (c .if3 .taken))
+returns-3 c = let v = c .before .before .before .args .v in let h = stays (c .before .before) in (trip-12-count v _ _ _ h (c .if3 .taken), (trip-12-count v _ _ _ h (c .if3 .taken), trip-12-count v _ _ _ h (c .if3 .taken)))
 
 returns-4 : tie.Need-returns-4
 returns-4 c = let s = c .before .before .before .before .before in
     let h = stays (c .before .before .before .before) in
     let l = not-last (s .args .v) (c .before .before .before .if2 .left) (c .before .before .if3 .left) in
     let t = c .before .rotate-log .ensures ∙ ap₂ (rotateLogOf (s .args .next)) (toZ-ofZ (s .fits .count)) (toZ-ofZ (s .fits .term-id)) ∙ s .pre .1 .1 l in
-    (ap (λ (x : RecordReply). x .next) t ∙ trip-6 (s .args .v) _ _ _ h l, trip-6 (s .args .v) _ _ _ h l)
+    (ap (λ (x : RecordReply). x .next) t ∙ trip-6 (s .args .v) _ _ _ h l, (trip-6 (s .args .v) _ _ _ h l, trip-6 (s .args .v) _ _ _ h l))
 
 pub after-trip-spec : {M : Type 1} → statement M
 after-trip-spec =

@@ -16,6 +16,8 @@ use Rattle.model.specs.declared.LogRecord.{LogRecord}
 use Rattle.model.specs.declared.Claim.{Claim}
 use Rattle.model.specs.declared.Reading.{Reading}
 use Rattle.model.specs.declared.Error.{Error}
+use Rattle.model.specs.declared.Rule.{Rule}
+use Rattle.model.specs.declared.Rule.the-variants.{Claimed as ByClaim}
 use Rattle.model.specs.declared.AppendedClaim.{AppendedClaim}
 use Rattle.model.specs.declared.AppendedClaim.the-variants.{Claimed, Tripped, Refused}
 use Rattle.model.specs.declared.ClaimReply.{ClaimReply}
@@ -37,6 +39,11 @@ neither : (a : AppendedClaim) → OneOf (1 ∷ 2 ∷ []) (tagOf the-type a) → 
 neither (Claimed o x) h k = absurd (⊎-elim (λ e. omega arith) (λ e. omega arith) h)
 neither Tripped h k = refl
 neither (Refused e) h k = absurd (⊎-elim (λ e. omega arith) (λ e. omega arith) k)
+
+-- a reply by its parts
+trip-reply : (n n′ : LogRecord) (e e′ : Error) (x x′ : Rule) → n ≡ n′ → e ≡ e′ → x ≡ x′
+    → _≡_ {A = ClaimReply} (record { next = n; answer = Declined e; rule = x }) (record { next = n′; answer = Declined e′; rule = x′ })
+trip-reply n n′ e e′ x x′ p q s = cc
 
 pass : (s : tie.Start) → Passed (s .args .v) (length (s .args .log .now)) (word (s .args .length))
 pass s = passed _ _ _ (s .pre .1)
@@ -110,25 +117,25 @@ returns c =
     let d = c .before .before .before .before .before .before .before .before in
     let a = c .before .before .before .before .before .before .before .before .before .before .before .before .before .before .args in
     let e = neither (d .claiming .result .answer) (c .before .before .before .before .match .keys2) (c .before .before .before .match2 .keys2) in (
-      ap₂ (λ (n : LogRecord) (x : Error). record { next = n; answer = Declined x }) (c .before .after-trip .ensures .0) (c .before .after-trip .ensures .1)
+      trip-reply _ _ _ _ _ _ (c .before .after-trip .ensures .0) (c .before .after-trip .ensures .1 .0) (c .before .after-trip .ensures .1 .1)
           ∙ sym (ap (afterBy (a .v) (d .claiming .result .next)) e) ∙ law d .0,
       law d .1,
     )
 
 returns-2 : tie.Need-returns-2
 returns-2 c =
-    let d = c .before .before .before .before .before .before .before in
-    let a = c .before .before .before .before .before .before .before .before .before .before .before .before .before .args in
-    (sym (ap (afterBy (a .v) (d .claiming .result .next)) (c .before .answer2 .given .1)) ∙ law d .0, law d .1)
+    let d = c .before .before .before .before .before .before .before .before in
+    let a = c .before .before .before .before .before .before .before .before .before .before .before .before .before .before .args in
+    (trip-reply _ _ _ _ _ _ refl refl (c .of-refusal .ensures) ∙ sym (ap (afterBy (a .v) (d .claiming .result .next)) (c .before .before .answer2 .given .1)) ∙ law d .0, law d .1)
 
 begin-position-requires : tie.Need-begin-position-requires
 begin-position-requires c κs = let s = c .before in (bounds _ _ (so s), so s .one-bit)
 
-add-t20 : tie.Need-add-t20
-add-t20 c = omega (arith, ends (c .before .before .before .before .before .before) _ _ (c .before .answer .given .1), c .before .before .before .before .before .before .before .before .before .before .begin-position .ensures)
+add-t21 : tie.Need-add-t21
+add-t21 c = omega (arith, ends (c .before .before .before .before .before .before) _ _ (c .before .answer .given .1), c .before .before .before .before .before .before .before .before .before .before .begin-position .ensures)
 
-cast-t23 : tie.Need-cast-t23
-cast-t23 c = record { sfits = omega (arith, ends (c .before .before .before .before .before .before) _ _ (c .before .answer .given .1), c .before .before .before .before .before .before .before .before .before .before .begin-position .ensures) }
+cast-t25 : tie.Need-cast-t25
+cast-t25 c = record { sfits = omega (arith, ends (c .before .before .before .before .before .before) _ _ (c .before .answer .given .1), c .before .before .before .before .before .before .before .before .before .before .begin-position .ensures) }
 
 returns-3 : tie.Need-returns-3
 returns-3 c =
@@ -136,7 +143,7 @@ returns-3 c =
     let a = c .before .before .before .before .before .before .before .before .before .before .before .before .args in
     let begin = c .before .before .before .before .before .before .before .before .before .before .begin-position .ensures in
     let end = c .before .answer .given .0 .0 in (
-      ap {B = ClaimReply} (λ (z : ℤ). record { next = d .claiming .result .next; answer = Position z (c .before .answer .given .0 .1 .0) }) (toZ-pos w64 (omega (arith, ends d _ _ (c .before .answer .given .1), begin)) ∙ ap (λ (x : ℕ). pos (x + end)) begin)
+      ap {B = ClaimReply} (λ (z : ℤ). record { next = d .claiming .result .next; answer = Position z (c .before .answer .given .0 .1 .0); rule = ByClaim }) (toZ-pos w64 (omega (arith, ends d _ _ (c .before .answer .given .1), begin)) ∙ ap (λ (x : ℕ). pos (x + end)) begin)
           ∙ sym (ap (afterBy (a .v) (d .claiming .result .next)) (c .before .answer .given .1)) ∙ law d .0,
       law d .1,
     )
@@ -155,8 +162,9 @@ claim-on-spec =
     (search needs)
     returns
     (search needs)
+    (search needs)
     returns-2
-    add-t20
-    cast-t23
+    add-t21
+    cast-t25
     (search needs)
     returns-3)

@@ -1,5 +1,5 @@
 -- Refused before the append, or `offer_on`.
-use Rattle.model.proofs.OfferLaws.{refused-is}
+use Rattle.publication.proofs.OfferBy.{refused-by}
 use Rattle.model.proofs.Sound.{initial-small}
 use Rattle.model.specs.Publication.{beforeAppend, offerBytes}
 use Rattle.model.specs.declared.Verdict.the-variants.{Pass}
@@ -19,9 +19,9 @@ offer-on-requires : tie.Need-offer-on-requires
 offer-on-requires c κs = (c .before .before .before .before .read-active .ensures, sym (c .before .before .before .before-offer .ensures) ∙ c .before .enum-told .given .1)
 
 returns : tie.Need-returns
-returns c = let a = c .before .before .before .before .before .before .before .args in
-    refused-is (a .rec) (a .log .now) (a .message .now) (a .reserved-value) _
-    (ap (λ (x : Reading). beforeAppend x (length (a .log .now)) (length (a .message .now)) Pass) (sym (c .before .before .before .before .read-active .ensures)) ∙ sym (c .before .before .before .before-offer .ensures) ∙ c .before .e .given .1)
+returns c = let a = c .before .before .before .before .before .before .before .before .args in
+    refused-by (a .rec) (a .log .now) (a .message .now) (a .reserved-value) _ _ (c .of-refusal .ensures)
+    (ap (λ (x : Reading). beforeAppend x (length (a .log .now)) (length (a .message .now)) Pass) (sym (c .before .before .before .before .before .read-active .ensures)) ∙ sym (c .before .before .before .before .before-offer .ensures) ∙ c .before .before .e .given .1)
 
 returns-2 : tie.Need-returns-2
 returns-2 c = let s = c .before .before .before .before .before .before .before .before .before .before in
@@ -33,6 +33,7 @@ offer-spec =
     (tie.spec
     (search needs)
     before-offer-requires
+    (search needs)
     (search needs)
     (search needs)
     offer-on-requires

@@ -15,6 +15,7 @@ use Rattle.model.proofs.Appended.{the-type}
 use Rattle.model.specs.declared.LogRecord.{LogRecord}
 use Rattle.model.specs.declared.Reading.{Reading}
 use Rattle.model.specs.declared.Error.{Error}
+use Rattle.model.specs.declared.Rule.{Rule}
 use Rattle.model.specs.declared.Appended.{Appended}
 use Rattle.model.specs.declared.Appended.the-variants.{Offset, Tripped, Refused}
 use Rattle.model.specs.declared.OfferReply.{OfferReply}
@@ -44,12 +45,17 @@ so s = sound-true _ _ (pass s .is-sound)
 part : (s : tie.Start) → s .args .v .count % 3 ≡ active (s .args .rec)
 part s = active-by (s .args .rec) (s .args .v) (s .pre .0)
 
+-- a reply by its parts
+trip-reply : (n n′ : LogRecord) (e e′ : Error) (x x′ : Rule) → n ≡ n′ → e ≡ e′ → x ≡ x′
+    → _≡_ {A = OfferReply} (record { next = n; answer = Declined e; rule = x }) (record { next = n′; answer = Declined e′; rule = x′ })
+trip-reply n n′ e e′ x x′ p q s = cc
+
 -- what the append leads to
 module _ (c : tie.After-append-message) where
   abbrev start : tie.Start
   start = c .before .before .before .before .before
 
-  law : (after (start .args .v) (c .append-message .result) ≡ offerOf (start .args .rec) (start .args .log .now) (start .args .message .now))
+  law : (after (start .args .v) (length (start .args .message .now)) (c .append-message .result) ≡ offerOf (start .args .rec) (start .args .log .now) (start .args .message .now))
       × (c .append-message .last .1 .0 ≡ offerBytes (start .args .rec) (start .args .log .now) (start .args .message .now) (start .args .reserved))
   law =
       let a = start .args in
@@ -66,8 +72,8 @@ module _ (c : tie.After-append-message) where
         so start,
       )
 
-sub-append-message : tie.Need-sub-append-message
-sub-append-message c = omega (arith, so (c .before .before .before .before) .mtu-low)
+sub-payload : tie.Need-sub-payload
+sub-payload c = omega (arith, so (c .before .before .before) .mtu-low)
 
 append-message-requires : tie.Need-append-message-requires
 append-message-requires c κs = let s = c .before .before .before .before in (s .pre .0 ∙ ap (readingOf (s .args .rec)) (sym (part s)), (omega arith, (omega (arith, so s .mtu-low), (omega (arith, so s .mtu-high), (omega (arith, so s .mtu-32, so s .mtu-low), pass s .short)))))
@@ -99,34 +105,34 @@ returns c =
     let d = c .before .before .before .before .before .before .before .before .before in
     let a = c .before .before .before .before .before .before .before .before .before .before .before .before .before .before .args in
     let e = neither (d .append-message .result .answer) (c .before .before .before .before .before .match .keys2) (c .before .before .before .before .match2 .keys2) in (
-      ap₂ (λ (n : LogRecord) (x : Error). record { next = n; answer = Declined x }) (c .before .after-trip .ensures .0) (c .before .after-trip .ensures .1)
-          ∙ sym (ap (afterBy (a .v) (d .append-message .result .next)) e) ∙ law d .0,
+      trip-reply _ _ _ _ _ _ (c .before .after-trip .ensures .0) (c .before .after-trip .ensures .1 .0) (c .before .after-trip .ensures .1 .1)
+          ∙ sym (ap (afterBy (a .v) (length (a .message .now)) (d .append-message .result .next)) e) ∙ law d .0,
       law d .1,
     )
 
 returns-2 : tie.Need-returns-2
 returns-2 c =
-    let d = c .before .before .before .before .before .before .before in
-    let a = c .before .before .before .before .before .before .before .before .before .before .before .before .args in
-    (sym (ap (afterBy (a .v) (d .append-message .result .next)) (c .before .answer2 .given .1)) ∙ law d .0, law d .1)
+    let d = c .before .before .before .before .before .before .before .before in
+    let a = c .before .before .before .before .before .before .before .before .before .before .before .before .before .args in
+    (trip-reply _ _ _ _ _ _ refl refl (c .of-refusal .ensures) ∙ sym (ap (afterBy (a .v) (length (a .message .now)) (d .append-message .result .next)) (c .before .before .answer2 .given .1)) ∙ law d .0, law d .1)
 
 begin-position-requires : tie.Need-begin-position-requires
 begin-position-requires c κs = let s = c .before .before in (bounds _ _ (so s), so s .one-bit)
 
-add-t20 : tie.Need-add-t20
-add-t20 c = omega (arith, ends (c .before .before .before .before .before .before) _ (c .before .answer .given .1), c .before .before .before .before .before .before .before .before .begin-position .ensures)
+add-t22 : tie.Need-add-t22
+add-t22 c = omega (arith, ends (c .before .before .before .before .before .before) _ (c .before .answer .given .1), c .before .before .before .before .before .before .before .before .begin-position .ensures)
 
-cast-t25 : tie.Need-cast-t25
-cast-t25 c = record { sfits = omega (arith, ends (c .before .before .before .before .before .before) _ (c .before .answer .given .1), c .before .before .before .before .before .before .before .before .begin-position .ensures) }
+cast-t27 : tie.Need-cast-t27
+cast-t27 c = record { sfits = omega (arith, ends (c .before .before .before .before .before .before) _ (c .before .answer .given .1), c .before .before .before .before .before .before .before .before .begin-position .ensures) }
 
 returns-3 : tie.Need-returns-3
 returns-3 c =
-    let d = c .before .before .before .before .before .before in
-    let a = c .before .before .before .before .before .before .before .before .before .before .before .args in
-    let begin = c .before .before .before .before .before .before .before .before .begin-position .ensures in
-    let end = c .before .answer .given .0 .0 in (
-      ap {B = OfferReply} (λ (z : ℤ). record { next = d .append-message .result .next; answer = Position z }) (toZ-pos w64 (omega (arith, ends d _ (c .before .answer .given .1), begin)) ∙ ap (λ (x : ℕ). pos (x + end)) begin)
-          ∙ sym (ap (afterBy (a .v) (d .append-message .result .next)) (c .before .answer .given .1)) ∙ law d .0,
+    let d = c .before .before .before .before .before .before .before in
+    let a = c .before .before .before .before .before .before .before .before .before .before .before .before .args in
+    let begin = c .before .before .before .before .before .before .before .before .before .begin-position .ensures in
+    let end = c .before .before .answer .given .0 .0 in (
+      ap₂ {C = OfferReply} (λ (z : ℤ) (x : Rule). record { next = d .append-message .result .next; answer = Position z; rule = x }) (toZ-pos w64 (omega (arith, ends d _ (c .before .before .answer .given .1), begin)) ∙ ap (λ (x : ℕ). pos (x + end)) begin) (c .of-message .ensures)
+          ∙ sym (ap (afterBy (a .v) (length (a .message .now)) (d .append-message .result .next)) (c .before .before .answer .given .1)) ∙ law d .0,
       law d .1,
     )
 
@@ -135,7 +141,7 @@ offer-on-spec =
     tie.close
     (tie.spec
     begin-position-requires
-    sub-append-message
+    sub-payload
     append-message-requires
     (search needs)
     (search needs)
@@ -144,8 +150,10 @@ offer-on-spec =
     (search needs)
     returns
     (search needs)
+    (search needs)
     returns-2
-    add-t20
-    cast-t25
+    add-t22
+    cast-t27
+    (search needs)
     (search needs)
     returns-3)

@@ -11,7 +11,8 @@ use mir.Facts.{toZ-ofZ}
 use lib.ListN.{length}
 use Prim.Native.Nat.{ℕ, _<_}
 use native.Mathlib.Omega.{arith}
-use mathlib.Core.Path.{sym, ap, ap₂, subst, _∙_}
+use Rattle.model.specs.declared.Rule.the-variants.{IllegalArgument as ByArgument}
+use mathlib.Core.Path.{refl, sym, ap, ap₂, subst, _∙_}
 use borrow.Author.Needs.{needs}
 use Rattle.publication.proofs.try_claim.Statement.{statement}
 use Rattle.publication.proofs.try_claim.Tie as tie
@@ -19,7 +20,7 @@ use Rattle.publication.proofs.try_claim.Tie as tie
 returns : tie.Need-returns
 returns c = let s = c .before .before in
     let below = negative (s .args .length) (s .fits .length) (c .if1 .taken) in
-    claim-refused (s .args .rec) (s .args .log .now) (s .args .length) IllegalArgument (sym (claim-1 _ _ _ (omega arith)))
+    claim-refused (s .args .rec) (s .args .log .now) (s .args .length) IllegalArgument ByArgument refl (sym (claim-1 _ _ _ (omega arith)))
 
 cast-before-claim : tie.Need-cast-before-claim
 cast-before-claim c = let s = c .before .before .before in length-casts (s .args .length) (s .fits .length) (c .before .if1 .left)
@@ -35,10 +36,10 @@ claim-on-requires c κs = let s = c .before .before .before .before .before .bef
 )
 
 returns-2 : tie.Need-returns-2
-returns-2 c = let s = c .before .before .before .before .before .before .before in
-    claim-refused (s .args .rec) (s .args .log .now) (s .args .length) _
-    (ap₂ (λ (x : Reading) (n : ℕ). claimVerdict x (length (s .args .log .now)) n) (sym (c .before .before .before .before .read-active .ensures)) (sym (length-bits (s .args .length) (s .fits .length) (c .before .before .before .before .before .if1 .left)))
-    ∙ sym (c .before .before .before .before-claim .ensures) ∙ c .before .e .given .1)
+returns-2 c = let s = c .before .before .before .before .before .before .before .before in
+    claim-refused (s .args .rec) (s .args .log .now) (s .args .length) _ _ (c .of-refusal .ensures)
+    (ap₂ (λ (x : Reading) (n : ℕ). claimVerdict x (length (s .args .log .now)) n) (sym (c .before .before .before .before .before .read-active .ensures)) (sym (length-bits (s .args .length) (s .fits .length) (c .before .before .before .before .before .before .if1 .left)))
+    ∙ sym (c .before .before .before .before .before-claim .ensures) ∙ c .before .before .e .given .1)
 
 returns-3 : tie.Need-returns-3
 returns-3 c = let s = c .before .before .before .before .before .before .before .before .before .before in
@@ -53,6 +54,7 @@ try-claim-spec =
     (search needs)
     cast-before-claim
     before-claim-requires
+    (search needs)
     (search needs)
     (search needs)
     claim-on-requires
