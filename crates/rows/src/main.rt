@@ -1,6 +1,8 @@
 // Document 01's small inputs, one for each refusal that the calls of `logbuffer` and `publication` can give, and the marked positions
-// that are no theorems. A line for each: the call, its number (0: none), its position or value, and the active term count after it.
+// that are no theorems; and of R-10 of document 02 a small input for each rule that decides an offer or a claim. A line for each: the call, its number (0:
+// none), its position or value, the active term count after it, and the rule.
 mod print;
+mod rules;
 
 use logbuffer::buffer_claim;
 use logbuffer::term_appender;
@@ -133,6 +135,34 @@ fn last_terms() {
     );
 }
 
+// The rules that have no row of their own: 2 of an offer, 6 by a count out of step though the term is full, 7 after a trip, and one frame.
+fn rules_beside() {
+    let mut log = [0u8; 196608];
+    let message = [5u8; 64];
+    let mut unsound = fresh(&mut log);
+    unsound.mtu_length = 65;
+    print::offered(
+        b"offer, mtu 65",
+        publication::offer(unsound, &mut log, &message, 0),
+    );
+    let ahead = with_tail(fresh(&mut log), 34359803840);
+    print::offered(
+        b"offer 64 at 65472, id 8 and count 0",
+        publication::offer(ahead, &mut log, &message, 0),
+    );
+    let mut last = fresh(&mut log);
+    last.initial_term_id = -2147483646;
+    last.active_term_count = 2147483647;
+    last.publication_limit = 4611686018427387904;
+    last.tails[1] = 4295032768;
+    print::offered(
+        b"offer 64 at 65472, last term",
+        publication::offer(last, &mut log, &message, 0),
+    );
+    let rec = fresh(&mut log);
+    print::offered(b"offer 64", publication::offer(rec, &mut log, &message, 0));
+}
+
 // Row 13: an appender given another term id.
 fn leaves() {
     let mut log = [0u8; 196608];
@@ -184,6 +214,7 @@ fn main() {
     claims();
     offers();
     last_terms();
+    rules_beside();
     leaves();
     bad_frames();
 }

@@ -1,4 +1,6 @@
-// A line for an answer: its call, its number, its value, and the active term count of the record after it. The value of a frame that is refused is its place.
+// A line for an answer: its call, its number, its value, and the active term count of the record after it; of an offer or a claim also the rule that
+// decided. The value of a frame that is refused is its place.
+use crate::rules;
 use logbuffer::cast;
 use logbuffer::errors;
 use model::AppendReply;
@@ -13,10 +15,11 @@ use model::OfferReply;
 use model::Offered;
 use model::Outcome;
 use model::RecordReply;
+use model::Rule;
 use model::Scanned;
 use model::TermRead;
 
-fn line(name: &[u8], number: usize, value: usize, rec: LogRecord) {
+fn head(name: &[u8], number: usize, value: usize, rec: LogRecord) {
     io::write_all(1, name);
     io::write_all(1, b": number ");
     io::print_decimal(1, number as u64);
@@ -24,6 +27,16 @@ fn line(name: &[u8], number: usize, value: usize, rec: LogRecord) {
     io::print_decimal(1, value as u64);
     io::write_all(1, b", count ");
     io::print_decimal(1, cast::word(rec.active_term_count) as u64);
+}
+
+fn line(name: &[u8], number: usize, value: usize, rec: LogRecord) {
+    head(name, number, value, rec);
+    io::write_all(1, b"\n");
+}
+
+fn by_rule(name: &[u8], number: usize, value: usize, rec: LogRecord, rule: Rule) {
+    head(name, number, value, rec);
+    rules::decided(rule);
     io::write_all(1, b"\n");
 }
 
@@ -39,18 +52,20 @@ fn refused(name: &[u8], e: Error, rec: LogRecord) {
 pub fn offered(name: &[u8], reply: OfferReply) {
     let rec = reply.next;
     let answer = reply.answer;
+    let rule = reply.rule;
     match answer {
-        Offered::Position(p) => line(name, 0, cast::long(p), rec),
-        Offered::Refused(e) => refused(name, e, rec),
+        Offered::Position(p) => by_rule(name, 0, cast::long(p), rec, rule),
+        Offered::Refused(e) => by_rule(name, cast::word(errors::number(e)), 0, rec, rule),
     }
 }
 
 pub fn claimed(name: &[u8], reply: ClaimReply) {
     let rec = reply.next;
     let answer = reply.answer;
+    let rule = reply.rule;
     match answer {
-        Claimed::Position(p, _) => line(name, 0, cast::long(p), rec),
-        Claimed::Refused(e) => refused(name, e, rec),
+        Claimed::Position(p, _) => by_rule(name, 0, cast::long(p), rec, rule),
+        Claimed::Refused(e) => by_rule(name, cast::word(errors::number(e)), 0, rec, rule),
     }
 }
 
