@@ -25,7 +25,8 @@ mod c {
         };
     }
     reply!(PositionReply { code: i32, position: i64 });
-    reply!(ClaimReply { code: i32, position: i64, claim: Claim });
+    reply!(OfferReply { code: i32, rule: u32, position: i64 });
+    reply!(ClaimReply { code: i32, rule: u32, position: i64, claim: Claim });
     reply!(SpanReply { code: i32, start: usize, length: usize });
     reply!(AppendReply { code: i32, is_tripped: bool, offset: usize });
     reply!(AppendClaimReply { code: i32, is_tripped: bool, offset: usize, claim: Claim });
@@ -67,7 +68,7 @@ mod c {
         pub fn logbuffer_index_by_position(position: u64, bits: u32) -> usize;
         pub fn logbuffer_position_bits_to_shift(term_length: u32) -> u32;
         pub fn logbuffer_compute_position(term_id: i32, offset: u32, bits: u32, initial: i32) -> PositionReply;
-        pub fn logbuffer_offer(rec: *mut Record, log: Out, n: usize, message: In, length: usize, reserved: i64) -> PositionReply;
+        pub fn logbuffer_offer(rec: *mut Record, log: Out, n: usize, message: In, length: usize, reserved: i64) -> OfferReply;
         pub fn logbuffer_try_claim(rec: *mut Record, log: Out, n: usize, length: i32) -> ClaimReply;
         pub fn logbuffer_claim_body(rec: *const Record, log: In, n: usize, claim: Claim) -> SpanReply;
         pub fn logbuffer_claim_body_number(rec: *const Record, log: In, n: usize, claim: Claim) -> i32;

@@ -123,7 +123,8 @@ macro_rules! replies {
 
 replies! {
     PositionReply { code: i32, position: i64 }
-    ClaimReply { code: i32, position: i64, claim: Claim }
+    OfferReply { code: i32, rule: u32, position: i64 }
+    ClaimReply { code: i32, rule: u32, position: i64, claim: Claim }
     SpanReply { code: i32, start: usize, length: usize }
     AppendReply { code: i32, is_tripped: bool, offset: usize }
     AppendClaimReply { code: i32, is_tripped: bool, offset: usize, claim: Claim }
@@ -188,7 +189,7 @@ mod face {
         ) -> i32;
         pub fn logbuffer_offer(
             rec: &mut Record, log: Out, log_length: usize, message: In, message_length: usize, reserved_value: i64,
-        ) -> PositionReply;
+        ) -> OfferReply;
         pub fn logbuffer_try_claim(rec: &mut Record, log: Out, log_length: usize, length: i32) -> ClaimReply;
         pub fn logbuffer_claim_body(rec: &Record, log: In, log_length: usize, claim: Claim) -> SpanReply;
         pub fn logbuffer_claim_body_number(rec: &Record, log: In, log_length: usize, claim: Claim) -> i32;
@@ -323,7 +324,7 @@ pub fn replay_new(session_id: i32) -> Replay {
     replay
 }
 
-pub fn offer(rec: &mut Record, log: &mut [u8], message: &[u8], reserved_value: i64) -> PositionReply {
+pub fn offer(rec: &mut Record, log: &mut [u8], message: &[u8], reserved_value: i64) -> OfferReply {
     // SAFETY: pointers and lengths are those of the slices.
     unsafe { face::logbuffer_offer(rec, log.as_mut_ptr(), log.len(), message.as_ptr(), message.len(), reserved_value) }
 }

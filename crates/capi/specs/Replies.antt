@@ -5,6 +5,7 @@ use mathlib.Core.Bool.{Bool, true, false}
 use lib.Dec.{ltb}
 use lib.IntN.{ℤ, pos, negsuc}
 use lib.ListN.{getD, length}
+use Rattle.model.specs.Rule.{rulePlace}
 use Rattle.model.specs.Answers.{Told, outcomeTold, positionedTold, offeredTold, claimedTold, locatedTold, appendedTold, appendedClaimTold, headerTold, lengthReadTold, readTold, scannedTold, gapTold, availabilityTold, polledTold, peekedTold, blockTold, endTold, assembledTold, replayedTold}
 use Rattle.model.specs.Errors.{numberOf, placeOf}
 use Rattle.model.specs.TermReader.{natural}
@@ -13,6 +14,7 @@ use Rattle.model.specs.declared.HeaderFields.{HeaderFields}
 use Rattle.model.specs.declared.Outcome.{Outcome}
 use Rattle.model.specs.declared.Positioned.{Positioned}
 use Rattle.model.specs.declared.Offered.{Offered}
+use Rattle.model.specs.declared.Rule.{Rule}
 use Rattle.model.specs.declared.Claimed.{Claimed}
 use Rattle.model.specs.declared.Located.{Located}
 use Rattle.model.specs.declared.Appended.{Appended}
@@ -35,6 +37,7 @@ use Rattle.replay.specs.declared.Counted.{Counted}
 use Rattle.replay.specs.declared.Counted.the-variants.{Counts, Refused as CountRefused}
 use Rattle.capi.specs.Words.{claimWords}
 use Rattle.capi.specs.declared.replies.PositionReply.{PositionReply}
+use Rattle.capi.specs.declared.replies.OfferReply.{OfferReply}
 use Rattle.capi.specs.declared.replies.ClaimReply.{ClaimReply}
 use Rattle.capi.specs.declared.replies.SpanReply.{SpanReply}
 use Rattle.capi.specs.declared.replies.AppendReply.{AppendReply}
@@ -85,15 +88,16 @@ positionReply a = record { code = positionedTold a .number; position = value 0 (
 
 -- ---- writing
 
-abbrev pub offerReply : Offered → PositionReply
-offerReply a = record { code = offeredTold a .number; position = value 0 (offeredTold a) }
+-- the rule by its place in the order (R-10 of document 02)
+abbrev pub offerReply : Offered → Rule → OfferReply
+offerReply a x = record { code = offeredTold a .number; rule = rulePlace x; position = value 0 (offeredTold a) }
 
 -- a claim's record after a first value
 abbrev pub claimAt : Told → Claim
 claimAt t = record { partition = value 1 t; offset = value 2 t; length = value 3 t; «term_id» = value 4 t }
 
-abbrev pub claimReply : Claimed → ClaimReply
-claimReply a = record { code = claimedTold a .number; position = value 0 (claimedTold a); claim = claimWords (claimAt (claimedTold a)) }
+abbrev pub claimReply : Claimed → Rule → ClaimReply
+claimReply a x = record { code = claimedTold a .number; rule = rulePlace x; position = value 0 (claimedTold a); claim = claimWords (claimAt (claimedTold a)) }
 
 -- a part of the log by its first index and its length
 abbrev pub spanReply : Located → SpanReply

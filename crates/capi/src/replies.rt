@@ -29,8 +29,10 @@ use model::Peeked;
 use model::Polled;
 use model::Positioned;
 use model::Replayed;
+use model::Rule;
 use model::Scanned;
 use model::TermRead;
+use publication::rule;
 use replay::Counted;
 
 #[repr(C)]
@@ -40,8 +42,16 @@ pub struct PositionReply {
 }
 
 #[repr(C)]
+pub struct OfferReply {
+    pub code: i32,
+    pub rule: u32,
+    pub position: i64,
+}
+
+#[repr(C)]
 pub struct ClaimReply {
     pub code: i32,
+    pub rule: u32,
     pub position: i64,
     pub claim: [i64; 2],
 }
@@ -195,32 +205,38 @@ pub fn positioned(answer: Positioned) -> PositionReply
     }
 }
 
-pub fn offered(answer: Offered) -> PositionReply
-    ensures { λ r. ⌜ r ≡ offerReply answer ⌝ }
+pub fn offered(answer: Offered, rule: Rule) -> OfferReply
+    ensures { λ r. ⌜ r ≡ offerReply answer rule ⌝ }
 {
+    let place = rule::place(rule);
     match answer {
-        Offered::Position(p) => PositionReply {
+        Offered::Position(p) => OfferReply {
             code: 0,
+            rule: place,
             position: p,
         },
-        Offered::Refused(e) => PositionReply {
+        Offered::Refused(e) => OfferReply {
             code: errors::number(e),
+            rule: place,
             position: 0,
         },
     }
 }
 
-pub fn claimed(answer: Claimed) -> ClaimReply
-    ensures { λ r. ⌜ r ≡ claimReply answer ⌝ }
+pub fn claimed(answer: Claimed, rule: Rule) -> ClaimReply
+    ensures { λ r. ⌜ r ≡ claimReply answer rule ⌝ }
 {
+    let place = rule::place(rule);
     match answer {
         Claimed::Position(p, claim) => ClaimReply {
             code: 0,
+            rule: place,
             position: p,
             claim: words::claim_words(claim),
         },
         Claimed::Refused(e) => ClaimReply {
             code: errors::number(e),
+            rule: place,
             position: 0,
             claim: [0; 2],
         },

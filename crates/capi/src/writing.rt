@@ -12,6 +12,7 @@ use crate::replies;
 use crate::replies::AppendClaimReply;
 use crate::replies::AppendReply;
 use crate::replies::ClaimReply;
+use crate::replies::OfferReply;
 use crate::replies::PositionReply;
 use crate::replies::SpanReply;
 use crate::words;
@@ -121,16 +122,17 @@ pub extern "C" fn logbuffer_offer(
     log: &mut [u8],
     message: &[u8],
     reserved_value: i64,
-) -> PositionReply
-    ensures { λ r. ⌜ r ≡ offerReply (offerOf (recordIn (now (rec .entry))) (now (log .entry)) (now (message .entry)) .answer) ⌝ }
+) -> OfferReply
+    ensures { λ r. ⌜ r ≡ offerReply (offerOf (recordIn (now (rec .entry))) (now (log .entry)) (now (message .entry)) .answer) (offerOf (recordIn (now (rec .entry))) (now (log .entry)) (now (message .entry)) .rule) ⌝ }
     ensures { λ _. ⌜ now (rec .exit) ≡ recordOut (now (rec .entry)) (offerOf (recordIn (now (rec .entry))) (now (log .entry)) (now (message .entry)) .next) ⌝ }
     ensures { λ _. ⌜ now (log .exit) ≡ offerBytes (recordIn (now (rec .entry))) (now (log .entry)) (now (message .entry)) «reserved_value» ⌝ }
 {
     let o = publication::offer(words::record_in(rec), log, message, reserved_value);
     let next = o.next;
     let answer = o.answer;
+    let rule = o.rule;
     words::record_out(rec, next);
-    replies::offered(answer)
+    replies::offered(answer, rule)
 }
 
 #[no_mangle]
@@ -139,15 +141,16 @@ pub extern "C" fn logbuffer_try_claim(
     log: &mut [u8],
     length: i32,
 ) -> ClaimReply
-    ensures { λ r. ⌜ r ≡ claimReply (claimOf (recordIn (now (rec .entry))) (now (log .entry)) length .answer) ⌝ }
+    ensures { λ r. ⌜ r ≡ claimReply (claimOf (recordIn (now (rec .entry))) (now (log .entry)) length .answer) (claimOf (recordIn (now (rec .entry))) (now (log .entry)) length .rule) ⌝ }
     ensures { λ _. ⌜ now (rec .exit) ≡ recordOut (now (rec .entry)) (claimOf (recordIn (now (rec .entry))) (now (log .entry)) length .next) ⌝ }
     ensures { λ _. ⌜ now (log .exit) ≡ claimBytes (recordIn (now (rec .entry))) (now (log .entry)) length ⌝ }
 {
     let o = publication::try_claim(words::record_in(rec), log, length);
     let next = o.next;
     let answer = o.answer;
+    let rule = o.rule;
     words::record_out(rec, next);
-    replies::claimed(answer)
+    replies::claimed(answer, rule)
 }
 
 #[no_mangle]

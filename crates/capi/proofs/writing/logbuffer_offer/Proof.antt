@@ -19,7 +19,7 @@ returns c =
     let f = c .before .before .before .before .before .before .offer .ensures in
     let q0 = of-1 (λ (r : LogRecord). offerOf r (a .log .now) (a .message .now)) (f .0) (c .before .before .before .before .before .before .before .before .record-in .ensures) in
     let q1 = of-2 (λ (r : LogRecord) (y : ℤ). offerBytes r (a .log .now) (a .message .now) y) (f .1) (c .before .before .before .before .before .before .before .before .record-in .ensures) (toZ-ofZ (s .fits .reserved-value)) in
-    (c .offered .ensures ∙ ap (λ (o : OfferReply). offerReply (o .answer)) q0, (c .before .record-out .ensures ∙ ap (λ (o : OfferReply). recordOut (a .rec .now) (o .next)) q0, q1))
+    (c .offered .ensures ∙ ap (λ (o : OfferReply). offerReply (o .answer) (o .rule)) q0, (c .before .record-out .ensures ∙ ap (λ (o : OfferReply). recordOut (a .rec .now) (o .next)) q0, q1))
 
 pub logbuffer-offer-spec : {M : Type 1} → statement M
 logbuffer-offer-spec =

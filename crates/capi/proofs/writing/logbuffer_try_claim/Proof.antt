@@ -19,7 +19,7 @@ returns c =
     let f = c .before .before .before .before .before .before .try-claim .ensures in
     let q0 = of-2 (λ (r : LogRecord) (y : ℤ). claimOf r (a .log .now) y) (f .0) (c .before .before .before .before .before .before .before .before .record-in .ensures) (toZ-ofZ (s .fits .length)) in
     let q1 = of-2 (λ (r : LogRecord) (y : ℤ). claimBytes r (a .log .now) y) (f .1) (c .before .before .before .before .before .before .before .before .record-in .ensures) (toZ-ofZ (s .fits .length)) in
-    (c .claimed .ensures ∙ ap (λ (o : ClaimReply). claimReply (o .answer)) q0, (c .before .record-out .ensures ∙ ap (λ (o : ClaimReply). recordOut (a .rec .now) (o .next)) q0, q1))
+    (c .claimed .ensures ∙ ap (λ (o : ClaimReply). claimReply (o .answer) (o .rule)) q0, (c .before .record-out .ensures ∙ ap (λ (o : ClaimReply). recordOut (a .rec .now) (o .next)) q0, q1))
 
 pub logbuffer-try-claim-spec : {M : Type 1} → statement M
 logbuffer-try-claim-spec =
