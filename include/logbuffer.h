@@ -10,7 +10,7 @@
  * - A slice is a pointer and a count of elements. The pointer must be valid for so many elements, and nothing that is written, slice or struct,
  *   may overlap anything else of the same call. Nothing else is asked: any number and any bytes may be handed in; a bool is yes unless its byte is 0.
  * - `code` is 0, or the number of the refusal below. Where it is not 0 the other values of a reply are 0, and what was lent by a pointer
- *   is as it was, every byte of it, unless the refusal's line or the call's says otherwise.
+ *   is as it was, every byte of it, unless the refusal's line or the call's says otherwise. Only `rule` of an offer or a claim always stands.
  * - With 22 and 23 a reply tells the place of the frame, its offset in its term: in `offset` of a read, a scan, a gap scan and a block, in `outcome`
  *   of an availability scan, in `fragments` of a poll, in `position` of a peek, in `start` of the assembler and a replay, in `messages` of a count.
  *
@@ -20,8 +20,9 @@
  *    3  the image's position is out of its range      12  tripped in the last term (tail and padding stay)
  *    4  claim longer than the payload limit           13  appender: the tail has another term id (the tail has moved)
  *    5  the publication is closed                     14  the header does not show the open claim
- *    6  term count and id differ; or tripped and      15  new position before the current one or past the term's end
- *       rotated: call again (tail, padding, rotation stay)
+ *    6  tripped and rotated: call again (tail,        15  new position before the current one or past the term's end
+ *       padding, rotation stay); or count and id
+ *       differ: not this log's record (`rule` tells)
  *    7  the greatest position is reached (after a     16  new position not a multiple of 32
  *       trip, tail and padding stay)
  *    8  back pressure: the limit is reached           17  retired: no call answers it
@@ -39,7 +40,7 @@
  *   struct logbuffer_replay replay;
  *   logbuffer_open(&rec, bytes, sizeof bytes, 65536, 1408, 7, 11, 22); // answers 0
  *   logbuffer_set_publication_limit(&rec, 2 * 65536); // two terms ahead of the slowest reader, here at 0
- *   struct logbuffer_position_reply o = logbuffer_offer(&rec, bytes, sizeof bytes, (const uint8_t *)"coin", 4, 0);
+ *   struct logbuffer_offer_reply o = logbuffer_offer(&rec, bytes, sizeof bytes, (const uint8_t *)"coin", 4, 0);
  *   // o.code is 0, o.position 64, and the record's first tail has moved
  *   logbuffer_replay_new(&replay, 11);
  *   struct logbuffer_next_reply n = logbuffer_replay_next(&replay, &rec, bytes, sizeof bytes, buffer, sizeof buffer);
@@ -138,6 +139,27 @@ enum { LOGBUFFER_NOTHING = 0, LOGBUFFER_IN_LOG = 1, LOGBUFFER_IN_BUFFER = 2 };
 /* What a frame's length says of its place: nothing is written; a claim, or an offer that broke off, is not finished; a finished frame. */
 enum { LOGBUFFER_FREE = 0, LOGBUFFER_WRITING = 1, LOGBUFFER_FINISHED = 2 };
 
+/* Which check decided an offer or a claim: the first in this order that applies. 6 and 7 come by two rules each. Up to TAIL_OVERFLOW nothing has
+ * changed; from TRIP_PAST_MAX_POSITION on the tail has moved. */
+enum {
+    LOGBUFFER_RULE_ILLEGAL_ARGUMENT = 1,            /* 1: mend the argument */
+    LOGBUFFER_RULE_ILLEGAL_RECORD = 2,              /* 2: go back to the last good record, and lend the whole log */
+    LOGBUFFER_RULE_PUBLICATION_CLOSED = 3,          /* 5: stop writing */
+    LOGBUFFER_RULE_EXCEEDS_MAX_PAYLOAD_LENGTH = 4,  /* 4, claims: offer the message instead of claiming it */
+    LOGBUFFER_RULE_COUNT_OUT_OF_STEP = 5,           /* 6: do not call again: the record is not this log's, or was damaged */
+    LOGBUFFER_RULE_LIMIT_PAST_MAX_POSITION = 6,     /* 7: the stream is at its end: open a new log */
+    LOGBUFFER_RULE_BACK_PRESSURED = 7,              /* 8: wait until readers have moved on, raise the limit, call again */
+    LOGBUFFER_RULE_NOT_CONNECTED = 8,               /* 9: wait for a connection, then as for back pressure */
+    LOGBUFFER_RULE_EXCEEDS_MAX_MESSAGE_LENGTH = 9,  /* 10, offers: cut the message up */
+    LOGBUFFER_RULE_TAIL_OVERFLOW = 10,              /* 11: too many calls after the term was full: rotate, or go back to the last good record */
+    LOGBUFFER_RULE_TRIP_PAST_MAX_POSITION = 11,     /* 7: the stream is at its end: open a new log */
+    LOGBUFFER_RULE_LAST_TERM = 12,                  /* 12: the stream is at its end: open a new log */
+    LOGBUFFER_RULE_TERM_ROTATED = 13,               /* 6: make the same call again, with the record that was answered */
+    LOGBUFFER_RULE_UNFRAGMENTED = 14,               /* accepted, as one frame */
+    LOGBUFFER_RULE_FRAGMENTED = 15,                 /* accepted, as several frames */
+    LOGBUFFER_RULE_CLAIMED = 16                     /* accepted: write the body, then commit or abort */
+};
+
 /* ---- replies */
 
 /* A position. The four bytes behind the code are free. */
@@ -146,8 +168,16 @@ struct logbuffer_position_reply {
     int64_t position;
 };
 
+/* An accepted offer's position, and the rule that decided, which always stands. */
+struct logbuffer_offer_reply {
+    int32_t code;
+    uint32_t rule; /* LOGBUFFER_RULE_.. */
+    int64_t position;
+};
+
 struct logbuffer_claim_reply {
     int32_t code;
+    uint32_t rule; /* LOGBUFFER_RULE_.. */
     int64_t position;
     struct logbuffer_claim claim;
 };
@@ -323,9 +353,9 @@ struct logbuffer_position_reply logbuffer_compute_position(int32_t term_id, uint
 /* ---- writing */
 
 /* Appends a message, in fragments where it is longer than the payload limit (mtu - 32), and answers the position after it. Refuses 1, 2,
- * 5, 6, 7, 8, 9, 10, 11, 12. After 6 call again: with the term full the log has been rotated. */
-struct logbuffer_position_reply logbuffer_offer(struct logbuffer_record *rec, uint8_t *log, size_t log_length, const uint8_t *message,
-                                                size_t message_length, int64_t reserved_value);
+ * 5, 6, 7, 8, 9, 10, 11, 12. After 6 by LOGBUFFER_RULE_TERM_ROTATED call again: with the term full the log has been rotated. */
+struct logbuffer_offer_reply logbuffer_offer(struct logbuffer_record *rec, uint8_t *log, size_t log_length, const uint8_t *message,
+                                             size_t message_length, int64_t reserved_value);
 
 /* Claims a frame for a body of this length, up to the payload limit. Readers stop before it until it is committed or aborted. Refuses 1,
  * 2, 4, 5, 6, 7, 8, 9, 11, 12. On a closed publication a length over the payload limit refuses 5, not 4. */

@@ -33,14 +33,16 @@ pub struct Replay {
 }
 
 #[repr(C)]
-pub struct PositionReply {
+pub struct OfferReply {
     code: i32,
+    rule: u32,
     position: i64,
 }
 
 #[repr(C)]
 pub struct ClaimReply {
     code: i32,
+    rule: u32,
     position: i64,
     claim: Claim,
 }
@@ -92,7 +94,7 @@ pub struct AvailabilityReply {
 extern "C" {
     fn logbuffer_open(rec: *mut Record, log: *mut u8, n: usize, term: i32, mtu: i32, initial: i32, session: i32, stream: i32) -> i32;
     fn logbuffer_set_publication_limit(rec: *mut Record, limit: i64) -> i32;
-    fn logbuffer_offer(rec: *mut Record, log: *mut u8, n: usize, message: *const u8, m: usize, reserved: i64) -> PositionReply;
+    fn logbuffer_offer(rec: *mut Record, log: *mut u8, n: usize, message: *const u8, m: usize, reserved: i64) -> OfferReply;
     fn logbuffer_try_claim(rec: *mut Record, log: *mut u8, n: usize, length: i32) -> ClaimReply;
     fn logbuffer_commit(rec: *const Record, log: *mut u8, n: usize, claim: Claim) -> i32;
     fn logbuffer_image_new(image: *mut Image, position: i64, session: i32);

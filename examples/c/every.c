@@ -68,12 +68,12 @@ static struct logbuffer_record written(void) {
     say_record("open", rec, code);
     code = logbuffer_set_publication_limit(&rec, 2 * TERM);
     say_record("set_publication_limit", rec, code);
-    struct logbuffer_position_reply o = logbuffer_offer(&rec, log_bytes, sizeof log_bytes, (const uint8_t *)"coin", 4, 77);
+    struct logbuffer_offer_reply o = logbuffer_offer(&rec, log_bytes, sizeof log_bytes, (const uint8_t *)"coin", 4, 77);
     say_record("offer", rec, o.code);
-    SAY("  answer", "position", o.position);
+    SAY("  answer", "position rule", o.position, o.rule);
     struct logbuffer_claim_reply c = logbuffer_try_claim(&rec, log_bytes, sizeof log_bytes, 6);
     say_record("try_claim", rec, c.code);
-    SAY("  answer", "position", c.position);
+    SAY("  answer", "position rule", c.position, c.rule);
     say_claim("  claim", c.claim);
     SAY("abort", "code", logbuffer_abort(&rec, log_bytes, sizeof log_bytes, c.claim));
     c = logbuffer_try_claim(&rec, log_bytes, sizeof log_bytes, 5);

@@ -20,7 +20,7 @@ static void told(const char *call, int32_t code, int64_t position) {
 }
 
 static void offer(struct logbuffer_record *rec, const char *call, const uint8_t *message, size_t length) {
-    struct logbuffer_position_reply o = logbuffer_offer(rec, log_bytes, sizeof log_bytes, message, length, 0);
+    struct logbuffer_offer_reply o = logbuffer_offer(rec, log_bytes, sizeof log_bytes, message, length, 0);
     told(call, o.code, o.position);
 }
 

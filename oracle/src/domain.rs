@@ -1,6 +1,6 @@
 //! The domain of the differential runs, judged from the papers' text alone, document 01 as document 02 amends it: whether a call on a
 //! state is inside it, and else the number that they give. Rows 4 to 10, 13, 15 and 16 are inside, so of them only their place in the
-//! order matters here.
+//! order matters here. `rule` reads the order of offers and claims a second time, for the rule that they answer.
 //! `assemblies.rs` has the assembler's rows, `overflows.rs` the sums that overflow; `world.rs` uses the three.
 
 use crate::assemblies;
@@ -258,6 +258,46 @@ fn publish(s: &State, length: i64, is_offer: bool) -> Verdict {
         return Refused(12);
     }
     Inside
+}
+
+/// The rule of an offer or a claim (R-10 of document 02), by its place in the order, and its number: every check of 01's order as amended, one
+/// after the other, each by itself; the first that applies.
+pub fn rule(call: &Call, s: &State) -> Option<(u32, i32)> {
+    let (length, is_offer) = match call {
+        Call::Offer { message, .. } => (message.len() as i64, true),
+        Call::TryClaim { length } => (*length as i64, false),
+        _ => return None,
+    };
+    if !(0..=MOST).contains(&length) {
+        return Some((1, 1));
+    }
+    if s.breaks(s.active()).is_some() {
+        return Some((2, 2));
+    }
+    let r = s.record;
+    let (id, offset) = s.tail(s.active());
+    let (count, payload_limit) = (r.active_term_count as i64, r.mtu_length as i64 - 32);
+    let position = count * s.term_length() + offset;
+    let (is_at_limit, is_connected) = (position >= r.publication_limit, r.is_connected == 1);
+    let need = if is_offer { need(length, payload_limit) } else { align(length + 32) };
+    let is_tripped = offset + need > s.term_length();
+    let checks = [
+        (3, 5, r.is_closed),
+        (4, 4, !is_offer && length > payload_limit),
+        (5, 6, count != id - r.initial_term_id as i64),
+        (6, 7, is_at_limit && position + length >= s.greatest()),
+        (7, 8, is_at_limit && is_connected),
+        (8, 9, is_at_limit && !is_connected),
+        (9, 10, is_offer && length > payload_limit && length > (s.term_length() / 8).min(16_777_216)),
+        (10, 11, offset + need > MOST),
+        (11, 7, is_tripped && position + offset > s.greatest()),
+        (12, 12, is_tripped && (id == MOST || count == MOST)),
+        (13, 6, is_tripped),
+        (14, 0, is_offer && length <= payload_limit),
+        (15, 0, is_offer),
+        (16, 0, true),
+    ];
+    checks.into_iter().find(|check| check.2).map(|(place, number, _)| (place, number))
 }
 
 fn on_record(call: &Call, s: &State) -> Step {

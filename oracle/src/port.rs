@@ -164,6 +164,8 @@ pub struct Port {
     pub replay_buffer: Lent,
     /// Where the last message put together lies in the buffer.
     pub start: usize,
+    /// The rule that decided the last offer or claim, by its place in the order.
+    pub rule: u32,
     strayed: bool,
 }
 
@@ -180,6 +182,7 @@ impl Port {
             replay: Replay { image: closed, assembler: Assembler::default() },
             replay_buffer: Lent::zeroed(0),
             start: 0,
+            rule: 0,
             strayed: false,
         }
     }
@@ -252,10 +255,12 @@ impl Port {
             Call::Offer { message, reserved_value } => {
                 let reply =
                     unsafe { c::logbuffer_offer(record, log, n, message.as_ptr(), message.len(), *reserved_value) };
+                self.rule = reply.rule;
                 Answer { code: reply.code, ..Answer::of(&[reply.position]) }
             }
             Call::TryClaim { length } => {
                 let reply = unsafe { c::logbuffer_try_claim(record, log, n, *length) };
+                self.rule = reply.rule;
                 Answer { code: reply.code, ..claimed(&[reply.position], reply.claim) }
             }
             _ => return None,

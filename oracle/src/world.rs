@@ -3,7 +3,7 @@
 
 use crate::assemblies;
 use crate::calls::{Answer, Assembler, Call, Record, IMAGES, UNWRITTEN};
-use crate::domain::{judge, State, Verdict};
+use crate::domain::{judge, rule, State, Verdict};
 use crate::original::{Original, Outcome};
 use crate::port::Port;
 
@@ -92,10 +92,12 @@ impl World {
             return Ok(Told::ByHand);
         }
         let verdict = judge(call, &self.state());
+        let rule = rule(call, &self.state());
         let fragment = self.expected_fragment(call, verdict);
         let tails = self.port.record.tails;
         let answer = self.port.call(call);
         self.answered = answer.values;
+        self.decided(rule, &answer)?;
         let told = match verdict {
             Verdict::Inside => self.inside(call, &answer)?,
             Verdict::Stopped(at) => self.stopped(call, &answer, at)?,
@@ -108,6 +110,16 @@ impl World {
         self.assembled(call, fragment)?;
         self.same_state(tails, call).map_err(|what| format!("{what}; port answered {answer:?}"))?;
         Ok(told)
+    }
+
+    /// The port's rule is the papers', and so is its number.
+    fn decided(&self, rule: Option<(u32, i32)>, answer: &Answer) -> Result<(), String> {
+        match rule {
+            Some(rule) if rule != (self.port.rule, answer.code) => {
+                Err(format!("decided by rule {} with {}: R-10 of 02 has {rule:?}", self.port.rule, answer.code))
+            }
+            _ => Ok(()),
+        }
     }
 
     fn inside(&mut self, call: &Call, answer: &Answer) -> Result<Told, String> {

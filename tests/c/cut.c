@@ -56,7 +56,7 @@ static bool tripped(int32_t code, size_t start) {
 
 static void offer(size_t length) {
     const uint8_t *bytes = text(length);
-    struct logbuffer_position_reply o;
+    struct logbuffer_offer_reply o;
     size_t start;
     do {
         start = tail();

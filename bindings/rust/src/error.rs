@@ -89,10 +89,10 @@ refusals! {
         "the publication is closed"
         "stop writing; reading, commits and aborts still work"
     6 AdminAction
-        "the term was full and the log has been rotated, or count and term id differ"
-        "tail, padding and rotation stay: make the same call again; if it refuses 6 forever, the record was damaged"
+        "the term was full and the log has been rotated (rule TermRotated), or count and term id differ (rule CountOutOfStep)"
+        "by TermRotated tail, padding and rotation stay: make the same call again; by CountOutOfStep nothing has changed: the record is not this log's or was damaged, so do not call again"
     7 MaxPositionExceeded
-        "the greatest position is reached"
+        "the greatest position is reached, at the limit (rule LimitPastMaxPosition) or after a trip (rule TripPastMaxPosition)"
         "after a trip tail and padding stay: the stream is at its end, so open a new log with a new session"
     8 BackPressured
         "the publication limit is reached"

@@ -40,7 +40,7 @@ fn fields_of_values_have_the_offsets_of_c() {
 #[test]
 fn replies_have_the_sizes_of_c() {
     assert_eq!(size_of::<PositionReply>(), 16);
-    assert_eq!(size_of::<ClaimReply>(), 32);
+    assert_eq!([size_of::<OfferReply>(), size_of::<ClaimReply>()], [16, 32]);
     assert_eq!(size_of::<SpanReply>(), 24);
     assert_eq!(size_of::<AppendReply>(), 16);
     assert_eq!(size_of::<AppendClaimReply>(), 32);
@@ -65,6 +65,7 @@ fn replies_have_the_sizes_of_c() {
 fn fields_of_replies_have_the_offsets_of_c() {
     assert_eq!([offset_of!(PositionReply, code), offset_of!(PositionReply, position)], [0, 8]);
     assert_eq!([offset_of!(ClaimReply, position), offset_of!(ClaimReply, claim)], [8, 16]);
+    assert_eq!([offset_of!(OfferReply, rule), offset_of!(OfferReply, position), offset_of!(ClaimReply, rule)], [4, 8, 4]);
     assert_eq!([offset_of!(AppendClaimReply, is_tripped), offset_of!(AppendClaimReply, offset)], [4, 8]);
     assert_eq!(offset_of!(AppendClaimReply, claim), 16);
     assert_eq!([offset_of!(ReadReply, fragments), offset_of!(ReadReply, offset)], [4, 8]);

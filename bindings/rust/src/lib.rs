@@ -23,7 +23,8 @@
 //! - [`Poller`]: a reader at a position. [`Assembler`]: messages out of fragments. [`Replay`]: both, from the start.
 //! - [`Card`]: a find card, a message body of one format.
 //! - [`Log::shelve`], [`Record::unshelve`]: a finished term with all its headers together, and back.
-//! - [`Error`]: the refusals, with cause and remedy. An offer or claim refused with [`Error::AdminAction`] is to be made again.
+//! - [`Error`]: the refusals, with cause and remedy. [`Rule`]: which check decided an offer or a claim, with a line of advice. Refused by
+//!   [`Rule::TermRotated`] it is to be made again.
 //!
 //! A [`Log`] is `Send` and `Sync`: writing takes `&mut`, so threads that write share it behind a lock.
 //!
@@ -42,6 +43,7 @@ mod error;
 mod log;
 mod poller;
 mod replay;
+mod rule;
 mod scan;
 mod shelf;
 #[allow(unsafe_code)]
@@ -58,5 +60,6 @@ pub use error::{Error, Place};
 pub use log::Log;
 pub use poller::{Action, Block, Fragment, Fragments, Poller};
 pub use replay::{Count, Replay};
+pub use rule::Rule;
 pub use scan::{Availability, FrameLength, GapScan};
 pub use sys::{Header, Record};

@@ -2,7 +2,7 @@
 
 use crate::claim::{Claim, OpenClaim};
 use crate::sys::{self, Header, Record};
-use crate::{Builder, Error, Poller};
+use crate::{Builder, Error, Poller, Rule};
 use std::fmt;
 
 /// A log of three terms, with the record that says how far it was written.
@@ -21,6 +21,8 @@ pub struct Log {
     // Sound, and bytes are three terms: opening or `from_parts` judged both, and every call keeps them so.
     pub(crate) record: Record,
     pub(crate) bytes: Vec<u8>,
+    // Of the last offer or claim: a place in the order, 0 before the first.
+    rule: u32,
 }
 
 impl Log {
@@ -36,7 +38,7 @@ impl Log {
         let is_in_range = (65_536..=1 << 30).contains(&term_length) && sys::is_power_of_two(term_length as u32);
         let mut bytes = vec![0; if is_in_range { 3 * term_length as usize } else { 0 }];
         match sys::open(&mut bytes, term_length, mtu_length, initial_term_id, session_id, stream_id) {
-            Ok(record) => Ok(Log { record, bytes }),
+            Ok(record) => Ok(Log { record, bytes, rule: 0 }),
             Err(code) => Err(Error::check(code).expect_err("a number that is not 0 is a refusal's")),
         }
     }
@@ -70,7 +72,7 @@ impl Log {
     pub fn from_parts(record: Record, bytes: Vec<u8>) -> Result<Log, Error> {
         // A scan with limit 0 judges record and log and looks at no frame. Its only other refusal, 1, is for a term length below 1.
         Error::check(sys::scan(&record, &bytes, 0, 0, 0).code).map_err(|_| Error::IllegalRecord)?;
-        Ok(Log { record, bytes })
+        Ok(Log { record, bytes, rule: 0 })
     }
 
     /// The record and the bytes, to be kept for [`from_parts`](Log::from_parts).
@@ -229,6 +231,7 @@ impl Log {
     /// ```
     pub fn offer_with_reserved_value(&mut self, message: &[u8], reserved_value: i64) -> Result<i64, Error> {
         let reply = sys::offer(&mut self.record, &mut self.bytes, message, reserved_value);
+        self.rule = reply.rule;
         Error::check(reply.code).map(|()| reply.position)
     }
 
@@ -247,9 +250,29 @@ impl Log {
         // A length past i32 is past every payload limit, as is the greatest i32.
         let length = i32::try_from(length).unwrap_or(i32::MAX);
         let reply = sys::try_claim(&mut self.record, &mut self.bytes, length);
+        self.rule = reply.rule;
         Error::check(reply.code)?;
         let open = OpenClaim::new(reply.claim, reply.position, &self.record);
         Claim::new(self, open)
+    }
+
+    /// The rule that decided the last offer or claim on this log; none before the first. It tells the two kinds of 6 and of 7 apart, and
+    /// whether the tail has moved.
+    ///
+    /// ```
+    /// use logbuffer::{Error, Log, Rule};
+    ///
+    /// let mut log = Log::builder().term_length(65_536).mtu_length(96).open()?;
+    /// assert_eq!(log.rule(), None);
+    /// log.offer(&[1; 65])?;
+    /// assert_eq!(log.rule(), Some(Rule::Fragmented));
+    /// while log.offer(&[1; 64]).is_ok() {}
+    /// assert_eq!(log.rule(), Some(Rule::TermRotated)); // refused 6: make the same call again
+    /// log.offer(&[1; 64])?;
+    /// # Ok::<(), logbuffer::Error>(())
+    /// ```
+    pub fn rule(&self) -> Option<Rule> {
+        Rule::from_place(self.rule)
     }
 
     /// Takes up a claim that was laid by with [`Claim::into_open`]. Refuses [`Error::ClaimMismatch`] if it was committed or aborted

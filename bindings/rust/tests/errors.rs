@@ -1,8 +1,15 @@
-//! The refusals' texts are those of the table in docs/ERRORS.md, row by row.
+//! The texts of the refusals and of the rules are those of the tables in docs/ERRORS.md, row by row.
 
-use logbuffer::Error;
+use logbuffer::{Error, Rule};
 
-const TABLE: &str = include_str!("../../../docs/ERRORS.md");
+const PAGE: &str = include_str!("../../../docs/ERRORS.md");
+
+/// The rows of the table of refusals, or of the one of rules, which stands under a heading of its own.
+fn rows(of_rules: bool) -> Vec<&'static str> {
+    let (refusals, rules) = PAGE.split_once("\n## The rules\n").unwrap();
+    let part = if of_rules { rules } else { refusals };
+    part.lines().filter(|line| line.starts_with("| ") && line.as_bytes()[2].is_ascii_digit()).collect()
+}
 
 #[test]
 fn every_refusal_is_a_row_of_the_table() {
@@ -10,14 +17,23 @@ fn every_refusal_is_a_row_of_the_table() {
         let told = format!("{error:?}");
         let name = told.split('(').next().unwrap();
         let row = format!("| {} | {name} | {} | {} |", error.number(), error.cause(), error.remedy());
-        assert!(TABLE.lines().any(|line| line == row), "not in the table: {row}");
+        assert!(rows(false).contains(&row.as_str()), "not in the table: {row}");
         let place = error.place().map_or(String::new(), |place| format!(", at {place}"));
         assert_eq!(error.to_string(), format!("{}{place}: {}", error.cause(), error.remedy()));
         assert!(!error.to_string().contains('\n'));
     }
-    let rows = TABLE.lines().filter(|line| line.starts_with("| ") && line.as_bytes()[2].is_ascii_digit()).count();
     // 17 keeps its row, and is no refusal any more.
-    assert_eq!(rows, Error::ALL.len() + 1);
+    assert_eq!(rows(false).len(), Error::ALL.len() + 1);
+}
+
+#[test]
+fn every_rule_is_a_row_of_its_table() {
+    for (rule, row) in Rule::ALL.into_iter().zip(rows(true)) {
+        assert_eq!(row, format!("| {} | {rule:?} | {} | {} |", rule.place(), rule.number(), rule.advice()));
+        assert_eq!(rule.error().map_or(0, Error::number), rule.number());
+        assert_eq!(Rule::from_place(rule.place()), Some(rule));
+    }
+    assert_eq!((rows(true).len(), Rule::from_place(17)), (Rule::ALL.len(), None));
 }
 
 #[test]

@@ -4,7 +4,7 @@
 mod common;
 
 use common::{log, made, put_frame, raw_tail, TERM};
-use logbuffer::{Action, Assembler, Error, Log, Place};
+use logbuffer::{Action, Assembler, Error, Log, Place, Rule};
 
 #[test]
 fn illegal_argument_1() {
@@ -107,12 +107,14 @@ fn publication_closed_5() {
 fn admin_action_6() {
     let mut log = made(|record, _| record.tails[0] = raw_tail(7, 65_472)).unwrap();
     assert_eq!(log.offer(&[1; 64]), Err(Error::AdminAction));
+    assert_eq!(log.rule(), Some(Rule::TermRotated));
     assert_eq!(log.record().active_term_count, 1);
     assert_eq!(log.header_at(0, 65_472).unwrap().frame_length, 64);
     assert_eq!(log.offer(b""), Ok(65_568));
 
     let mut log = made(|record, _| record.active_term_count = 3).unwrap();
     assert_eq!(log.try_claim(0).err(), Some(Error::AdminAction)); // count and id differ
+    assert_eq!(log.rule(), Some(Rule::CountOutOfStep));
 }
 
 #[test]
