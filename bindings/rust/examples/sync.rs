@@ -1,12 +1,12 @@
 //! Two devices of an excavation sync into one log: the trench offers its finds, the tent writes its own in place. A reader follows and
 //! lets them go on, and a replay shows what came in. `cargo run --example sync`; what it prints stands in sync.txt.
 
-use logbuffer::{Assembler, Error, FrameLength, Log, OpenClaim, Poller};
+use logbuffer::{Assembler, Error, FrameLength, Log, OpenClaim, Poller, Rule};
 
 /// An offer, made again where the term was full.
 fn append(log: &mut Log, message: &[u8]) -> Result<i64, Error> {
     match log.offer(message) {
-        Err(Error::AdminAction) => log.offer(message),
+        Err(_) if log.rule() == Some(Rule::TermRotated) => log.offer(message),
         answer => answer,
     }
 }

@@ -194,18 +194,18 @@ impl Log {
     /// Appends a message, in fragments where it is longer than the payload limit (mtu - 32), and answers the position after it. No two
     /// accepted calls on one log are answered the same position.
     ///
-    /// Refuses [`PublicationClosed`](Error::PublicationClosed), [`AdminAction`](Error::AdminAction) where the term was full (make the
-    /// call again), [`BackPressured`](Error::BackPressured) or [`NotConnected`](Error::NotConnected) at the limit,
+    /// Refuses [`PublicationClosed`](Error::PublicationClosed), [`AdminAction`](Error::AdminAction) where the term was full (by
+    /// [`Rule::TermRotated`]: make the call again), [`BackPressured`](Error::BackPressured) or [`NotConnected`](Error::NotConnected) at the limit,
     /// [`ExceedsMaxMessageLength`](Error::ExceedsMaxMessageLength), at the very end of a stream
     /// [`MaxPositionExceeded`](Error::MaxPositionExceeded) or [`LastTerm`](Error::LastTerm), in a record made by hand
     /// [`TailOverflow`](Error::TailOverflow), and a message over 2147483647 bytes as [`IllegalArgument`](Error::IllegalArgument).
     ///
     /// ```
-    /// use logbuffer::{Error, Log};
+    /// use logbuffer::{Error, Log, Rule};
     ///
     /// fn append(log: &mut Log, message: &[u8]) -> Result<i64, Error> {
     ///     match log.offer(message) {
-    ///         Err(Error::AdminAction) => log.offer(message), // the next term is empty
+    ///         Err(_) if log.rule() == Some(Rule::TermRotated) => log.offer(message), // the next term is empty
     ///         answer => answer,
     ///     }
     /// }
