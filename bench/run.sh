@@ -1,5 +1,6 @@
 #!/bin/sh
-# Builds the given Rust and the driver as release builds, links the port's archive, and prints the table.
+# Builds the given Rust and the driver as release builds, links the port's archive, and prints the table. The last column is the ratio of a second
+# run, of the driver built with link-time optimization over the Rust and it.
 #
 #   run.sh [FOLDER [ARCHIVE]]   FOLDER holds the given sources, as for oracle/build.sh; ARCHIVE is the port for C.
 set -eu
@@ -16,5 +17,9 @@ rustc $release --crate-type rlib --crate-name lazy_static "$root/oracle/stand-in
 rustc $release --crate-type proc-macro --crate-name thiserror "$root/oracle/stand-ins/crates/thiserror.rs" --out-dir "$out"
 rustc $release --crate-type rlib --crate-name aeron_rs -L "$out" --extern lazy_static --extern thiserror --cap-lints allow \
     "$root/oracle/target/given/src/lib.rs" --out-dir "$out"
-rustc $release --crate-type bin --crate-name bench -L "$out" --extern aeron_rs -C link-arg="$archive" "$here/src/main.rs" --out-dir "$out"
-"$out/bench"
+bin="$release --crate-type bin --crate-name bench -L $out --extern aeron_rs"
+rustc $bin -C link-arg="$archive" "$here/src/main.rs" -o "$out/bench"
+rustc $bin -C lto=fat -C link-arg="$archive" "$here/src/main.rs" -o "$out/bench-lto"
+"$out/bench" >"$out/bench.txt"
+"$out/bench-lto" >"$out/bench-lto.txt"
+awk -F'|' 'NR == FNR { lto[$2] = $5; next } $2 == " Row " { print $0 " ratio, lto=fat |"; next } { print $0 lto[$2] "|" }' "$out/bench-lto.txt" "$out/bench.txt"

@@ -122,10 +122,11 @@ fn polls(length: usize, limit: i32, count: usize) {
     row(&format!("poll of {length}, limit {limit}, a fragment"), read().0, read, || ours.poll_all(&mut entries, limit));
 }
 
+/// Like beside like: a message a call beside polls of one fragment, a count beside polls of many; the Rust's all go into its assembler.
 fn replays(length: usize, count: usize) {
     let (log, ours) = filled(length, count);
     let mut buffer = vec![0; 16 << 20];
-    let read = || {
+    let read = |limit: i32| {
         let (mut messages, mut bytes) = (0, 0);
         {
             let mut delegate = |_: &AtomicBuffer, _: Index, length: Index, _: &Header| {
@@ -135,14 +136,18 @@ fn replays(length: usize, count: usize) {
             let mut assembler = FragmentAssembler::new(&mut delegate, Some(1 << 20));
             let mut handler = assembler.handler();
             let (mut image, _place) = log.image(0);
-            while image.poll(&mut handler, 256) > 0 {}
+            // A poll may pass a term's padding alone and answer 0; behind it the next poll goes on.
+            let mut zeros = 0;
+            while zeros < 2 {
+                zeros = if image.poll(&mut handler, limit) > 0 { 0 } else { zeros + 1 };
+            }
         }
         (messages, bytes)
     };
-    assert_eq!(read(), ours.replay_all(&mut buffer));
-    assert_eq!(read(), ours.count_all(&mut buffer));
-    row(&format!("replay of {length}, a message a call"), count, read, || ours.replay_all(&mut buffer));
-    row(&format!("replay of {length}, counted in one call"), count, read, || ours.count_all(&mut buffer));
+    assert_eq!(read(1), ours.replay_all(&mut buffer));
+    assert_eq!(read(256), ours.count_all(&mut buffer));
+    row(&format!("replay of {length}, a message a call"), count, || read(1), || ours.replay_all(&mut buffer));
+    row(&format!("replay of {length}, counted in one call"), count, || read(256), || ours.count_all(&mut buffer));
 }
 
 fn scans(count: usize) {
