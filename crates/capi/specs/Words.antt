@@ -13,7 +13,7 @@
 --       8     end of stream
 --       9     closed (lowest byte), gap of 7
 --
--- `low | high` are the halves. The C header declares the structs; include/check and the programs of examples/c hold size and offsets to this.
+-- `low | high` are the halves. The C header declares the structs; tests/c/layout.c and the Rust crate's layout.rs hold size and offsets to this.
 -- Read Theorems next: what is packed is unpacked again, and a refusal leaves every byte.
 use Prim.Native.Nat.{ℕ, _+_, _*_, _/_, _%_}
 use mathlib.Core.Bool.{Bool, true, false, cond, not}

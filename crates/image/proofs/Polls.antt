@@ -23,10 +23,10 @@ use Rattle.model.specs.declared.TermRead.the-variants.{Outcome, Refused as Read
 use Rattle.model.specs.declared.Frame.{Frame}
 use Rattle.model.specs.declared.Frame.the-variants.{Absent, Unsound, Padding, Data}
 use Rattle.model.specs.FrameDescriptor.{align, frameAt, flagsAt, ends}
-use Rattle.model.specs.TermReader.{Walked, still, over, walk, walkOf, framesBy, framesRefusal, entriesBy, laid, natural, goodEntries, goodActions}
+use Rattle.model.specs.TermReader.{Walked, still, over, walk, walkOf, framesBy, framesRefusal, readFrom, entriesBy, laid, natural, goodEntries, goodActions}
 use Rattle.model.specs.Image.{Image as State, PollReply, movedTo, refuseIf, readable, walkAt, unsoundAt, unsoundFrameOf, endOffset, pollReply, pollVerdict, pollOf, boundedPollOf, controlledPollOf}
 use Rattle.model.proofs.Choice.{cond-case}
-use Rattle.model.proofs.ReadLaws.{readFrom, walk-moved}
+use Rattle.model.proofs.ReadLaws.{walk-moved}
 use Rattle.model.proofs.Sound.{sound-true}
 use Rattle.image.specs.declared.PollReply.{PollReply as Reply}
 use Rattle.image.specs.declared.frames.PolledTo.{PolledTo}

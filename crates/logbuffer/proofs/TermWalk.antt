@@ -9,10 +9,9 @@ use lib.ListN.{drop}
 use Rattle.model.specs.FrameDescriptor.{unsoundFrameAt}
 use Rattle.model.specs.declared.Verdict.the-variants.{Pass, Refuse}
 use Rattle.model.specs.declared.TermRead.the-variants.{Outcome}
-use Rattle.model.specs.TermReader.{nextAction, walk, firstUnsound, framesBy, entriesBy}
+use Rattle.model.specs.TermReader.{nextAction, walk, firstUnsound, framesBy, entriesBy, readFrom}
 use Rattle.model.proofs.WalkLoop.{Came, walkBy}
 use Rattle.model.proofs.ReaderLaws.{frames-came}
-use Rattle.model.proofs.ReadLaws.{readFrom}
 
 pub term-came : (log : List ℕ) (base term at limit : ℕ) (slots out : List ℤ) (offset count settled : ℕ) → at ≤ offset
     → Came log base term term at limit [] slots out (walkBy count count (offset - at) settled)

@@ -22,7 +22,7 @@ use Rattle.model.specs.declared.TermRead.{TermRead}
 use Rattle.model.specs.declared.TermRead.the-variants.{Outcome, Refused}
 use Rattle.model.specs.FrameDescriptor.{align, frameAt, unsoundFrameAt}
 use Rattle.model.specs.LogBufferDescriptor.{sound, goodPartition, placeOf, firstRows, frameRow}
-use Rattle.model.specs.TermReader.{Walked, still, over, handed, goodWalk, goodHandler, goodStart, nextAction, restActions, walk, walkOf, firstUnsound, natural, goodEntries, framesBy, framesOf, framesEntries, readWalk, readVerdict, readBy, readOf, readEntries, entriesBy}
+use Rattle.model.specs.TermReader.{Walked, still, over, handed, goodWalk, goodHandler, goodStart, nextAction, restActions, walk, walkOf, firstUnsound, natural, goodEntries, framesBy, framesOf, framesEntries, readFrom, readWalk, readVerdict, readBy, readOf, readEntries, entriesBy}
 use Rattle.model.proofs.FrameLaws.{Lies, lies}
 use Rattle.model.proofs.Rows.{rows-refuse, rows-pass, rows-then}
 use Rattle.model.proofs.PlaceLaws.{Started, and-and, started}
@@ -87,11 +87,6 @@ walk-settled fuel log base term end at limit acts = walk-within fuel log base te
 -- row 1
 abbrev pub goodRead : Place → ℕ → ℕ → Bool
 goodRead p limit slots = goodPartition (p .partition) && (goodStart (p .offset) (p .read) && goodEntries slots limit)
-
--- the walk's answer as `read` gives it
-abbrev pub readFrom : ℕ → FramesRead → TermRead
-readFrom at (AllWalked w) = Outcome (at + w .moved) (w .fragments)
-readFrom at (WalkRefused e) = Refused e
 
 pub read-placed : (p : Place) (n limit slots : ℕ) → goodRead p limit slots ≡ true → sound (p .read) n ≡ true → Started (p .read) n (p .partition) (p .offset)
 read-placed p n limit slots g s = started (p .read) n (p .partition) (p .offset) (and-and (leb (p .partition) 2) (goodStart (p .offset) (p .read)) (goodEntries slots limit) g .0) s

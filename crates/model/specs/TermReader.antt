@@ -163,6 +163,11 @@ abbrev pub framesRefusal : FramesRead → Error
 framesRefusal (AllWalked w) = IllegalArgument
 framesRefusal (WalkRefused e) = e
 
+-- the walk's answer as a read of a term gives it: the offset that it came to, and the fragments
+abbrev pub readFrom : ℕ → FramesRead → TermRead
+readFrom at (AllWalked w) = Outcome (at + w .moved) (w .fragments)
+readFrom at (WalkRefused e) = Refused e
+
 -- log, where the term starts, its length, the end, the offset, the fragment limit, the actions, the lent entries
 unfoldable pub framesOf : List ℕ → ℕ → ℕ → ℕ → ℕ → ℕ → List ℕ → List ℤ → FramesRead
 framesOf log base term end at limit acts slots =

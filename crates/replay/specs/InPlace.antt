@@ -1,4 +1,4 @@
--- Data frames as they lie: what a replay takes without a poll. `next-whole` and `data-turn` (proofs/InPlace.antt) say that this is the turn
+-- Data frames as they lie: what a replay takes without a poll. `whole-says` and `data-turn` (proofs/InPlace.antt) say that this is the turn
 -- of the definitions.
 use Prim.Native.Nat.{ℕ, _+_, _-_, _*_, _%_, _≤_, _<_}
 use mathlib.Core.Path.{_≡_}

@@ -11,9 +11,8 @@ use mir.Val.{Fits}
 use Rattle.model.specs.FrameDescriptor.{unsoundFrameAt}
 use Rattle.model.specs.declared.Verdict.the-variants.{Pass, Refuse}
 use Rattle.model.specs.declared.TermRead.{TermRead}
-use Rattle.model.specs.TermReader.{walk, firstUnsound, framesBy, entriesBy, goodWalk}
+use Rattle.model.specs.TermReader.{walk, firstUnsound, framesBy, entriesBy, goodWalk, readFrom}
 use Rattle.model.proofs.ReaderLaws.{frames-by}
-use Rattle.model.proofs.ReadLaws.{readFrom}
 use Rattle.image.specs.Images.{TermLength}
 use Rattle.image.proofs.Places.{At, at-place, term-length, walk-good}
 use borrow.Author.Needs.{needs}

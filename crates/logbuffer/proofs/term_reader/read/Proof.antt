@@ -10,10 +10,10 @@ use Rattle.model.specs.declared.Place.{Place}
 use Rattle.model.specs.declared.TermRead.the-variants.{Refused}
 use Rattle.model.specs.declared.Verdict.the-variants.{Pass}
 use Rattle.model.specs.LogBufferDescriptor.{sound, placeOf, firstRows}
-use Rattle.model.specs.TermReader.{natural, goodWalk, framesRefusal, readOf, readEntries}
+use Rattle.model.specs.TermReader.{natural, goodWalk, framesRefusal, readFrom, readOf, readEntries}
 use Rattle.model.proofs.Rows.{rows-pass}
 use Rattle.model.proofs.PlaceLaws.{Started}
-use Rattle.model.proofs.ReadLaws.{goodRead, readFrom, read-placed, read-refused, read-goes, read-walk, frames-moved}
+use Rattle.model.proofs.ReadLaws.{goodRead, read-placed, read-refused, read-goes, read-walk, frames-moved}
 use Rattle.logbuffer.proofs.term_reader.read.Statement.{statement}
 use Rattle.logbuffer.proofs.term_reader.read.Tie as tie
 

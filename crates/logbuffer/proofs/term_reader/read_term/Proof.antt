@@ -6,9 +6,8 @@ use native.Mathlib.Omega.{arith}
 use borrow.Author.Tests.{not-true, not-false}
 use borrow.Author.Needs.{needs}
 use lib.ListN.{length}
-use Rattle.model.specs.TermReader.{goodWalk, goodHandler}
+use Rattle.model.specs.TermReader.{goodWalk, goodHandler, readFrom}
 use Rattle.model.proofs.ReaderLaws.{good-walk-true, frames-refused, frames-by}
-use Rattle.model.proofs.ReadLaws.{readFrom}
 use Rattle.logbuffer.proofs.term_reader.read_term.Statement.{statement}
 use Rattle.logbuffer.proofs.term_reader.read_term.Tie as tie
 

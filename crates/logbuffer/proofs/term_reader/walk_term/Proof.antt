@@ -17,7 +17,7 @@ use Rattle.model.specs.declared.TermRead.the-variants.{Refused}
 use Rattle.model.proofs.FrameLaws.{Lies, lies, unsound-refusal}
 use Rattle.model.proofs.WalkLoop.{Going}
 use Rattle.model.proofs.ReaderLaws.{frames-first}
-use Rattle.model.proofs.ReadLaws.{readFrom}
+use Rattle.model.specs.TermReader.{readFrom}
 use Rattle.model.proofs.WalkLoop as walks
 use Rattle.logbuffer.proofs.TermWalk.{term-came, no-action}
 use Rattle.logbuffer.proofs.term_reader.walk_term.Statement.{statement}
