@@ -376,7 +376,8 @@ module _ (r : LogRecord) (log : List ℕ) (snd : Sound (reading r) (length log))
       abbrev onto : Replaying → Replaying
       onto p = round r log (pos 1) two p
 
-      -- what a call says: the end, with all given, or a message, and then it stands further on
+      -- What a call says: a message, and then it stands further on; or the end, with all given, and then it stands where the next call says so
+      -- again.
       record Onward (p : Replaying) (back : List Cell) (y : NextReply) : Type 0 where
         at : Replaying
         front′ : List Cell
@@ -388,12 +389,23 @@ module _ (r : LogRecord) (log : List ℕ) (snd : Sound (reading r) (length log))
         gives : (rest : List (List ℕ)) → messageBy log (y .next) (y .answer) rest ≡ message ∷ rest
         grown : at .out ≡ p .out ++ (message ∷ [])
 
+      record Ended (p : Replaying) (y : NextReply) : Type 0 where
+        answer : y .answer ≡ End
+        all : p .out ≡ takes-in part empty (fragsOf fs) .out
+        at : Replaying
+        front′ : List Cell
+        back′ : List Cell
+        stands-on : Stands at front′ back′
+        is : y .next ≡ state at
+        same : at .out ≡ p .out
+
       abbrev Said : Replaying → List Cell → NextReply → Type 0
-      Said p back y = ((y .answer ≡ End) × (p .out ≡ takes-in part empty (fragsOf fs) .out)) ⊎ Onward p back y
+      Said p back y = Ended p y ⊎ Onward p back y
 
       -- from where nothing was given yet, and with more left
       said-on : (p q : Replaying) (back back′ : List Cell) (y : NextReply) → q .out ≡ p .out → length back′ ≤ length back → Said q back′ y → Said p back y
-      said-on p q back back′ y e l (inl x) = inl (x .0, sym e ∙ x .1)
+      said-on p q back back′ y e l (inl x) =
+          inl (record { answer = x .answer; all = sym e ∙ x .all; at = x .at; front′ = x .front′; back′ = x .back′; stands-on = x .stands-on; is = x .is; same = x .same ∙ e })
       said-on p q back back′ y e l (inr x) =
           inr (record { at = x .at; front′ = x .front′; back′ = x .back′; stands-on = x .stands-on; less = omega (arith, x .less); is = x .is; message = x .message; gives = x .gives; grown = x .grown ∙ ap (λ (o : List (List ℕ)). o ++ (x .message ∷ [])) e })
 
@@ -466,7 +478,7 @@ module _ (r : LogRecord) (log : List ℕ) (snd : Sound (reading r) (length log))
         none-came e ih =
             same? (walked q· 1 .moved) 0
             (λ m.
-            subst (Said p back) (sym (eq-yes (q· + walked q· 1 .moved) q· _ _ (omega arith))) (inl (refl, complete p front back s (stops front back 1 (s .cut) (omega arith) m))))
+            subst (Said p back) (sym (eq-yes (q· + walked q· 1 .moved) q· _ _ (omega arith))) (inl (record { answer = refl; all = complete p front back s (stops front back 1 (s .cut) (omega arith) m); at = p; front′ = front; back′ = back; stands-on = s; is = refl; same = refl })))
             (λ m.
             subst (Said p back) (ap (λ (x : Replaying). go (state x)) (quiet-round e) ∙ sym (eq-no (q· + walked q· 1 .moved) q· (giving (state p) End) _ (λ (z : q· + walked q· 1 .moved ≡ q·). m (omega arith))))
             (said-on p (onto p) back (v .back) (go (state (onto p))) (ap (λ (x : Replaying). x .out) (quiet-round e)) (omega (arith, less m)) (ih (onto p) (front ++ v .front) (v .back) s′ (less m))))
@@ -598,7 +610,7 @@ module _ (r : LogRecord) (log : List ℕ) (snd : Sound (reading r) (length log))
           let y = nextFrom (suc (3 * T)) r log (state p) in
           ap (λ (x : NextReply). p .out ++ messageBy log (x .next) (x .answer) (replayed most r log (x .next))) (next-is-from p front back s)
           ∙ ⊎-elim
-          (λ x. ap (λ (a : Given). p .out ++ messageBy log (y .next) a (replayed most r log (y .next))) (x .0) ∙ append-nil (p .out) ∙ x .1 ∙ found)
+          (λ x. ap (λ (a : Given). p .out ++ messageBy log (y .next) a (replayed most r log (y .next))) (x .answer) ∙ append-nil (p .out) ∙ x .all ∙ found)
           (λ x.
           ap (λ (l : List (List ℕ)). p .out ++ l) (x .gives (replayed most r log (y .next)) ∙ ap (λ (t : ReplayState). x .message ∷ replayed most r log t) (x .is))
           ∙ sym (append-assoc (p .out) (x .message ∷ []) (replayed most r log (state (x .at))))
@@ -606,18 +618,21 @@ module _ (r : LogRecord) (log : List ℕ) (snd : Sound (reading r) (length log))
           ∙ all-given ms kept found most (x .at) (x .front′) (x .back′) (x .stands-on) (omega (arith, ap length (x .grown), length-append (p .out) (x .message ∷ []))))
           (next-says kept (suc (3 * T)) p front back s (enough front back (s .cut)))
 
-      -- after as many replies as there are messages comes the end
+      -- after as many replies as there are messages, or more, comes the end
       ended : (ms : List (List ℕ)) → takes-in part empty (fragsOf fs) .lost ≡ false → takes-in part empty (fragsOf fs) .out ≡ ms
-          → (n : ℕ) (p : Replaying) (front back : List Cell) → Stands p front back → length ms ≡ length (p .out) + n
+          → (n : ℕ) (p : Replaying) (front back : List Cell) → Stands p front back → length ms ≤ length (p .out) + n
           → nextOf r log (standing n r log (state p)) .answer ≡ End
       unfolding standing
       ended ms kept found zero p front back s l =
           ap (λ (x : NextReply). x .answer) (next-is-from p front back s)
-          ∙ ⊎-elim (λ x. x .0)
+          ∙ ⊎-elim (λ x. x .answer)
           (λ x. absurd (omega (arith, least (x .at) (x .front′) (x .back′) (x .stands-on), ap length (x .grown), length-append (p .out) (x .message ∷ []), ap length found)))
           (next-says kept (suc (3 * T)) p front back s (enough front back (s .cut)))
       ended ms kept found (suc n) p front back s l =
-          ⊎-elim (λ x. absurd (omega (arith, ap length (x .1), ap length found)))
+          ⊎-elim
+          (λ x.
+          subst (λ (t : ReplayState). nextOf r log (standing n r log t) .answer ≡ End) (sym (ap (λ (y : NextReply). y .next) (next-is-from p front back s) ∙ x .is))
+          (ended ms kept found n (x .at) (x .front′) (x .back′) (x .stands-on) (omega (arith, ap length (x .same), ap length (x .all), ap length found))))
           (λ x.
           subst (λ (t : ReplayState). nextOf r log (standing n r log t) .answer ≡ End) (sym (ap (λ (y : NextReply). y .next) (next-is-from p front back s) ∙ x .is))
           (ended ms kept found n (x .at) (x .front′) (x .back′) (x .stands-on) (omega (arith, ap length (x .grown), length-append (p .out) (x .message ∷ [])))))
@@ -633,5 +648,5 @@ module _ (r : LogRecord) (log : List ℕ) (snd : Sound (reading r) (length log))
           let found = ap (λ (a : Asm). a .out) m in
           record {
             each = λ most l. all-given ms kept found most (start session buffer) [] fs begins (omega arith);
-            ended = ended ms kept found (length ms) (start session buffer) [] fs begins (omega arith);
+            ended = λ n l. ended ms kept found n (start session buffer) [] fs begins (omega arith);
           }

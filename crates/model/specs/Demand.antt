@@ -77,10 +77,10 @@ pub record Replayed (w : World) (session : ℤ) (buffer : List ℕ) (ms : List (
   pub exact : (ps : Polls) → Allowed ps → (n : ℕ) → Quiet (w .record·) (w .log) ps (start session buffer) n
       → rounds (w .record·) (w .log) ps (start session buffer) n .out ≡ ms
 
--- The same message by message: what `nextOf` (Replay) gives, one call after another, is ms; and the call after these answers the end.
+-- The same message by message: what `nextOf` (Replay) gives, one call after another, is ms; and every call after these answers the end.
 pub record GivesAll (w : World) (session : ℤ) (buffer : List ℕ) (ms : List (List ℕ)) : Type 0 where
   pub each : (most : ℕ) → length ms < most → replayed most (w .record·) (w .log) (fromStart session buffer) ≡ ms
-  pub ended : nextOf (w .record·) (w .log) (standing (length ms) (w .record·) (w .log) (fromStart session buffer)) .answer ≡ End
+  pub ended : (n : ℕ) → length ms ≤ n → nextOf (w .record·) (w .log) (standing n (w .record·) (w .log) (fromStart session buffer)) .answer ≡ End
 
 -- ---- the demand
 

@@ -61,5 +61,5 @@ pub counts-all : (w : World) (session : ℤ) (lent : List ℕ) (ms : List (List 
     → countOf (w .record·) (w .log) session lent .answer ≡ Counts (length ms) (total ms)
 counts-all w session lent ms g f =
     counting (w .record·) (w .log) ms (fromStart session lent) (3 * reading (w .record·) .term + 1) 0 0 (omega (arith, f .messages)) (omega (arith, f .bytes))
-    (g .each (suc (length ms)) (omega arith)) (g .ended)
+    (g .each (suc (length ms)) (omega arith)) (g .ended (length ms) (omega arith))
     ∙ ap₂ Counts (let x : 0 + length ms ≡ length ms = omega arith in x) (let x : 0 + total ms ≡ total ms = omega arith in x)

@@ -33,6 +33,7 @@ use Rattle.replay.specs.declared.Replay.{Replay}
 use Rattle.replay.specs.Replays.{stateOf}
 use Rattle.replay.specs.History.{Opened, by-opening, Called, by-offer, by-claim, by-write, by-commit, by-abort, by-limit, by-close, Wrote, none, more, AllAnswered, Fed, fed-none, fed-more, Polling, Still, Ran, gathered, Upheld, ReplaysHistory}
 use Rattle.replay.proofs.Counting.{counts-all}
+use Rattle.replay.proofs.Taken.{all-taken, none-laid, laid-none}
 
 -- ---- the writing side
 
@@ -200,7 +201,10 @@ module _ (lent : List ℕ) (term mtu initial session stream : ℤ) (done : openO
               polls-end = λ ps al x. let q = d .replayed s b small holds .finish ps al in (q .0, quiet-is r log s b ps x (q .0) (q .1));
               polls-give = λ ps al x n st. out-is r log s b ps x n ∙ d .replayed s b small holds .exact ps al n (still-is r log s b ps x n st);
               gives = λ x most h. runs x most 0 ∙ ap (replayed most r log) (begins-at x) ∙ d .gives s b small holds .each most h;
-              ends = λ x. answer-is x (length (messages (history w₀ xs))) ∙ d .gives s b small holds .ended;
+              ends = λ x n h. answer-is x n ∙ d .gives s b small holds .ended n h;
+              batches-give = λ x n h. all-taken r log s b (messages (history w₀ xs)) (d .gives s b small holds) x n h;
+              batches-end = λ x n h. none-laid r log s b (messages (history w₀ xs)) (d .gives s b small holds) x n h;
+              batches-only = λ x n h. laid-none r log s b (messages (history w₀ xs)) (d .gives s b small holds) x n h;
               counts = λ a e. e ∙ counts-all (left w₀ xs) s b (messages (history w₀ xs)) (d .gives s b small holds) (few-messages lent term mtu initial session stream done xs g short);
             };
         adds-up = d .adds-up;

@@ -5,4 +5,5 @@ pub mod Batching
 pub mod Inside
 pub mod Again
 pub mod Counting
+pub mod Taken
 pub mod History

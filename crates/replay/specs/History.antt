@@ -12,16 +12,18 @@
 --   poll          image::Image::new, poll                                  newImage, pollOf
 --   assembler     logbuffer::fragment_assembler::FragmentAssembler::new, on_fragment   fresh, assembleOf
 --   replay        replay::Replay::new, next                                newImage and fresh, nextOf
+--   batch         replay::Replay::new, next_batch                          newImage and fresh, batchOf
 --   count         replay::count                                            countOf
 --
--- `Opened`, `Called` and `Wrote` are what the callers of the writing functions see, `Polling`, `Ran` and a count what those of the reading
--- functions see. `ReplaysHistory` says what holds then, whatever the calls were. A body that was lent by `body` and written by hand is left
+-- `Opened`, `Called` and `Wrote` are what the callers of the writing functions see, `Polling`, `Ran`, `Batching` and a count what those of
+-- the reading functions see. `ReplaysHistory` says what holds then, whatever the calls were. A body that was lent by `body` and written by hand is left
 -- with other bytes, as one call of `write` with these bytes leaves it.
 use Prim.Native.Nat.{ℕ, zero, suc, _+_, _-_, _*_, _≤_, _<_}
 use mathlib.Core.Path.{_≡_}
-use mathlib.Core.Bool.{true}
+use mathlib.Core.Bool.{true, cond}
 use mathlib.Core.List.{List, [], _∷_, _++_}
-use lib.ListN.{length, drop, getD}
+use lib.Dec.{eqb}
+use lib.ListN.{length, take, drop, getD}
 use lib.IntN.{ℤ, pos}
 use lib.Signed.{ltZ}
 use Rattle.model.specs.declared.LogRecord.{LogRecord}
@@ -51,9 +53,13 @@ use Rattle.logbuffer.specs.declared.fragment_assembler.AssemblyReply.{AssemblyR
 use Rattle.logbuffer.specs.Assembler.{sessionsOf}
 use Rattle.replay.specs.declared.Replay.{Replay}
 use Rattle.replay.specs.declared.NextReply.{NextReply}
+use Rattle.replay.specs.declared.BatchReply.{BatchReply}
+use Rattle.replay.specs.declared.Batched.{Batched}
+use Rattle.replay.specs.declared.Batched.the-variants.{Laid, Refused}
 use Rattle.replay.specs.declared.Counted.{Counted}
 use Rattle.replay.specs.declared.Counted.the-variants.{Counts}
 use Rattle.replay.specs.Replays.{stateOf, nextReplyOf, countOf}
+use Rattle.replay.specs.Batches.{batchReplyOf, batchOf}
 
 -- ---- the writing side
 
@@ -139,15 +145,52 @@ gathered x zero i = []
 gathered {log = log} x (suc most) i =
     messageBy log (stateOf (x .replay (suc i)) (x .buffer (suc i))) (x .reply i .answer) (gathered x most (suc i))
 
+-- ---- batch by batch
+
+-- a replay as `new` makes it, and the replies of `next_batch`, each taken from where the one before it left replay and lent buffer; `slots`
+-- are the numbers that are lent to each, which hold at least one message and pass row 1, and `numbers` what it leaves in them
+pub record Batching (r : LogRecord) (log : List ℕ) (session : ℤ) (lent : List ℕ) : Type 0 where
+  pub replay : ℕ → Replay
+  pub buffer : ℕ → List ℕ
+  pub slots : ℕ → List ℕ
+  pub reply : ℕ → BatchReply
+  pub numbers : ℕ → List ℕ
+  pub made : (imageState (replay 0 .image) ≡ newImage (pos 0) session) × (sessionsOf (replay 0 .assembler) ≡ fresh)
+  pub first : buffer 0 ≡ lent
+  pub some : (i : ℕ) → (4 ≤ length (slots i)) × (length (slots i) ≤ 2147483647)
+  pub said : (i : ℕ) → batchReplyOf (reply i) (buffer (suc i)) (numbers i) ≡ batchOf r log (stateOf (replay i) (buffer i)) (slots i)
+  pub on : (i : ℕ) → replay (suc i) ≡ reply i .next
+
+-- how many messages a batch laid
+abbrev pub laidBy : Batched → ℕ
+laidBy (Laid n) = n
+laidBy (Refused e) = 0
+
+-- so many messages from message i on, as the numbers say: from where, how many bytes, of the log or of the lent buffer
+unfoldable pub laidOut : List ℕ → List ℕ → List ℕ → ℕ → ℕ → List (List ℕ)
+laidOut log buffer numbers i zero = []
+laidOut log buffer numbers i (suc n) =
+    take (getD numbers (4 * i + 2) 0) (drop (getD numbers (4 * i + 1) 0) (cond (eqb (getD numbers (4 * i) 0) 1) log buffer))
+    ∷ laidOut log buffer numbers (i + 1) n
+
+-- the messages of the first so many batches, each read before the next batch is asked for
+unfoldable pub taken : {r : LogRecord} {log : List ℕ} {session : ℤ} {lent : List ℕ} → Batching r log session lent → ℕ → List (List ℕ)
+taken x zero = []
+taken {log = log} x (suc n) = taken x n ++ laidOut log (x .buffer (suc n)) (x .numbers n) 0 (laidBy (x .reply n .answer))
+
 -- ---- the demand
 
--- Any replay of a record and a log gives back these messages: by polls, by `next`, and by `count`. The reader's session is any number, and
--- the lent buffer may hold anything.
+-- Any replay of a record and a log gives back these messages: by polls, by `next`, by `next_batch` and by `count`. A replay that has given
+-- all answers the end at every call from then on: `next` answers it, a batch lays nothing, and where a batch lays nothing all was given. The
+-- reader's session is any number, and the lent buffer may hold anything.
 pub record Replays (r : LogRecord) (log : List ℕ) (session : ℤ) (lent : List ℕ) (ms : List (List ℕ)) : Type 0 where
   pub polls-end : (ps : Polls) → Allowed ps → (x : Polling r log session lent ps) → (n : ℕ) × Still x n
   pub polls-give : (ps : Polls) → Allowed ps → (x : Polling r log session lent ps) (n : ℕ) → Still x n → x .out n ≡ ms
   pub gives : (x : Ran r log session lent) (most : ℕ) → length ms < most → gathered x most 0 ≡ ms
-  pub ends : (x : Ran r log session lent) → x .reply (length ms) .answer ≡ End
+  pub ends : (x : Ran r log session lent) (n : ℕ) → length ms ≤ n → x .reply n .answer ≡ End
+  pub batches-give : (x : Batching r log session lent) (n : ℕ) → length ms ≤ n → taken x n ≡ ms
+  pub batches-end : (x : Batching r log session lent) (n : ℕ) → taken x n ≡ ms → x .reply n .answer ≡ Laid 0
+  pub batches-only : (x : Batching r log session lent) (n : ℕ) → x .reply n .answer ≡ Laid 0 → taken x n ≡ ms
   pub counts : (a : Counted) → a ≡ countOf r log session lent .answer → a ≡ Counts (length ms) (total ms)
 
 -- w is the log as it was opened, ts the calls with their answers, u what they leave
