@@ -12,7 +12,8 @@
  * - `code` is 0, or the number of the refusal below. Where it is not 0 the other values of a reply are 0, and what was lent by a pointer
  *   is as it was, every byte of it, unless the refusal's line or the call's says otherwise. Only `rule` of an offer or a claim always stands.
  * - With 22 and 23 a reply tells the place of the frame, its offset in its term: in `offset` of a read, a scan, a gap scan and a block, in `outcome`
- *   of an availability scan, in `fragments` of a poll, in `position` of a peek, in `start` of the assembler and a replay, in `messages` of a count.
+ *   of an availability scan, in `fragments` of a poll, in `position` of a peek, in `start` of the assembler and a replay, in `messages` of a batch
+ *   and of a count.
  *
  * Refusals, by number (docs/ERRORS.md says what to do about each)
  *    1  an argument is out of its range               10  message longer than payload limit and message limit
@@ -288,6 +289,12 @@ struct logbuffer_next_reply {
     size_t length;
 };
 
+/* messages is how many were laid into the lent numbers; 0 at the end. */
+struct logbuffer_batch_reply {
+    int32_t code;
+    size_t messages;
+};
+
 struct logbuffer_count_reply {
     int32_t code;
     size_t messages;
@@ -479,6 +486,14 @@ void logbuffer_replay_new(struct logbuffer_replay *replay, int32_t session_id);
  * a frame that it refuses stays read; it then stands before that frame, and called again it refuses the same again. */
 struct logbuffer_next_reply logbuffer_replay_next(struct logbuffer_replay *replay, const struct logbuffer_record *rec, const uint8_t *log,
                                                   size_t log_length, uint8_t *buffer, size_t buffer_length);
+
+/* As many messages at once as there are and the lent numbers hold, four numbers for each: place, start and length as logbuffer_replay_next
+ * answers them, and the position behind it. A message in the buffer is the last of its batch; read a batch before the next call. What
+ * logbuffer_replay_next refuses ends a batch, and is answered by the next call; by this one where nothing was laid before it. Refuses as
+ * logbuffer_replay_next, and 1 for numbers over 2147483647. Fewer than 4 numbers hold no message: then 0 are laid and nothing is read. */
+struct logbuffer_batch_reply logbuffer_replay_next_batch(struct logbuffer_replay *replay, const struct logbuffer_record *rec,
+                                                         const uint8_t *log, size_t log_length, uint8_t *buffer, size_t buffer_length,
+                                                         size_t *numbers, size_t numbers_length);
 
 /* A whole replay: how many messages, and how many bytes they have together. Refuses as logbuffer_replay_next. */
 struct logbuffer_count_reply logbuffer_replay_count(const struct logbuffer_record *rec, const uint8_t *log, size_t log_length,

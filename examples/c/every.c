@@ -215,6 +215,19 @@ static void replays(struct logbuffer_record rec) {
         say_image("  image", replay.image);
         say_assembler("  assembler", replay.assembler);
     }
+    logbuffer_replay_new(&replay, 44);
+    for (int k = 0; k < 3; k++) {
+        size_t numbers[9] = {0}; /* two messages and a rest */
+        struct logbuffer_batch_reply b =
+            logbuffer_replay_next_batch(&replay, &rec, log_bytes, sizeof log_bytes, buffer, sizeof buffer, numbers, 9);
+        SAY("replay_next_batch", "code messages", b.code, b.messages);
+        for (size_t i = 0; i < b.messages; i++) {
+            const size_t *m = numbers + 4 * i;
+            SAY("  message", "place start length position", m[0], m[1], m[2], m[3]);
+        }
+        say_image("  image", replay.image);
+        say_assembler("  assembler", replay.assembler);
+    }
     struct logbuffer_count_reply c = logbuffer_replay_count(&rec, log_bytes, sizeof log_bytes, buffer, sizeof buffer, 55);
     SAY("replay_count", "code messages bytes", c.code, c.messages, c.bytes);
 }

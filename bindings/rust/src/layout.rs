@@ -56,6 +56,7 @@ fn replies_have_the_sizes_of_c() {
     assert_eq!(size_of::<EndOfStreamReply>(), 8);
     assert_eq!(size_of::<AssemblyReply>(), 24);
     assert_eq!(size_of::<NextReply>(), 24);
+    assert_eq!(size_of::<BatchReply>(), 16);
     assert_eq!(size_of::<CountReply>(), 24);
     assert_eq!(size_of::<CardWriteReply>(), 16);
     assert_eq!(size_of::<CardReadReply>(), 40);
@@ -76,5 +77,6 @@ fn fields_of_replies_have_the_offsets_of_c() {
     assert_eq!([offset_of!(GapReply, term_id), offset_of!(GapReply, offset)], [8, 16]);
     assert_eq!([offset_of!(BlockReply, offset), offset_of!(BlockReply, session_id)], [8, 24]);
     assert_eq!([offset_of!(NextReply, code), offset_of!(NextReply, place), offset_of!(NextReply, start)], [0, 4, 8]);
+    assert_eq!([offset_of!(BatchReply, code), offset_of!(BatchReply, messages)], [0, 8]);
     assert_eq!([offset_of!(CardReadReply, card), offset_of!(CardReadReply, note_start)], [4, 24]);
 }

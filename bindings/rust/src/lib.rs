@@ -20,7 +20,8 @@
 //!
 //! - [`Log`]: opening, offers, claims, limit, close, scans, replay.
 //! - [`Claim`] and [`OpenClaim`]: a frame to be written in place.
-//! - [`Poller`]: a reader at a position. [`Assembler`]: messages out of fragments. [`Replay`]: both, from the start.
+//! - [`Poller`]: a reader at a position. [`Assembler`]: messages out of fragments. [`Replay`]: both, from the start, a message or a
+//!   [`Batch`] at a time.
 //! - [`Card`]: a find card, a message body of one format.
 //! - [`Log::shelve`], [`Record::unshelve`]: a finished term with all its headers together, and back.
 //! - [`Error`]: the refusals, with cause and remedy. [`Rule`]: which check decided an offer or a claim, with a line of advice. Refused by
@@ -59,7 +60,7 @@ pub use claim::{Claim, OpenClaim};
 pub use error::{Error, Place};
 pub use log::Log;
 pub use poller::{Action, Block, Fragment, Fragments, Poller};
-pub use replay::{Count, Replay};
+pub use replay::{Batch, Count, Replay};
 pub use rule::Rule;
 pub use scan::{Availability, FrameLength, GapScan};
 pub use sys::{Header, Record};

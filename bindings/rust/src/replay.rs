@@ -1,4 +1,4 @@
-//! A log's messages from the start, one after another. The last of the files; tests/ has the calls in use.
+//! A log's messages from the start, one after another or in batches. The last of the files; tests/ has the calls in use.
 
 use crate::sys;
 use crate::{Error, Log};
@@ -28,7 +28,16 @@ pub struct Replay<'a> {
     log: &'a Log,
     replay: sys::Replay,
     buffer: Vec<u8>,
+    numbers: Vec<usize>,
     is_ended: bool,
+}
+
+/// Messages one after another, where they lie. Made by [`Replay::next_batch`].
+#[derive(Clone, Debug)]
+pub struct Batch<'a> {
+    log: &'a [u8],
+    buffer: &'a [u8],
+    messages: std::slice::ChunksExact<'a, usize>,
 }
 
 /// What a whole replay gives.
@@ -67,7 +76,57 @@ impl Replay<'_> {
             }
         }
     }
+
+    /// The next messages, up to `most` of them and at least one, in one call: for readers of long logs. A batch ends early at a message in
+    /// fragments, which lies in the replay's own buffer. The limit is taken as 1 where it is 0, and as 536,870,911 where it is more.
+    ///
+    /// ```
+    /// let mut log = logbuffer::Log::builder().open()?;
+    /// log.offer(b"coin")?;
+    /// log.offer(b"pin")?;
+    /// let mut replay = log.replay();
+    /// while let Some(batch) = replay.next_batch(256) {
+    ///     for message in batch? {
+    ///         println!("{} bytes", message.len());
+    ///     }
+    /// }
+    /// # Ok::<(), logbuffer::Error>(())
+    /// ```
+    pub fn next_batch(&mut self, most: usize) -> Option<Result<Batch<'_>, Error>> {
+        if self.is_ended {
+            return None;
+        }
+        self.numbers.resize(4 * most.clamp(1, 536_870_911), 0);
+        let reply = sys::replay_next_batch(&mut self.replay, &self.log.record, &self.log.bytes, &mut self.buffer, &mut self.numbers);
+        let partition = self.log.partition_of(self.replay.image.position);
+        let answer = Error::check_frame(reply.code, partition, reply.messages);
+        if answer.is_err() || reply.messages == 0 {
+            self.is_ended = true;
+            return answer.err().map(Err);
+        }
+        let messages = self.numbers[..4 * reply.messages].chunks_exact(4);
+        Some(Ok(Batch { log: &self.log.bytes, buffer: &self.buffer, messages }))
+    }
 }
+
+impl<'a> Iterator for Batch<'a> {
+    type Item = &'a [u8];
+
+    fn next(&mut self) -> Option<&'a [u8]> {
+        let message = self.messages.next()?;
+        let (place, start, length) = (message[0], message[1], message[2]);
+        let bytes = if place == sys::IN_LOG as usize { self.log } else { self.buffer };
+        Some(&bytes[start..start + length])
+    }
+
+    fn size_hint(&self) -> (usize, Option<usize>) {
+        self.messages.size_hint()
+    }
+}
+
+impl ExactSizeIterator for Batch<'_> {}
+
+impl std::iter::FusedIterator for Batch<'_> {}
 
 /// Copies of the messages.
 impl Iterator for Replay<'_> {
@@ -91,7 +150,7 @@ impl Log {
     /// ```
     pub fn replay(&self) -> Replay<'_> {
         let replay = sys::replay_new(self.record.session_id);
-        Replay { log: self, replay, buffer: self.assembly_buffer(), is_ended: false }
+        Replay { log: self, replay, buffer: self.assembly_buffer(), numbers: Vec::new(), is_ended: false }
     }
 
     /// How many messages a whole [`replay`](Log::replay) gives, and how many bytes they have together. Refuses what ends a replay.

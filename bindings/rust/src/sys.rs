@@ -140,6 +140,7 @@ replies! {
     EndOfStreamReply { code: i32, is_eos: bool }
     AssemblyReply { code: i32, place: i32, start: usize, length: usize }
     NextReply { code: i32, place: i32, start: usize, length: usize }
+    BatchReply { code: i32, messages: usize }
     CountReply { code: i32, messages: usize, bytes: usize }
     CardWriteReply { code: i32, length: usize }
     CardReadReply { code: i32, card: Card, note_start: usize, note_length: usize }
@@ -162,6 +163,7 @@ mod face {
     type In = *const u8;
     type Out = *mut u8;
     type Entries = *mut i32;
+    type Numbers = *mut usize;
 
     #[rustfmt::skip]
     unsafe extern "C" {
@@ -252,6 +254,10 @@ mod face {
         pub fn logbuffer_replay_next(
             replay: &mut Replay, rec: &Record, log: In, log_length: usize, buffer: Out, buffer_length: usize,
         ) -> NextReply;
+        pub fn logbuffer_replay_next_batch(
+            replay: &mut Replay, rec: &Record, log: In, log_length: usize, buffer: Out, buffer_length: usize, numbers: Numbers,
+            numbers_length: usize,
+        ) -> BatchReply;
         pub fn logbuffer_replay_count(
             rec: &Record, log: In, log_length: usize, buffer: Out, buffer_length: usize, session_id: i32,
         ) -> CountReply;
@@ -503,6 +509,22 @@ pub fn assembler_on_fragment(
 pub fn replay_next(replay: &mut Replay, rec: &Record, log: &[u8], buffer: &mut [u8]) -> NextReply {
     // SAFETY: pointers and lengths are those of the slices.
     unsafe { face::logbuffer_replay_next(replay, rec, log.as_ptr(), log.len(), buffer.as_mut_ptr(), buffer.len()) }
+}
+
+pub fn replay_next_batch(replay: &mut Replay, rec: &Record, log: &[u8], buffer: &mut [u8], numbers: &mut [usize]) -> BatchReply {
+    // SAFETY: pointers and lengths are those of the slices.
+    unsafe {
+        face::logbuffer_replay_next_batch(
+            replay,
+            rec,
+            log.as_ptr(),
+            log.len(),
+            buffer.as_mut_ptr(),
+            buffer.len(),
+            numbers.as_mut_ptr(),
+            numbers.len(),
+        )
+    }
 }
 
 pub fn replay_count(rec: &Record, log: &[u8], buffer: &mut [u8], session_id: i32) -> CountReply {

@@ -141,7 +141,7 @@ impl World {
         messages.collect()
     }
 
-    /// A replay, a count, and three ways to poll, each against what was written.
+    /// A replay, batches, a count, and three ways to poll, each against what was written.
     fn check(&mut self) {
         let (log, expected) = (&self.log, self.expected());
         assert_eq!(log.replay().collect::<Result<Vec<_>, _>>().unwrap(), expected);
@@ -155,8 +155,21 @@ impl World {
         assert_eq!(messages, expected);
         let limit = 1 + self.random.below(50);
         assert_eq!(polled(log, limit), expected);
+        assert_eq!(batched(log, limit), expected);
         assert_eq!(controlled(log, limit, &mut self.random), expected);
     }
+}
+
+/// Messages by batches of so many.
+fn batched(log: &Log, most: usize) -> Vec<Vec<u8>> {
+    let (mut replay, mut messages) = (log.replay(), Vec::new());
+    while let Some(batch) = replay.next_batch(most) {
+        let batch = batch.unwrap();
+        assert!((1..=most).contains(&batch.len()));
+        messages.extend(batch.map(<[u8]>::to_vec));
+    }
+    assert!(replay.next_batch(most).is_none());
+    messages
 }
 
 /// Messages by polls of some fragments at a time.

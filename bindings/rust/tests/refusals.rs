@@ -233,6 +233,10 @@ fn refuses_frame(log: &Log, refused: impl Fn(Place) -> Error) {
     assert_eq!(log.poller(0).controlled_peek(log, 64, i64::MAX, 1, |_| Action::Continue), Err(error));
     assert_eq!(poller.fragments(log).collect::<Vec<_>>(), [Err(error)]);
     assert_eq!(log.replay().collect::<Vec<_>>(), [Ok(b"coin".to_vec()), Err(error)]);
+    let mut replay = log.replay();
+    assert_eq!(replay.next_batch(8).unwrap().unwrap().collect::<Vec<_>>(), [b"coin"]);
+    assert_eq!(replay.next_batch(8).unwrap().err(), Some(error));
+    assert!(replay.next_batch(8).is_none());
     assert_eq!(log.count(), Err(refused(Place { partition: None, offset })));
     assert_eq!(log.scan(0, 64, 128), Err(error));
     assert_eq!(log.scan_for_gap(0, 7, 64, 128), Err(error));

@@ -2,5 +2,6 @@
 pub mod Promised
 pub mod Halves
 pub mod Kept
+pub mod Passed
 pub mod Steps
 pub mod Narrow

@@ -33,6 +33,8 @@ use Rattle.model.specs.declared.EndOfStream.{EndOfStream}
 use Rattle.model.specs.declared.EndOfStream.the-variants.{Is, Refused as EndOfStreamRefused}
 use Rattle.model.specs.declared.Assembled.{Assembled}
 use Rattle.model.specs.declared.Replayed.{Replayed}
+use Rattle.replay.specs.declared.Batched.{Batched}
+use Rattle.replay.specs.declared.Batched.the-variants.{Laid, Refused as BatchRefused}
 use Rattle.replay.specs.declared.Counted.{Counted}
 use Rattle.replay.specs.declared.Counted.the-variants.{Counts, Refused as CountRefused}
 use Rattle.capi.specs.Words.{claimWords}
@@ -54,6 +56,7 @@ use Rattle.capi.specs.declared.replies.BlockReply.{BlockReply}
 use Rattle.capi.specs.declared.replies.EndOfStreamReply.{EndOfStreamReply}
 use Rattle.capi.specs.declared.replies.AssemblyReply.{AssemblyReply}
 use Rattle.capi.specs.declared.replies.NextReply.{NextReply}
+use Rattle.capi.specs.declared.replies.BatchReply.{BatchReply}
 use Rattle.capi.specs.declared.replies.CountReply.{CountReply}
 
 -- the value at an index; the same where it is a size; whether it is below 0, as where an append tripped
@@ -210,6 +213,11 @@ nextReply a =
       start = sizeOrPlace 1 (replayedTold a);
       length = size 2 (replayedTold a);
     }
+
+-- how many messages a batch laid; refused, the place
+abbrev pub batchReply : Batched → BatchReply
+batchReply (Laid n) = record { code = pos 0; messages = n }
+batchReply (BatchRefused e) = record { code = numberOf e; messages = placeOf e }
 
 -- a count of messages and of their bytes; refused, the first is the place
 abbrev pub countReply : Counted → CountReply

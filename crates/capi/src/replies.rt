@@ -7,7 +7,7 @@ ghost use Prim.Native.Nat.{_-_};
 ghost use mathlib.Core.List.{[]};
 ghost use Rattle.model.specs.Answers.{answered};
 ghost use Rattle.model.specs.declared.FrameLengthRead.the-variants.{Length};
-ghost use Rattle.capi.specs.Replies.{outcomeNumber, cut32, positionReply, offerReply, claimReply, spanReply, appendReply, appendClaimReply, fieldsAt, headerReply, frameLengthReply, readReply, scanReply, gapReply, availabilityReply, pollReply, peekReply, blockReply, endOfStreamReply, assemblyReply, nextReply, countReply};
+ghost use Rattle.capi.specs.Replies.{outcomeNumber, cut32, positionReply, offerReply, claimReply, spanReply, appendReply, appendClaimReply, fieldsAt, headerReply, frameLengthReply, readReply, scanReply, gapReply, availabilityReply, pollReply, peekReply, blockReply, endOfStreamReply, assemblyReply, nextReply, batchReply, countReply};
 use crate::words;
 use logbuffer::errors;
 use model::Appended;
@@ -33,6 +33,7 @@ use model::Rule;
 use model::Scanned;
 use model::TermRead;
 use publication::rule;
+use replay::Batched;
 use replay::Counted;
 
 #[repr(C)]
@@ -164,6 +165,12 @@ pub struct NextReply {
     pub place: i32,
     pub start: usize,
     pub length: usize,
+}
+
+#[repr(C)]
+pub struct BatchReply {
+    pub code: i32,
+    pub messages: usize,
 }
 
 #[repr(C)]
@@ -591,6 +598,21 @@ pub fn replayed(answer: Replayed) -> NextReply
             place: 0,
             start: errors::place(e) as usize,
             length: 0,
+        },
+    }
+}
+
+pub fn batched(answer: Batched) -> BatchReply
+    ensures { λ r. ⌜ r ≡ batchReply answer ⌝ }
+{
+    match answer {
+        Batched::Laid(messages) => BatchReply {
+            code: 0,
+            messages: messages,
+        },
+        Batched::Refused(e) => BatchReply {
+            code: errors::number(e),
+            messages: errors::place(e) as usize,
         },
     }
 }

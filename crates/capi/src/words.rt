@@ -1,9 +1,13 @@
 // What C keeps and lends by a pointer, as words: specs/Words.antt draws how a record, an image, an assembler and a replay lie. A call reads the words that
 // it needs and writes those that it changes; every index is a constant, so that nothing has to stand in memory besides.
 ghost use mathlib.Core.Path.{_≡_};
+ghost use Prim.Native.Nat.{ℕ};
+ghost use lib.ListN.{set};
+ghost use mir.Syntax.{w64};
+ghost use mir.Val.{SFits};
 ghost use Rattle.logbuffer.specs.Assembler.{sessionsOf};
 ghost use Rattle.image.specs.Images.{stateOf};
-ghost use Rattle.capi.specs.Words.{lowOf, highOf, pairOf, flagOf, recordIn, recordOut, limitOut, closedOut, recordFilled, imageAt, imageIn, imageOut, shutBits, shutOut, imageFilled, idsFrom, heldFrom, idsTo, heldTo, assemblerIn, assemblerTo, assemblerOut, replayIn, claimWords};
+ghost use Rattle.capi.specs.Words.{at, lowOf, highOf, pairOf, flagOf, countOut, recordIn, recordOut, limitOut, closedOut, recordFilled, imageAt, imageIn, imageOut, shutBits, shutOut, imageFilled, idsFrom, heldFrom, idsTo, heldTo, assemblerIn, assemblerFrom, assemblerTo, assemblerOut, replayIn, claimWords};
 use image::Image;
 use logbuffer::cast;
 use logbuffer::fragment_assembler::FragmentAssembler;
@@ -271,6 +275,13 @@ pub(crate) fn assembler_out(w: &mut [i64; 25], next: FragmentAssembler)
 
 // ---- a replay
 
+// Its image alone.
+pub(crate) fn replay_image(w: &[i64; 27]) -> Image
+    ensures { λ r. ⌜ r ≡ imageIn (now (w .entry)) ⌝ }
+{
+    image_at(w[0], w[1])
+}
+
 pub(crate) fn replay_in(w: &[i64; 27]) -> Replay
     ensures { λ r. ⌜ r ≡ replayIn (now (w .entry)) ⌝ }
 {
@@ -340,7 +351,21 @@ fn sessions_out(w: &mut [i64; 27], next: FragmentAssembler)
     w[26] = assembler[24];
 }
 
-// After a message.
+// Nothing is done here. Taken by value, words are known to be numbers of 64 bits, so that what is read of them and written back is what was there.
+fn numbers(w: [i64; 27])
+    ensures { λ _. ⌜ ((i : ℕ) → SFits w64 (at w i)) ⌝ }
+{}
+
+// After a message that was handed out as it lies: the image's position alone. The words of the assembler stay, which is to write back what is
+// read there.
+pub(crate) fn position_out(w: &mut [i64; 27], position: usize)
+    ensures { λ _. ⌜ now (w .exit) ≡ assemblerTo (set (now (w .entry)) 0 (countOut position)) 2 (sessionsOf (assemblerFrom (now (w .entry)) 2)) ⌝ }
+{
+    numbers(*w);
+    w[0] = cast::to_i64(position);
+}
+
+// After any message.
 pub(crate) fn replay_out(w: &mut [i64; 27], next: Replay)
     ensures { λ _. ⌜ now (w .exit) ≡ assemblerTo (imageOut (now (w .entry)) (stateOf (next .image))) 2 (sessionsOf (next .assembler)) ⌝ }
 {
