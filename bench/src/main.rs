@@ -1,6 +1,8 @@
 //! How long the port and the given Rust take for the same calls on the same inputs, in one run: a table of nanoseconds and ratios.
-//! The two sides take turns, round by round; a row tells the medians of its rounds. Read port.rs and shelves.rs next.
+//! The two sides take turns, round by round; a row tells the medians of its rounds. With `--instructions` each side of a row is run once, in
+//! `measured`, which run.sh has callgrind count. Read port.rs, growth.rs and shelves.rs next.
 
+mod growth;
 mod port;
 mod shelves;
 
@@ -19,11 +21,11 @@ const TERM: i32 = 16 << 20;
 const MTU: i32 = 1_408;
 const ROUNDS: usize = 41;
 
-fn original(mtu: i32) -> Original {
-    let log = Original::open(TERM, mtu, 7, 11, 22);
+fn original(term: i32, mtu: i32) -> Original {
+    let log = Original::open(term, mtu, 7, 11, 22);
     log.limit.set_ordered(1 << 62);
     for k in 0..3 {
-        log.term(k).set_memory(0, TERM, 0);
+        log.term(k).set_memory(0, term, 0);
     }
     log
 }
@@ -43,8 +45,20 @@ fn median(times: &mut [f64]) -> f64 {
     times[times.len() / 2]
 }
 
+/// What callgrind counts; a function of its own, so that it finds it.
+#[inline(never)]
+fn measured(run: &mut dyn FnMut()) {
+    run();
+}
+
 /// Times both sides in turns and prints the row, in nanoseconds for each of `units`.
 fn row<A, B>(name: &str, units: usize, mut rust: impl FnMut() -> A, mut port: impl FnMut() -> B) {
+    if std::env::args().any(|word| word == "--instructions") {
+        measured(&mut || _ = black_box(rust()));
+        measured(&mut || _ = black_box(port()));
+        println!("{name}|{units}");
+        return;
+    }
     let (mut theirs, mut ours) = (Vec::new(), Vec::new());
     for _ in 0..ROUNDS {
         theirs.push(timed(&mut rust));
@@ -55,14 +69,14 @@ fn row<A, B>(name: &str, units: usize, mut rust: impl FnMut() -> A, mut port: im
 }
 
 /// Offers go through the three terms again and again; nothing is cleared in between.
-fn offers(length: usize, mtu: i32, count: usize) {
+fn offers(name: &str, length: usize, term: i32, mtu: i32, count: usize) {
     let mut message = vec![5u8; length];
-    let log = original(mtu);
+    let log = original(term, mtu);
     let publication = log.publication();
-    let mut ours = port::Log::open(TERM, mtu);
+    let mut ours = port::Log::open(term, mtu);
     let copy = message.clone();
     row(
-        &format!("offer of {length}, mtu {mtu}"),
+        &format!("offer of {length}, {name}"),
         count,
         || (0..count).for_each(|_| _ = black_box(publication.offer_opt(over(&mut message), 0, length as Index, reserved))),
         || (0..count).for_each(|_| _ = black_box(ours.offer(&copy))),
@@ -70,7 +84,7 @@ fn offers(length: usize, mtu: i32, count: usize) {
 }
 
 fn claims(count: usize) {
-    let log = original(MTU);
+    let log = original(TERM, MTU);
     let mut publication = log.publication();
     let mut ours = port::Log::open(TERM, MTU);
     row(
@@ -89,24 +103,21 @@ fn claims(count: usize) {
 }
 
 /// Both logs after the same offers into cleared memory; their bytes are equal.
-fn filled(length: usize, count: usize) -> (Original, port::Log) {
+fn filled(term: i32, length: usize, count: usize) -> (Original, port::Log) {
     let mut message = vec![5u8; length];
-    let (log, mut ours) = (original(MTU), port::Log::open(TERM, MTU));
+    let (log, mut ours) = (original(term, MTU), port::Log::open(term, MTU));
     let publication = log.publication();
     for _ in 0..count {
         let _ = publication.offer_opt(over(&mut message), 0, length as Index, reserved);
         ours.offer(&message);
     }
     drop(publication);
-    for k in 0..3 {
-        let at = k as usize * TERM as usize;
-        assert!(log.bytes(k, 0, TERM) == ours.bytes[at..at + TERM as usize]);
-    }
+    assert!(log.terms() == ours.bytes);
     (log, ours)
 }
 
 fn polls(length: usize, limit: i32, count: usize) {
-    let (log, ours) = filled(length, count);
+    let (log, ours) = filled(TERM, length, count);
     let mut entries = vec![0; 512];
     let read = || {
         let ((mut image, _place), mut fragments, mut sum) = (log.image(0), 0, 0);
@@ -122,36 +133,43 @@ fn polls(length: usize, limit: i32, count: usize) {
     row(&format!("poll of {length}, limit {limit}, a fragment"), read().0, read, || ours.poll_all(&mut entries, limit));
 }
 
-/// Like beside like: a message a call beside polls of one fragment, a count beside polls of many; the Rust's all go into its assembler.
-fn replays(length: usize, count: usize) {
-    let (log, ours) = filled(length, count);
-    let mut buffer = vec![0; 16 << 20];
-    let read = |limit: i32| {
-        let (mut messages, mut bytes) = (0, 0);
-        {
-            let mut delegate = |_: &AtomicBuffer, _: Index, length: Index, _: &Header| {
-                messages += 1;
-                bytes += length as usize;
-            };
-            let mut assembler = FragmentAssembler::new(&mut delegate, Some(1 << 20));
-            let mut handler = assembler.handler();
-            let (mut image, _place) = log.image(0);
-            // A poll may pass a term's padding alone and answer 0; behind it the next poll goes on.
-            let mut zeros = 0;
-            while zeros < 2 {
-                zeros = if image.poll(&mut handler, limit) > 0 { 0 } else { zeros + 1 };
-            }
+/// Messages and their bytes by polls of such a limit into the Rust's assembler.
+fn replayed(log: &Original, limit: i32) -> (usize, usize) {
+    let (mut messages, mut bytes) = (0, 0);
+    {
+        let mut delegate = |_: &AtomicBuffer, _: Index, length: Index, _: &Header| {
+            messages += 1;
+            bytes += length as usize;
+        };
+        let mut assembler = FragmentAssembler::new(&mut delegate, Some(1 << 20));
+        let mut handler = assembler.handler();
+        let (mut image, _place) = log.image(0);
+        // A poll may pass a term's padding alone and answer 0; behind it the next poll goes on.
+        let mut zeros = 0;
+        while zeros < 2 {
+            zeros = if image.poll(&mut handler, limit) > 0 { 0 } else { zeros + 1 };
         }
-        (messages, bytes)
-    };
+    }
+    (messages, bytes)
+}
+
+/// Like beside like: a message a call beside polls of one fragment, batches and a count beside polls of many; the Rust's all go into its
+/// assembler.
+fn replays(length: usize, count: usize) {
+    let (log, ours) = filled(TERM, length, count);
+    let mut buffer = vec![0; 16 << 20];
+    let mut numbers = vec![0; 4 * 256];
+    let read = |limit: i32| replayed(&log, limit);
     assert_eq!(read(1), ours.replay_all(&mut buffer));
+    assert_eq!(read(256), ours.batch_all(&mut buffer, &mut numbers));
     assert_eq!(read(256), ours.count_all(&mut buffer));
     row(&format!("replay of {length}, a message a call"), count, || read(1), || ours.replay_all(&mut buffer));
+    row(&format!("replay of {length}, batches of 256"), count, || read(256), || ours.batch_all(&mut buffer, &mut numbers));
     row(&format!("replay of {length}, counted in one call"), count, || read(256), || ours.count_all(&mut buffer));
 }
 
 fn scans(count: usize) {
-    let (log, ours) = filled(64, count);
+    let (log, ours) = filled(TERM, 64, count);
     let end = 96 * count as i32;
     row("scan, a frame", count, || term_scan::scan(&log.term(0), 0, end), || ours.scan(end));
     let available = || term_scan::scan_for_availability(&log.term(0), 0, end);
@@ -171,13 +189,12 @@ fn opening() {
 }
 
 fn main() {
-    println!("| Row | the Rust, ns | the port, ns | ratio |\n|---|---|---|---|");
-    offers(0, MTU, 50_000);
-    offers(64, MTU, 50_000);
-    offers(1_024, MTU, 20_000);
-    offers(8_192, MTU, 4_000);
-    offers(8_192, 65_504, 4_000);
-    offers(65_472, 65_504, 400);
+    offers("mtu 1408", 0, TERM, MTU, 50_000);
+    offers("mtu 1408", 64, TERM, MTU, 50_000);
+    offers("mtu 1408", 1_024, TERM, MTU, 20_000);
+    offers("mtu 1408", 8_192, TERM, MTU, 4_000);
+    offers("mtu 65504", 8_192, TERM, 65_504, 4_000);
+    offers("mtu 65504", 65_472, TERM, 65_504, 400);
     claims(50_000);
     polls(64, 1, 100_000);
     polls(64, 256, 100_000);
@@ -188,5 +205,6 @@ fn main() {
     replays(8_192, 4_000);
     scans(100_000);
     opening();
+    growth::rows();
     shelves::rows();
 }

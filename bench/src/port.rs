@@ -63,6 +63,12 @@ pub struct NextReply {
 }
 
 #[repr(C)]
+pub struct BatchReply {
+    code: i32,
+    messages: usize,
+}
+
+#[repr(C)]
 pub struct CountReply {
     code: i32,
     messages: usize,
@@ -101,10 +107,29 @@ extern "C" {
     fn logbuffer_image_poll(image: *mut Image, rec: *const Record, log: *const u8, n: usize, entries: *mut i32, e: usize, limit: i32) -> PollReply;
     fn logbuffer_replay_new(replay: *mut Replay, session: i32);
     fn logbuffer_replay_next(replay: *mut Replay, rec: *const Record, log: *const u8, n: usize, buffer: *mut u8, b: usize) -> NextReply;
+    fn logbuffer_replay_next_batch(
+        replay: *mut Replay, rec: *const Record, log: *const u8, n: usize, buffer: *mut u8, b: usize, numbers: *mut usize, m: usize,
+    ) -> BatchReply;
     fn logbuffer_replay_count(rec: *const Record, log: *const u8, n: usize, buffer: *mut u8, b: usize, session: i32) -> CountReply;
     fn logbuffer_scan(rec: *const Record, log: *const u8, n: usize, partition: i32, offset: i32, limit: i32) -> ScanReply;
     fn logbuffer_scan_for_gap(rec: *const Record, log: *const u8, n: usize, partition: i32, id: i32, offset: i32, high: i32) -> GapReply;
     fn logbuffer_scan_for_availability(rec: *const Record, log: *const u8, n: usize, partition: i32, offset: i32, most: i32) -> AvailabilityReply;
+}
+
+/// Polls logs in turns until none gives a fragment; how many there were.
+pub fn poll_in_turns(logs: &[&Log], entries: &mut [i32], limit: i32) -> usize {
+    let mut images = vec![Image::default(); logs.len()];
+    images.iter_mut().for_each(|image| unsafe { logbuffer_image_new(image, 0, 11) });
+    let (mut fragments, mut before) = (0, usize::MAX);
+    while before != fragments {
+        before = fragments;
+        for (image, log) in images.iter_mut().zip(logs) {
+            let (bytes, n) = (log.bytes.as_ptr(), log.bytes.len());
+            let reply = unsafe { logbuffer_image_poll(image, &log.record, bytes, n, entries.as_mut_ptr(), entries.len(), limit) };
+            fragments += if reply.code == 0 { reply.fragments as usize } else { 0 };
+        }
+    }
+    fragments
 }
 
 /// A log and its record.
@@ -171,6 +196,25 @@ impl Log {
             messages += 1;
             bytes += reply.length;
             std::hint::black_box(reply.start);
+        }
+    }
+
+    /// The same with so many messages a call as the numbers hold.
+    pub fn batch_all(&self, buffer: &mut [u8], numbers: &mut [usize]) -> (usize, usize) {
+        let (mut replay, mut messages, mut bytes) = (Replay::default(), 0, 0);
+        unsafe { logbuffer_replay_new(&mut replay, 11) };
+        loop {
+            let (log, n, out) = (self.bytes.as_ptr(), self.bytes.len(), numbers.as_mut_ptr());
+            let reply = unsafe {
+                logbuffer_replay_next_batch(&mut replay, &self.record, log, n, buffer.as_mut_ptr(), buffer.len(), out, numbers.len())
+            };
+            if reply.code != 0 || reply.messages == 0 {
+                return (messages, bytes);
+            }
+            for message in numbers[..4 * reply.messages].chunks_exact(4) {
+                messages += 1;
+                bytes += message[2];
+            }
         }
     }
 

@@ -1,0 +1,78 @@
+//! Cost as the work grows: rows that are the same work for each unit, over more of it. Each should be flat, on both sides.
+
+use aeron_rs::concurrent::atomic_buffer::AtomicBuffer;
+use aeron_rs::concurrent::logbuffer::header::Header;
+use aeron_rs::utils::types::Index;
+
+use crate::{filled, offers, original, port, replayed, row, MTU};
+
+/// A log of such a length, whole messages of 1,024 bytes in it.
+fn replays_of(megabytes: usize) {
+    let count = megabytes * 1_000_000 / 1_056;
+    let (log, ours) = filled(64 << 20, 1_024, count);
+    let (mut buffer, mut numbers) = (vec![0; 16 << 20], vec![0; 4 * 256]);
+    assert_eq!(replayed(&log, 256), ours.batch_all(&mut buffer, &mut numbers));
+    let name = format!("replay of {megabytes} MB, batches of 256, a message of 1024");
+    row(&name, count, || replayed(&log, 256), || ours.batch_all(&mut buffer, &mut numbers));
+}
+
+/// As many logs as sessions, polled in turns, 10 fragments a poll; as many fragments in all.
+fn polls_of(sessions: usize) {
+    let count = 64_000 / sessions;
+    let logs: Vec<_> = (0..sessions).map(|_| filled(8 << 20, 64, count)).collect();
+    let mut entries = vec![0; 20];
+    let read = || {
+        let mut images: Vec<_> = logs.iter().map(|(log, _)| log.image(0)).collect();
+        let (mut fragments, mut before) = (0, usize::MAX);
+        while before != fragments {
+            before = fragments;
+            for (image, _) in &mut images {
+                fragments += image.poll(&mut |_: &AtomicBuffer, _: Index, _: Index, _: &Header| {}, 10) as usize;
+            }
+        }
+        fragments
+    };
+    let ours: Vec<_> = logs.iter().map(|(_, ours)| ours).collect();
+    assert_eq!(read(), port::poll_in_turns(&ours, &mut entries, 10));
+    let name = format!("poll of 64, limit 10, sessions in turns: {sessions}, a fragment");
+    row(&name, sessions * count, read, || port::poll_in_turns(&ours, &mut entries, 10));
+}
+
+/// A frame of a body of 1,376 bytes at a place of a log.
+fn put_frame(log: &mut [u8], at: usize, flags: u8, session: i32) {
+    let frame = &mut log[at..at + 1_408];
+    frame[..4].copy_from_slice(&1_408u32.to_le_bytes());
+    frame[4..8].copy_from_slice(&[0, flags, 1, 0]);
+    frame[8..12].copy_from_slice(&(at as u32).to_le_bytes());
+    frame[12..16].copy_from_slice(&session.to_le_bytes());
+    frame[16..20].copy_from_slice(&22i32.to_le_bytes());
+    frame[20..24].copy_from_slice(&7i32.to_le_bytes());
+    frame[32..].fill(5);
+}
+
+/// Messages of four fragments each, those of so many sessions interleaved.
+fn assembles(sessions: usize) {
+    let (term, count) = (64 << 20, 8_000);
+    let (log, mut ours) = (original(term, MTU), port::Log::open(term, MTU));
+    for k in 0..4 * count {
+        let (round, part) = (k / (4 * sessions), k / sessions % 4);
+        let at = 1_408 * (round * 4 * sessions + part * sessions + k % sessions);
+        for bytes in [log.terms_mut(), &mut ours.bytes[..]] {
+            put_frame(bytes, at, [0x80, 0, 0, 0x40][part], 100 + (k % sessions) as i32);
+        }
+    }
+    let mut buffer = vec![0; 16 * 8_192];
+    assert_eq!(replayed(&log, 256), ours.count_all(&mut buffer));
+    assert_eq!(ours.count_all(&mut buffer), (count, count * 5_504));
+    let name = format!("assembling 4 fragments of 1376, sessions interleaved: {sessions}, a message");
+    row(&name, count, || replayed(&log, 256), || ours.count_all(&mut buffer));
+}
+
+pub fn rows() {
+    for (name, term) in [("64 KiB", 64 << 10), ("16 MiB", 16 << 20), ("1 GiB", 1 << 30)] {
+        offers(&format!("terms of {name}"), 64, term, MTU, 50_000);
+    }
+    [1, 10, 100].into_iter().for_each(replays_of);
+    [1, 16].into_iter().for_each(polls_of);
+    [1, 16].into_iter().for_each(assembles);
+}
