@@ -70,11 +70,12 @@ fn row<A, B>(name: &str, units: usize, mut rust: impl FnMut() -> A, mut port: im
 
 /// Offers go through the three terms again and again; nothing is cleared in between.
 fn offers(name: &str, length: usize, term: i32, mtu: i32, count: usize) {
-    let mut message = vec![5u8; length];
+    let (mut message, mut copy) = (port::Memory::zeroed(length), port::Memory::zeroed(length));
+    message.fill(5);
+    copy.fill(5);
     let log = original(term, mtu);
     let publication = log.publication();
     let mut ours = port::Log::open(term, mtu);
-    let copy = message.clone();
     row(
         &format!("offer of {length}, {name}"),
         count,
@@ -112,7 +113,7 @@ fn filled(term: i32, length: usize, count: usize) -> (Original, port::Log) {
         ours.offer(&message);
     }
     drop(publication);
-    assert!(log.terms() == ours.bytes);
+    assert!(*log.terms() == *ours.bytes);
     (log, ours)
 }
 

@@ -1,5 +1,7 @@
 //! The functions of include/logbuffer.h that main.rs measures, and the port's side of each row.
 
+use std::ops::{Deref, DerefMut};
+
 #[repr(C)]
 #[derive(Clone, Copy, Default)]
 pub struct Record {
@@ -132,15 +134,44 @@ pub fn poll_in_turns(logs: &[&Log], entries: &mut [i32], limit: i32) -> usize {
     fragments
 }
 
+/// Zeroed memory, used from the first multiple of 64 on, as the Rust's log is: asked for alike, and copies cross the lines of the cache alike.
+pub struct Memory {
+    bytes: Vec<u8>,
+    start: usize,
+    length: usize,
+}
+
+impl Memory {
+    pub fn zeroed(length: usize) -> Self {
+        let bytes = vec![0; length + 64];
+        let start = bytes.as_ptr().align_offset(64);
+        Memory { bytes, start, length }
+    }
+}
+
+impl Deref for Memory {
+    type Target = [u8];
+
+    fn deref(&self) -> &[u8] {
+        &self.bytes[self.start..self.start + self.length]
+    }
+}
+
+impl DerefMut for Memory {
+    fn deref_mut(&mut self) -> &mut [u8] {
+        &mut self.bytes[self.start..self.start + self.length]
+    }
+}
+
 /// A log and its record.
 pub struct Log {
-    pub bytes: Vec<u8>,
+    pub bytes: Memory,
     record: Record,
 }
 
 impl Log {
     pub fn open(term: i32, mtu: i32) -> Self {
-        let mut bytes = vec![0; 3 * term as usize];
+        let mut bytes = Memory::zeroed(3 * term as usize);
         let mut record = Record::default();
         assert_eq!(unsafe { logbuffer_open(&mut record, bytes.as_mut_ptr(), bytes.len(), term, mtu, 7, 11, 22) }, 0);
         assert_eq!(unsafe { logbuffer_set_publication_limit(&mut record, 1 << 62) }, 0);
