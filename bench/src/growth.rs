@@ -11,9 +11,9 @@ fn replays_of(megabytes: usize) {
     let count = megabytes * 1_000_000 / 1_056;
     let (log, ours) = filled(64 << 20, 1_024, count);
     let (mut buffer, mut numbers) = (vec![0; 16 << 20], vec![0; 4 * 256]);
-    assert_eq!(replayed(&log, 256), ours.batch_all(&mut buffer, &mut numbers));
+    assert_eq!(replayed(&log, 256, 1 << 20), ours.batch_all(&mut buffer, &mut numbers));
     let name = format!("replay of {megabytes} MB, batches of 256, a message of 1024");
-    row(&name, count, || replayed(&log, 256), || ours.batch_all(&mut buffer, &mut numbers));
+    row(&name, count, || replayed(&log, 256, 1 << 20), || ours.batch_all(&mut buffer, &mut numbers));
 }
 
 /// As many logs as sessions, polled in turns, 10 fragments a poll; as many fragments in all.
@@ -62,10 +62,10 @@ fn assembles(sessions: usize) {
         }
     }
     let mut buffer = vec![0; 16 * 8_192];
-    assert_eq!(replayed(&log, 256), ours.count_all(&mut buffer));
+    assert_eq!(replayed(&log, 256, 8_192), ours.count_all(&mut buffer));
     assert_eq!(ours.count_all(&mut buffer), (count, count * 5_504));
     let name = format!("assembling 4 fragments of 1376, sessions interleaved: {sessions}, a message");
-    row(&name, count, || replayed(&log, 256), || ours.count_all(&mut buffer));
+    row(&name, count, || replayed(&log, 256, 8_192), || ours.count_all(&mut buffer));
 }
 
 pub fn rows() {

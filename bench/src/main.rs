@@ -134,15 +134,15 @@ fn polls(length: usize, limit: i32, count: usize) {
     row(&format!("poll of {length}, limit {limit}, a fragment"), read().0, read, || ours.poll_all(&mut entries, limit));
 }
 
-/// Messages and their bytes by polls of such a limit into the Rust's assembler.
-fn replayed(log: &Original, limit: i32) -> (usize, usize) {
+/// Messages and their bytes by polls of such a limit into the Rust's assembler, which clears so many bytes for each session that it meets.
+fn replayed(log: &Original, limit: i32, initial: isize) -> (usize, usize) {
     let (mut messages, mut bytes) = (0, 0);
     {
         let mut delegate = |_: &AtomicBuffer, _: Index, length: Index, _: &Header| {
             messages += 1;
             bytes += length as usize;
         };
-        let mut assembler = FragmentAssembler::new(&mut delegate, Some(1 << 20));
+        let mut assembler = FragmentAssembler::new(&mut delegate, Some(initial));
         let mut handler = assembler.handler();
         let (mut image, _place) = log.image(0);
         // A poll may pass a term's padding alone and answer 0; behind it the next poll goes on.
@@ -160,7 +160,7 @@ fn replays(length: usize, count: usize) {
     let (log, ours) = filled(TERM, length, count);
     let mut buffer = vec![0; 16 << 20];
     let mut numbers = vec![0; 4 * 256];
-    let read = |limit: i32| replayed(&log, limit);
+    let read = |limit: i32| replayed(&log, limit, 1 << 20);
     assert_eq!(read(1), ours.replay_all(&mut buffer));
     assert_eq!(read(256), ours.batch_all(&mut buffer, &mut numbers));
     assert_eq!(read(256), ours.count_all(&mut buffer));
