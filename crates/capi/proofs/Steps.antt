@@ -18,7 +18,7 @@ use Rattle.model.specs.declared.Reading.{Reading}
 use Rattle.model.specs.declared.Verdict.{Verdict}
 use Rattle.model.specs.declared.Verdict.the-variants.{Pass, Refuse}
 use Rattle.model.specs.FrameDescriptor.{space}
-use Rattle.model.specs.LogBufferDescriptor.{active, reading, readingOf, soundRecord, sound, rawOf, changed, withTail, withCount, withLimit, withClosed, idOf, tailOf, nextTail, rotated, greatest, lastTerm, payloadLimit}
+use Rattle.model.specs.LogBufferDescriptor.{idPlus, active, reading, readingOf, soundRecord, sound, rawOf, changed, withTail, withCount, withLimit, withClosed, idOf, tailOf, nextTail, rotated, greatest, lastTerm, payloadLimit}
 use Rattle.model.specs.Publication.{refuseIf, changeOf, place, afterClosed, tooLong, fits, onTrip, tripNext, appendNext, needOf, tailRoom, beforeAppend, offerVerdict, nextBy, offerOf, claimVerdict, claimOf}
 use Rattle.model.specs.declared.Error.{Error}
 use Rattle.model.specs.declared.Error.the-variants.{IllegalArgument, IllegalRecord, PublicationClosed, ExceedsMaxPayloadLength, ExceedsMaxMessageLength}
@@ -137,7 +137,7 @@ module _ {a : LogRecord} where
   rotated-moved : {r : LogRecord} (count id : ℕ) → count + 1 < 4294967296 → Moved a r → Moved a (rotated r count id)
   unfolding rotated nextTail
   rotated-moved {r} count id h m =
-      count-moved (count + 1) h (pick (eqb (idOf (tailOf r ((count + 1) % 3)) + 2) id) (tail-moved ((count + 1) % 3) (id + 1) 0 m) m)
+      count-moved (count + 1) h (pick (eqb (idPlus (idOf (tailOf r ((count + 1) % 3))) 2) id) (tail-moved ((count + 1) % 3) (idPlus id 1) 0 m) m)
 
 -- the record of some words, as it is
 words-moved : (w : List ℤ) → Moved (recordIn w) (recordIn w)
@@ -151,7 +151,7 @@ append-moved w needed h =
     let v = reading (recordIn w) in
     let m = tail-moved (active (recordIn w)) (v .id) (v .offset + needed) (words-moved w) in
     let b : v .count + 1 < 4294967296 = omega (arith, h) in
-    pick (fits v needed) m (pick (ltb (greatest v) (place v + v .offset)) m (pick (lastTerm (v .count) (v .id)) m (rotated-moved (v .count) (v .id) b m)))
+    pick (fits v needed) m (pick (ltb (greatest v) (place v + v .offset)) m (pick (lastTerm (v .count)) m (rotated-moved (v .count) (v .id) b m)))
 
 -- what passed the ladder has passed row 2
 passed-rung : (b : Bool) (e : Error) (rest : Verdict) → refuseIf b e rest ≡ Pass → (b ≡ false) × (rest ≡ Pass)

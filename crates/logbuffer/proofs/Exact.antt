@@ -7,7 +7,7 @@ use native.Mathlib.Omega.{arith}
 use borrow.Author.Tests.{ltb-true}
 use lib.Dec.{ltb}
 use lib.Pow.{pow-mono}
-use lib.IntN.{ℤ, pos, negsuc, natAbs, negℤ, _+ℤ_, _-ℤ_, _*ℤ_, subℕ}
+use lib.IntN.{ℤ, pos, negsuc, natAbs, negℤ, _+ℤ_, _*ℤ_, subℕ}
 use mir.Syntax.{w32, w64}
 use mir.Val.{SFits}
 
@@ -41,24 +41,19 @@ pub near-fits : (a : ℤ) → natAbs a < 9223372036854775808 → SFits w64 a
 near-fits (pos n) h = record { sfits = omega arith }
 near-fits (negsuc n) h = record { sfits = omega arith }
 
--- ---- a position: (a - b) × 2^bits + offset
+-- ---- a position: count × 2^bits + offset, the count a signed number of 32 bits
 
-module _ (a b : ℤ) (fa : SFits w32 a) (fb : SFits w32 b) where
-  near-difference : natAbs (a -ℤ b) ≤ 4294967296
-  near-difference = omega (arith, near-sum a (negℤ b), near-neg b, near-32 a fa, near-32 b fb)
+module _ (a : ℤ) (fa : SFits w32 a) (bits : ℕ) (h : bits ≤ 30) where
+  pub begin-near : natAbs a * 2 ^ bits ≤ 2305843009213693952
+  begin-near =
+      let m : natAbs a * 2 ^ bits ≤ 2147483648 * 2 ^ 30 = mul-le-mul (near-32 a fa) (pow-mono h) in
+      omega arith
 
-  pub difference-fits : SFits w64 (a -ℤ b)
-  difference-fits = near-fits (a -ℤ b) (omega (arith, near-difference))
+  pub near-begin : natAbs (a *ℤ pos (2 ^ bits)) ≤ 2305843009213693952
+  near-begin = omega (arith, near-times a (2 ^ bits), begin-near)
 
-  module _ (bits : ℕ) (h : bits ≤ 30) where
-    pub product-near : natAbs (a -ℤ b) * 2 ^ bits ≤ 4611686018427387904
-    product-near =
-        let m : natAbs (a -ℤ b) * 2 ^ bits ≤ 4294967296 * 2 ^ 30 = mul-le-mul near-difference (pow-mono h) in
-        omega arith
+  pub near-position : (offset : ℕ) → offset < 4294967296 → natAbs (a *ℤ pos (2 ^ bits) +ℤ pos offset) ≤ 2305843013508661248
+  near-position offset k = omega (arith, near-begin, near-sum (a *ℤ pos (2 ^ bits)) (pos offset))
 
-    near-product : natAbs ((a -ℤ b) *ℤ pos (2 ^ bits)) ≤ 4611686018427387904
-    near-product = omega (arith, near-times (a -ℤ b) (2 ^ bits), product-near)
-
-    pub position-fits : (offset : ℕ) → offset < 4294967296 → SFits w64 ((a -ℤ b) *ℤ pos (2 ^ bits) +ℤ pos offset)
-    position-fits offset k =
-        near-fits ((a -ℤ b) *ℤ pos (2 ^ bits) +ℤ pos offset) (omega (arith, near-product, near-sum ((a -ℤ b) *ℤ pos (2 ^ bits)) (pos offset)))
+  pub position-fits : (offset : ℕ) → offset < 4294967296 → SFits w64 (a *ℤ pos (2 ^ bits) +ℤ pos offset)
+  position-fits offset k = near-fits (a *ℤ pos (2 ^ bits) +ℤ pos offset) (omega (arith, near-position offset k))

@@ -10,7 +10,6 @@ use lib.Seq.{take-length}
 use Rattle.model.specs.declared.Reading.{Reading}
 use Rattle.model.specs.Bytes.{splice, le2, le4, le8}
 use Rattle.model.specs.DataFrameHeader.{header24}
-use Rattle.model.specs.LogBufferDescriptor.{biased}
 use Rattle.model.specs.TermAppender.{headerOf, header, fragment, fragmentBytes}
 use Rattle.model.proofs.Splice.{splice-more, splice-over}
 use Rattle.model.proofs.Fields.{length-header, fragment-parts}
@@ -30,7 +29,7 @@ flags-word fl ty h k =
     ap₂ (λ (x y : ℕ). x ∷ y ∷ n / 65536 % 256 ∷ n / 16777216 % 256 ∷ []) a b ∙ ap₂ (λ (x y : ℕ). 0 ∷ fl ∷ x ∷ y ∷ []) c d
 
 header-law : (l : List ℕ) (at : ℕ) (v : Reading) (o len fl ty : ℕ) → at + 24 ≤ length l → fl < 256 → ty < 65536
-    → splice (splice (splice (splice (splice (splice l at (le4 len)) (at + 4) (le4 (fl * 256 + ty * 65536))) (at + 8) (le4 o)) (at + 12) (le4 (v .session))) (at + 16) (le4 (v .stream))) (at + 20) (le4 (biased (v .id)))
+    → splice (splice (splice (splice (splice (splice l at (le4 len)) (at + 4) (le4 (fl * 256 + ty * 65536))) (at + 8) (le4 o)) (at + 12) (le4 (v .session))) (at + 16) (le4 (v .stream))) (at + 20) (le4 (v .id))
     ≡ splice l at (header v o len fl ty)
 unfolding header header24 le4
 header-law l at v o len fl ty h hf ht =
@@ -41,7 +40,7 @@ header-law l at v o len fl ty h hf ht =
     let a3 = a2 ++ le4 o in
     let a4 = a3 ++ le4 (v .session) in
     let a5 = a4 ++ le4 (v .stream) in
-    let i = le4 (biased (v .id)) in
+    let i = le4 (v .id) in
     ap (λ (x : List ℕ). splice (splice (splice (splice x (at + 8) (le4 o)) (at + 12) (le4 (v .session))) (at + 16) (le4 (v .stream))) (at + 20) i) (splice-more l at a1 (le4 w) (at + 4) refl low)
     ∙ ap (λ (x : List ℕ). splice (splice (splice x (at + 12) (le4 (v .session))) (at + 16) (le4 (v .stream))) (at + 20) i) (splice-more l at a2 (le4 o) (at + 8) refl low)
     ∙ ap (λ (x : List ℕ). splice (splice x (at + 16) (le4 (v .stream))) (at + 20) i) (splice-more l at a3 (le4 (v .session)) (at + 12) refl low)
@@ -52,7 +51,7 @@ header-law l at v o len fl ty h hf ht =
 -- step by step, as the code goes
 pub header-by : (l l1 l2 l3 l4 l5 l6 : List ℕ) (at : ℕ) (v : Reading) (o len fl ty : ℕ) → at + 24 ≤ length l → fl < 256 → ty < 65536
     → l1 ≡ splice l at (le4 len) → l2 ≡ splice l1 (at + 4) (le4 (fl * 256 + ty * 65536)) → l3 ≡ splice l2 (at + 8) (le4 o) → l4 ≡ splice l3 (at + 12) (le4 (v .session))
-    → l5 ≡ splice l4 (at + 16) (le4 (v .stream)) → l6 ≡ splice l5 (at + 20) (le4 (biased (v .id))) → l6 ≡ splice l at (header v o len fl ty)
+    → l5 ≡ splice l4 (at + 16) (le4 (v .stream)) → l6 ≡ splice l5 (at + 20) (le4 (v .id)) → l6 ≡ splice l at (header v o len fl ty)
 header-by l l1 l2 l3 l4 l5 l6 at v o len fl ty h hf ht e1 e2 e3 e4 e5 e6 = cc (header-law l at v o len fl ty h hf ht)
 
 length-24 : (v : Reading) (o len fl ty : ℕ) → length (header v o len fl ty) ≡ 24
@@ -68,7 +67,7 @@ relength : (l : List ℕ) (at : ℕ) (v : Reading) (o len new fl ty : ℕ) (w : 
     → splice (splice l at (header v o len fl ty ++ w)) at (le4 new) ≡ splice l at (header v o new fl ty ++ w)
 unfolding header header24 le4
 relength l at v o len new fl ty w h =
-    splice-over l at (le4 len) ((0 ∷ fl ∷ (le2 ty ++ (le4 o ++ (le4 (v .session) ++ (le4 (v .stream) ++ le4 (biased (v .id))))))) ++ w) (le4 new) refl h
+    splice-over l at (le4 len) ((0 ∷ fl ∷ (le2 ty ++ (le4 o ++ (le4 (v .session) ++ (le4 (v .stream) ++ le4 (v .id)))))) ++ w) (le4 new) refl h
 
 -- a header whose length comes last
 pub finished-by : (l l1 l2 : List ℕ) (at : ℕ) (v : Reading) (o len new fl ty : ℕ) → at ≤ length l → l1 ≡ splice l at (header v o len fl ty) → l2 ≡ splice l1 at (le4 new)

@@ -13,10 +13,8 @@ use mir.Syntax.{w32, w64}
 use mir.Val.{SFits, toZ, ofZ}
 use mir.Facts.{toZ-pos, toZ-ofZ, sfits-widen}
 use Rattle.model.specs.TermReader.{alignℤ}
-use Rattle.model.specs.LogBufferDescriptor.{positionOf}
 use Rattle.logbuffer.proofs.Signed.{lands, asks}
-use Rattle.logbuffer.proofs.Exact.{near-sum, near-neg, near-times, near-32, near-fits}
-use Rattle.logbuffer.proofs.Shifts.{left-by}
+use Rattle.logbuffer.proofs.Exact.{near-sum, near-neg, near-times, near-32, near-fits, near-begin, near-position, position-fits}
 
 -- bits below 2^63 are the number
 plain : (n : ℕ) → n < 9223372036854775808 → toZ w64 n ≡ pos n
@@ -72,64 +70,34 @@ module _ (z : ℤ) (f : SFits w32 z) where
   pub aligned-lands : toZ w64 (ofZ w64 (toZ w64 (ofZ w64 (shrZ (toZ w64 (ofZ w64 (toZ w64 (ofZ w64 (toZ w32 (ofZ w32 z))) +ℤ pos 31))) 32)) *ℤ pos 32)) ≡ alignℤ z
   aligned-lands = lands aligned-is (aligned-fits z f)
 
--- ---- the position, step by step
+-- ---- the position, step by step: from where the term begins, which the callee answered
 
-near-gap : (a b : ℕ) → a < 4294967296 → b < 4294967296 → natAbs (pos a -ℤ pos b) ≤ 4294967295
-near-gap a zero h k = omega arith
-near-gap a (suc b) h k = go (ltb a (suc b)) refl
-  where
-    go : (t : Bool) → ltb a (suc b) ≡ t → natAbs (cond t (negsuc (suc b - suc a)) (pos (a - suc b))) ≤ 4294967295
-    go true e = omega (arith, ltb-true a (suc b) e)
-    go false e = omega arith
-
-module _ (id initial bits at : ℕ) (z : ℤ) (hi : id < 4294967296) (hj : initial < 4294967296) (hb : bits ≤ 30) (ha : at < 4294967296) (fz : SFits w32 z) where
-  gap-is : toZ w64 id -ℤ toZ w64 initial ≡ pos id -ℤ pos initial
-  gap-is = ap₂ (λ (x y : ℤ). x -ℤ y) (plain id (omega arith)) (plain initial (omega arith))
-
-  gap-fits : SFits w64 (pos id -ℤ pos initial)
-  gap-fits = near-fits (pos id -ℤ pos initial) (omega (arith, near-gap id initial hi hj))
-
-  pub gap-asks : SFits w64 (toZ w64 id -ℤ toZ w64 initial)
-  gap-asks = asks gap-is gap-fits
-
-  near-times-2 : natAbs (pos id -ℤ pos initial) * 2 ^ bits ≤ 4611686017353646080
-  near-times-2 =
-      let m : natAbs (pos id -ℤ pos initial) * 2 ^ bits ≤ 4294967295 * 2 ^ 30 = mul-le-mul (near-gap id initial hi hj) (pow-mono hb) in
-      omega arith
-
-  near-start : natAbs ((pos id -ℤ pos initial) *ℤ pos (2 ^ bits)) ≤ 4611686017353646080
-  near-start = omega (arith, near-times (pos id -ℤ pos initial) (2 ^ bits), near-times-2)
-
-  start-is : toZ w64 (ofZ w64 (toZ w64 id -ℤ toZ w64 initial) * 2 ^ bits % 18446744073709551616) ≡ (pos id -ℤ pos initial) *ℤ pos (2 ^ bits)
-  start-is =
-      ap (λ (x : ℤ). toZ w64 (ofZ w64 x * 2 ^ bits % 18446744073709551616)) gap-is
-      ∙ left-by (pos id -ℤ pos initial) (2 ^ bits) (pow-pos bits) (omega (arith, near-times-2))
-
+module _ (z b : ℤ) (bits at : ℕ) (l : ℤ) (fz : SFits w32 z) (hb : bits ≤ 30) (eb : b ≡ z *ℤ pos (2 ^ bits)) (ha : at < 4294967296) (fl : SFits w32 l) where
   abbrev here : ℤ
-  here = positionOf id initial (2 ^ bits) at
+  here = z *ℤ pos (2 ^ bits) +ℤ pos at
 
-  here-is : toZ w64 (ofZ w64 (toZ w64 id -ℤ toZ w64 initial) * 2 ^ bits % 18446744073709551616) +ℤ toZ w64 at ≡ here
-  here-is = ap₂ (λ (x y : ℤ). x +ℤ y) start-is (plain at (omega arith))
+  begin-fits : SFits w64 (z *ℤ pos (2 ^ bits))
+  begin-fits = near-fits (z *ℤ pos (2 ^ bits)) (omega (arith, near-begin z fz bits hb))
 
-  near-here : natAbs here ≤ 4611686021648613376
-  near-here = omega (arith, near-start, near-sum ((pos id -ℤ pos initial) *ℤ pos (2 ^ bits)) (pos at))
+  here-is : toZ w64 (ofZ w64 b) +ℤ toZ w64 at ≡ here
+  here-is = ap₂ (λ (x y : ℤ). x +ℤ y) (lands eb begin-fits) (plain at (omega arith))
 
-  here-fits : SFits w64 here
-  here-fits = near-fits here (omega (arith, near-here))
+  pub here-asks : SFits w64 (toZ w64 (ofZ w64 b) +ℤ toZ w64 at)
+  here-asks = asks here-is (position-fits z fz bits hb at ha)
 
-  pub here-asks : SFits w64 (toZ w64 (ofZ w64 (toZ w64 id -ℤ toZ w64 initial) * 2 ^ bits % 18446744073709551616) +ℤ toZ w64 at)
-  here-asks = asks here-is here-fits
+  pub here-lands : toZ w64 (ofZ w64 (toZ w64 (ofZ w64 b) +ℤ toZ w64 at)) ≡ here
+  here-lands = lands here-is (position-fits z fz bits hb at ha)
 
-  past-fits : SFits w64 (here +ℤ alignℤ z)
-  past-fits = near-fits (here +ℤ alignℤ z) (omega (arith, near-here, near-sum here (alignℤ z), near-aligned z fz))
+  past-fits : SFits w64 (here +ℤ alignℤ l)
+  past-fits = near-fits (here +ℤ alignℤ l) (omega (arith, near-position z fz bits hb at ha, near-sum here (alignℤ l), near-aligned l fl))
 
-  -- with a length that the callee answered
-  module _ (a : ℤ) (ea : a ≡ alignℤ z) where
-    past-is : toZ w64 (ofZ w64 (toZ w64 (ofZ w64 (toZ w64 id -ℤ toZ w64 initial) * 2 ^ bits % 18446744073709551616) +ℤ toZ w64 at)) +ℤ toZ w64 (ofZ w64 a) ≡ here +ℤ alignℤ z
-    past-is = ap₂ (λ (x y : ℤ). x +ℤ y) (lands here-is here-fits) (lands ea (aligned-fits z fz))
+  -- with an aligned length that the callee answered
+  module _ (a : ℤ) (ea : a ≡ alignℤ l) where
+    past-is : toZ w64 (ofZ w64 (toZ w64 (ofZ w64 b) +ℤ toZ w64 at)) +ℤ toZ w64 (ofZ w64 a) ≡ here +ℤ alignℤ l
+    past-is = ap₂ (λ (x y : ℤ). x +ℤ y) here-lands (lands ea (aligned-fits l fl))
 
-    pub past-asks : SFits w64 (toZ w64 (ofZ w64 (toZ w64 (ofZ w64 (toZ w64 id -ℤ toZ w64 initial) * 2 ^ bits % 18446744073709551616) +ℤ toZ w64 at)) +ℤ toZ w64 (ofZ w64 a))
+    pub past-asks : SFits w64 (toZ w64 (ofZ w64 (toZ w64 (ofZ w64 b) +ℤ toZ w64 at)) +ℤ toZ w64 (ofZ w64 a))
     past-asks = asks past-is past-fits
 
-    pub past-lands : toZ w64 (ofZ w64 (toZ w64 (ofZ w64 (toZ w64 (ofZ w64 (toZ w64 id -ℤ toZ w64 initial) * 2 ^ bits % 18446744073709551616) +ℤ toZ w64 at)) +ℤ toZ w64 (ofZ w64 a))) ≡ here +ℤ alignℤ z
+    pub past-lands : toZ w64 (ofZ w64 (toZ w64 (ofZ w64 (toZ w64 (ofZ w64 b) +ℤ toZ w64 at)) +ℤ toZ w64 (ofZ w64 a))) ≡ here +ℤ alignℤ l
     past-lands = lands past-is past-fits

@@ -23,7 +23,7 @@ use Rattle.model.specs.declared.AppendedClaim.{AppendedClaim}
 use Rattle.model.specs.declared.AppendedClaim.the-variants.{Claimed, Tripped as ClaimTripped, Refused as ClaimRefused}
 use Rattle.model.specs.declared.AppendClaimReply.{AppendClaimReply}
 use Rattle.model.specs.FrameDescriptor.{space}
-use Rattle.model.specs.LogBufferDescriptor.{biased, readingOf, rawOf, changed}
+use Rattle.model.specs.LogBufferDescriptor.{readingOf, rawOf, changed}
 use Rattle.model.specs.TermAppender.{cut, need, fragment, written, claimed, course, bytesBy, replyBy, goodMessage}
 use Rattle.logbuffer.specs.declared.way.Way.{Way}
 
@@ -124,4 +124,4 @@ fragmentLimit m p = cond (leb 1 m && leb p 2147483647) p 0
 -- the record of a claim of n bytes by its bits
 abbrev pub claimBits : Reading → ℕ → ℕ → Claim
 claimBits v k n =
-    record { partition = toZ w32 k; offset = toZ w32 (v .offset); length = toZ w32 ((n + 32) % 4294967296); «term_id» = toZ w32 (biased (v .id)) }
+    record { partition = toZ w32 k; offset = toZ w32 (v .offset); length = toZ w32 ((n + 32) % 4294967296); «term_id» = toZ w32 (v .id) }

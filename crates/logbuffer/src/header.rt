@@ -53,11 +53,7 @@ fn write_header(
     field::put4(log, at + TERM_OFFSET_FIELD_OFFSET, offset);
     field::put4(log, at + SESSION_ID_FIELD_OFFSET, v.session);
     field::put4(log, at + STREAM_ID_FIELD_OFFSET, v.stream);
-    field::put4(
-        log,
-        at + TERM_ID_FIELD_OFFSET,
-        (v.id + 2147483648) % 4294967296,
-    );
+    field::put4(log, at + TERM_ID_FIELD_OFFSET, v.id);
 }
 
 // The bits of minus a frame's length.
@@ -150,8 +146,8 @@ fn position_past(id: usize, initial: usize, bits: u32, at: usize, length: i32) -
     requires { ⌜ (id < 4294967296) × ((initial < 4294967296) × ((bits ≤ 30) × (at < 4294967296))) ⌝ }
     ensures { λ r. ⌜ r ≡ positionOf id initial (2 ^ bits) at +ℤ alignℤ length ⌝ }
 {
-    let start = ((id as i64) - (initial as i64)) << bits;
-    start + (at as i64) + aligned_length(length)
+    let begin = log_buffer_descriptor::term_begin(id, initial, bits);
+    begin + (at as i64) + aligned_length(length)
 }
 
 // The fields of the header at an index, of a frame at an offset of its term.
@@ -162,7 +158,7 @@ fn fields_at(v: Reading, log: &[u8], index: usize, at: usize) -> HeaderFields
     let frame_length = cast::to_i32(field::word4(log, index));
     let term_id = field::word4(log, index + TERM_ID_FIELD_OFFSET);
     let position = position_past(
-        (term_id + 2147483648) % 4294967296,
+        term_id,
         v.initial,
         log_buffer_descriptor::position_bits_to_shift(v.term as u32),
         at,

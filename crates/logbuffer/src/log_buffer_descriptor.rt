@@ -1,7 +1,10 @@
 // The log record: read, judged, and changed; and the arithmetic of raw tails and positions.
 ghost use mathlib.Core.Path.{_≡_};
-ghost use Prim.Native.Nat.{_+_, _<_};
-ghost use Rattle.model.specs.LogBufferDescriptor.{offsetOf, termId, termOffset, indexByTermCount, indexByPosition, bitsToShift, computePosition, tailOf, readingOf, reading, soundRecord, sound, withTail, withCount, nextTail, rotateVerdict, rotateLogOf};
+ghost use Prim.Native.Nat.{_+_, _^_, _≤_, _<_};
+ghost use lib.IntN.{pos, _*ℤ_};
+ghost use mir.Syntax.{w32};
+ghost use mir.Val.{toZ};
+ghost use Rattle.model.specs.LogBufferDescriptor.{idPlus, idMinus, offsetOf, termId, termOffset, indexByTermCount, indexByPosition, bitsToShift, computePosition, tailOf, readingOf, reading, soundRecord, sound, withTail, withCount, nextTail, rotateVerdict, rotateLogOf};
 use crate::cast;
 use crate::frame_descriptor::FRAME_ALIGNMENT;
 use model::Error;
@@ -19,6 +22,20 @@ pub const TERM_MAX_LENGTH: usize = 1073741824;
 pub const PARTITION_COUNT: usize = 3;
 
 // ---- numbers
+
+// A term id, by its 32 bits, so many terms on; after 2147483647 comes -2147483648 (R-8 of document 02).
+pub fn id_plus(term_id: u32, terms: u32) -> u32
+    ensures { λ r. ⌜ r ≡ idPlus «term_id» terms ⌝ }
+{
+    std::num::wrapping_add_u32(term_id, terms)
+}
+
+// A term id less another, or less so many terms. Less the initial one it is the term's count.
+pub fn id_minus(term_id: u32, less: u32) -> u32
+    ensures { λ r. ⌜ r ≡ idMinus «term_id» less ⌝ }
+{
+    std::num::wrapping_sub_u32(term_id, less)
+}
 
 // The upper half of a raw tail, with its sign.
 pub fn term_id(raw_tail: i64) -> i32
@@ -68,13 +85,23 @@ pub fn position_bits_to_shift(term_length: u32) -> u32
     u32::trailing_zeros(term_length)
 }
 
+// The position at which a term begins: its count, by the bits to shift.
+pub(crate) fn term_begin(id: usize, initial: usize, bits: u32) -> i64
+    requires { ⌜ (id < 4294967296) × ((initial < 4294967296) × (bits ≤ 30)) ⌝ }
+    ensures { λ r. ⌜ r ≡ toZ w32 (idMinus id initial) *ℤ pos (2 ^ bits) ⌝ }
+{
+    let count = cast::to_i32(id_minus(id as u32, initial as u32) as usize);
+    (count as i64) << bits
+}
+
 pub fn compute_position(term_id: i32, offset: u32, bits: u32, initial: i32) -> Positioned
     ensures { λ r. ⌜ r ≡ computePosition «term_id» offset bits initial ⌝ }
 {
     if bits > 30 {
         return Positioned::Refused(Error::IllegalArgument);
     }
-    Positioned::Position((((term_id as i64) - (initial as i64)) << bits) + (offset as i64))
+    let begin = term_begin(cast::word(term_id), cast::word(initial), bits);
+    Positioned::Position(begin + (offset as i64))
 }
 
 // ---- the record, read
@@ -102,17 +129,16 @@ pub fn read(rec: LogRecord, partition: usize) -> Reading
     let raw = tail(rec, partition);
     let id = cast::word(term_id(raw));
     let offset = offset_bits(raw);
-    let initial = (cast::word(rec.initial_term_id) + 2147483648) % 4294967296;
     Reading {
         term: cast::word(rec.term_length),
         mtu: cast::word(rec.mtu_length),
         count: cast::word(rec.active_term_count),
-        initial: initial,
+        initial: cast::word(rec.initial_term_id),
         session: cast::word(rec.session_id),
         stream: cast::word(rec.stream_id),
         connected: cast::word(rec.is_connected),
         limit: cast::long(rec.publication_limit),
-        id: (id + 2147483648) % 4294967296,
+        id: id,
         offset: offset,
         closed: rec.is_closed,
     }
@@ -149,9 +175,6 @@ pub fn is_sound_record(numbers: Reading) -> bool
     if numbers.mtu % FRAME_ALIGNMENT != 0 {
         return false;
     }
-    if numbers.initial < 2 {
-        return false;
-    }
     if numbers.count > 2147483647 {
         return false;
     }
@@ -178,11 +201,11 @@ pub fn is_sound(numbers: Reading, log_length: usize) -> bool
 
 // The tail of partition k at (id, offset).
 pub(crate) fn with_tail(rec: LogRecord, k: usize, id: usize, offset: usize) -> LogRecord
-    requires { ⌜ (k < 3) × ((id < 8589934592) × (offset < 4294967296)) ⌝ }
+    requires { ⌜ (k < 3) × ((id < 4294967296) × (offset < 4294967296)) ⌝ }
     ensures { λ r. ⌜ r ≡ withTail rec k id offset ⌝ }
 {
     let mut next = rec;
-    next.tails[k] = cast::to_i64((id + 2147483648) % 4294967296 * 4294967296 + offset);
+    next.tails[k] = cast::to_i64(id * 4294967296 + offset);
     next
 }
 
@@ -204,23 +227,20 @@ fn next_tail(rec: LogRecord, count: usize, id: usize) -> LogRecord
 {
     let k = (count + 1) % PARTITION_COUNT;
     let v = read(rec, k);
-    if v.id + 2 == id {
-        return with_tail(rec, k, id + 1, 0);
+    if id_plus(v.id as u32, 2) as usize == id {
+        return with_tail(rec, k, id_plus(id as u32, 1) as usize, 0);
     }
     rec
 }
 
-fn rotate_verdict(v: Reading, count: usize, id: usize) -> Verdict
-    ensures { λ r. ⌜ r ≡ rotateVerdict v count id ⌝ }
+fn rotate_verdict(v: Reading, count: usize) -> Verdict
+    ensures { λ r. ⌜ r ≡ rotateVerdict v count ⌝ }
 {
     if count > 2147483647 {
         return Verdict::Refuse(Error::IllegalArgument);
     }
     if !is_sound_record(v) {
         return Verdict::Refuse(Error::IllegalRecord);
-    }
-    if id == 4294967295 {
-        return Verdict::Refuse(Error::LastTerm);
     }
     if count == 2147483647 {
         return Verdict::Refuse(Error::LastTerm);
@@ -233,9 +253,9 @@ pub fn rotate_log(rec: LogRecord, count: i32, id: i32) -> RecordReply
     ensures { λ r. ⌜ r ≡ rotateLogOf rec count id ⌝ }
 {
     let given = cast::word(count);
-    let term = (cast::word(id) + 2147483648) % 4294967296;
+    let term = cast::word(id);
     let v = read_active(rec);
-    match rotate_verdict(v, given, term) {
+    match rotate_verdict(v, given) {
         Verdict::Refuse(e) => RecordReply {
             next: rec,
             answer: Outcome::Refused(e),

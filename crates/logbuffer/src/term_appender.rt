@@ -5,7 +5,6 @@ ghost use mathlib.Core.List.{[], _∷_};
 ghost use lib.ListN.{length};
 ghost use Rattle.model.specs.Bytes.{word, long};
 ghost use Rattle.model.specs.FrameDescriptor.{space};
-ghost use Rattle.model.specs.LogBufferDescriptor.{biased};
 ghost use Rattle.model.specs.TermAppender.{cut, need, fragment, written, claimed, course, bytesBy, goodMessage, unfragmentedReply, unfragmentedBytes, fragmentedReply, fragmentedBytes, claimAppendReply, claimAppendBytes};
 ghost use Rattle.logbuffer.specs.Ways.{goodAppend, goodClaiming, messageReply, messageBytes, fragmentLimit, claimBits, appendWay, appendWayBytes, oneWayBytes, claimWay, claimWayBytes};
 use crate::cast;
@@ -49,13 +48,6 @@ fn fragment_limit(m: usize, payload: usize) -> usize
         return 0;
     }
     payload
-}
-
-// The bits of a term id with 2^31 added, as the record's reading has it.
-fn biased_id(id: i32) -> usize
-    ensures { λ r. ⌜ r ≡ biased (word id) ⌝ }
-{
-    (cast::word(id) + 2147483648) % 4294967296
 }
 
 // ---- the way of an append
@@ -294,11 +286,11 @@ fn append_message(
     reserved: i64,
     term_id: i32,
 ) -> AppendReply
-    ensures { λ r. ⌜ r ≡ messageReply rec (now (log .entry)) k payload (now (message .entry)) (biased (word «term_id»)) ⌝ }
-    ensures { λ _. ⌜ now (log .exit) ≡ messageBytes rec (now (log .entry)) k payload (now (message .entry)) (long reserved) (biased (word «term_id»)) ⌝ }
+    ensures { λ r. ⌜ r ≡ messageReply rec (now (log .entry)) k payload (now (message .entry)) (word «term_id») ⌝ }
+    ensures { λ _. ⌜ now (log .exit) ≡ messageBytes rec (now (log .entry)) k payload (now (message .entry)) (long reserved) (word «term_id») ⌝ }
 {
     let v = log_buffer_descriptor::read(rec, k);
-    let given = biased_id(term_id);
+    let given = cast::word(term_id);
     let way = append_way(v, log, k, payload, message, reserved, given);
     way::append_reply(rec, k, way)
 }
@@ -348,7 +340,7 @@ fn claim_record(v: Reading, k: usize, n: usize) -> Claim
         partition: cast::to_i32(k),
         offset: cast::to_i32(v.offset),
         length: cast::to_i32((n + HEADER_LENGTH) % 4294967296),
-        term_id: cast::to_i32((v.id + 2147483648) % 4294967296),
+        term_id: cast::to_i32(v.id),
     }
 }
 
@@ -417,6 +409,6 @@ pub fn claim(
     let k = cast::word(partition);
     let n = cast::word(length);
     let v = log_buffer_descriptor::read(rec, k);
-    let way = claim_way(v, log, k, n, biased_id(term_id));
+    let way = claim_way(v, log, k, n, cast::word(term_id));
     way::claim_reply(rec, k, way, claim_record(v, k, n))
 }

@@ -44,7 +44,7 @@ pub(crate) fn way_by(v: Reading, needed: usize, course: Course) -> Way
     Way {
         course: course,
         end: end,
-        tail: cast::to_i64((v.id + 2147483648) % 4294967296 * 4294967296 + end),
+        tail: cast::to_i64(v.id * 4294967296 + end),
     }
 }
 

@@ -20,7 +20,7 @@ use Rattle.model.specs.declared.Offered.the-variants.{Position as OfferP
 use Rattle.model.specs.declared.Claimed.the-variants.{Position as ClaimPosition, Refused as ClaimRefused}
 use Rattle.model.specs.Bytes.{word, long, zeros}
 use Rattle.model.specs.FrameDescriptor.{space}
-use Rattle.model.specs.LogBufferDescriptor.{reading, readingOf, active, payloadLimit, messageLimit, greatest, sound, lastTerm, withTail, rotated}
+use Rattle.model.specs.LogBufferDescriptor.{idPlus, idMinus, reading, readingOf, active, payloadLimit, messageLimit, greatest, sound, lastTerm, withTail, rotated}
 use Rattle.model.specs.TermAppender.{written, cut, padded, claimed, claimRecord}
 use Rattle.model.specs.Publication.{place, pressed, afterClosed, tailRoom, fits, onTrip, tripError, tripNext, appendNext, tooLong, needOf, beforeAppend, offerVerdict, offeredBy, nextBy, logBy, offerOf, offerBytes, claimVerdict, claimedBy, claimOf, claimBytes}
 use Rattle.model.specs.History.{Call, offer, claim, Answer, offered, World, Step, step, Shape, shapeOf, Extent, message, claimed·, open·, sizeAll, isTrip, padTo, afterRefusal, tell, learn}
@@ -35,7 +35,7 @@ use Rattle.model.proofs.OneSession.{cells}
 use Rattle.model.proofs.Around.{message-size}
 use Rattle.model.proofs.Tails.{with-tail, Tails, moved-reading, moved-tails, reached}
 use Rattle.model.proofs.Rising.{clash, Through, read-over, over-tails}
-use Rattle.model.proofs.Keeping.{Holds, Inv, is-sound, sound-is, offer-holds, offer-ends, claim-holds, claim-ends, trip-holds}
+use Rattle.model.proofs.Keeping.{Holds, Inv, is-sound, sound-is, own-count, offer-holds, offer-ends, claim-holds, claim-ends, trip-holds}
 
 abbrev pub Keeps : Shape → List Extent → List Claim → Call → Step → Type 0
 Keeps c h ks y s =
@@ -114,22 +114,22 @@ module _ (r : LogRecord) (log : List ℕ) (h : List Extent) (ks : List Claim) (t
           subst (λ (x : Reading). Holds c x (padded v log (v .count * T)) (padTo c h) ks) (sym (moved-reading r t (v .offset + needed) (omega arith)))
           (trip-holds v log h ks i (omega arith) (v .count) (v .id) (v .offset + needed) (i .here) (i .low) (omega arith) (omega (arith, i .whole)) room)
 
-      over-holds : (b : lastTerm (v .count) (v .id) ≡ false) → reached (reading (rotated moved (v .count) (v .id))) < 3 * T
+      over-holds : (b : lastTerm (v .count) ≡ false) → reached (reading (rotated moved (v .count) (v .id))) < 3 * T
           → Holds c (reading (rotated moved (v .count) (v .id))) (padded v log (v .count * T)) (padTo c h) ks
       over-holds b p =
           let e = read-over r (length log) needed t th b in
           let q : reached (reading (rotated moved (v .count) (v .id))) ≡ (v .count + 1) * T + min 0 T = ap reached e in
           subst (λ (x : Reading). Holds c x (padded v log (v .count * T)) (padTo c h) ks) (sym e)
-          (trip-holds v log h ks i (omega arith) (v .count + 1) (v .id + 1) 0 (omega (arith, i .here)) (three-below (v .count + 1) T (omega arith)) (omega arith) (omega arith) (omega arith))
+          (trip-holds v log h ks i (omega arith) (v .count + 1) (idPlus (v .id) 1) 0 (omega (arith, i .here)) (three-below (v .count + 1) T (omega arith)) (omega arith) (omega arith) (omega arith))
 
       never-7 : ltb (greatest v) (place v + v .offset) ≡ true → ⊥
       never-7 q = omega (arith, ltb-true (greatest v) (place v + v .offset) q, times-three (v .count) T (i .low), i .most, i .fixed .term-low)
 
       tripped : Keeps c h ks y (record { answer = no (tripError v); next = record { record· = tripNext moved v; log = padded v log (active r * T) } })
       unfolding onTrip
-      tripped = go (ltb (greatest v) (place v + v .offset)) (lastTerm (v .count) (v .id)) refl refl
+      tripped = go (ltb (greatest v) (place v + v .offset)) (lastTerm (v .count)) refl refl
         where
-          go : (a b : Bool) → ltb (greatest v) (place v + v .offset) ≡ a → lastTerm (v .count) (v .id) ≡ b
+          go : (a b : Bool) → ltb (greatest v) (place v + v .offset) ≡ a → lastTerm (v .count) ≡ b
               → Keeps c h ks y
               (record {
                 answer = no (cond a MaxPositionExceeded (cond b LastTerm AdminAction));
@@ -164,8 +164,8 @@ module _ (r : LogRecord) (log : List ℕ) (h : List Extent) (ks : List Claim) (t
   after-sure : (Q : Type 0) (m : ℕ) (x : Verdict) → m ≤ 2147483647 → Sure Q x → Sure Q (afterClosed v m x)
   unfolding afterClosed
   after-sure Q m x l s =
-      cond-case (Sure Q) (not (eqb (v .id) (v .initial + v .count))) (Refuse AdminAction) _
-      (λ e. clash (eqb (v .id) (v .initial + v .count)) (eq-eqb _ _ (i .here)) (not-true _ e))
+      cond-case (Sure Q) (not (eqb (idMinus (v .id) (v .initial)) (v .count))) (Refuse AdminAction) _
+      (λ e. clash (eqb (idMinus (v .id) (v .initial)) (v .count)) (eq-eqb _ _ (own-count v log h ks i)) (not-true _ e))
       (λ e. cond-case (Sure Q) (leb (v .limit) (place v)) (Refuse (pressed v m)) x (λ e. sure-no Q (pressed v m) (pressed-mild m l)) (λ e. s))
 
   sound-rung : (Q : Type 0) (x : Verdict) → Sure Q x → Sure Q (cond (not (sound v (length log))) (Refuse IllegalRecord) x)

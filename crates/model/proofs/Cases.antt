@@ -22,7 +22,7 @@ use Rattle.model.specs.LogBufferDescriptor.{readingOf, soundRecord, soun
 use Rattle.model.specs.TermAppender.{header, fragment, fragmentBytes, written, cutFrom, cut, sizes, need, padded, claimed, claimRecord}
 use Rattle.model.specs.BufferClaim.{goodClaim, matches, claimCheck, commitOf, commitBytes, abortBytes}
 use Rattle.model.specs.Rule.{order, holds, firstOf, decided}
-use Rattle.model.specs.Publication.{openRecord, positionCall, pressed, afterClosed, beforeAppend, onTrip, appendNext, offerOf, offerBytes, claimVerdict, claimOf, claimBytes}
+use Rattle.model.specs.Publication.{openedRecord, openRecord, positionCall, pressed, afterClosed, beforeAppend, onTrip, appendNext, offerOf, offerBytes, claimVerdict, claimOf, claimBytes}
 use Rattle.model.specs.TermReader.{walk}
 use Rattle.model.specs.TermScan.{scanVerdict, rebuild, gapLength, gapJudge, gapOf, availableFrom, availabilityJudge, availabilityOf}
 use Rattle.model.specs.Image.{PollReply, newImage, readable, pollVerdict, pollOf}
@@ -48,18 +48,18 @@ recordAt tails initial mtu count limit closed =
 
 -- a log in its first term, the tail at an offset (term ids have 2^31 added)
 abbrev pub tailsAt : ℕ → List ℤ
-tailsAt offset = rawOf 2147483655 offset ∷ rawOf 2147483653 0 ∷ rawOf 2147483654 0 ∷ []
+tailsAt offset = rawOf 7 offset ∷ rawOf 5 0 ∷ rawOf 6 0 ∷ []
 
 abbrev pub tailAt : ℕ → LogRecord
 tailAt offset = recordAt (tailsAt offset) (pos 7) 96 0 1000000 false
 
 -- a log in its last term, count and id 2147483647
 abbrev pub lastAt : ℕ → ℕ → LogRecord
-lastAt mtu offset = recordAt (replicate 3 (rawOf 4294967295 offset)) (pos 0) mtu 2147483647 4611686018427387904 false
+lastAt mtu offset = recordAt (replicate 3 (rawOf 2147483647 offset)) (pos 0) mtu 2147483647 4611686018427387904 false
 
 -- a log in its first term whose tail shows the id of the second: its count is out of step
 abbrev pub aheadAt : ℕ → LogRecord
-aheadAt offset = recordAt (rawOf 2147483656 offset ∷ rawOf 2147483653 0 ∷ rawOf 2147483654 0 ∷ []) (pos 7) 96 0 1000000 false
+aheadAt offset = recordAt (rawOf 8 offset ∷ rawOf 5 0 ∷ rawOf 6 0 ∷ []) (pos 7) 96 0 1000000 false
 
 -- a message of n bytes
 abbrev pub bytes : ℕ → List ℕ
@@ -208,7 +208,7 @@ module _ (log : List ℕ) (full : length log ≡ 196608) where
   out-of-step = rw full
 
   -- 7 twice: by the limit, the last term full; and after a trip, below a limit of 2^62
-  past-at-limit : offerSays (offerOf (recordAt (replicate 3 (rawOf 4294967295 65536)) (pos 0) 96 2147483647 0 false) log (bytes 64)) ≡ (is (pos 7) [], LimitPastMaxPosition)
+  past-at-limit : offerSays (offerOf (recordAt (replicate 3 (rawOf 2147483647 65536)) (pos 0) 96 2147483647 0 false) log (bytes 64)) ≡ (is (pos 7) [], LimitPastMaxPosition)
   unfolding offerOf readingOf soundRecord sound rawOf pressed afterClosed beforeAppend need sizes cut cutFrom zeros ones onesIn onTrip decided firstOf order holds
   past-at-limit = rw full
 
@@ -230,13 +230,46 @@ module _ (log : List ℕ) (full : length log ≡ 196608) where
   unfolding offerOf claimOf readingOf soundRecord sound rawOf need sizes cut cutFrom zeros ones onesIn decided firstOf order holds
   accepted = rw full
 
+-- ---- past the largest term id (R-8 of document 02)
+
+-- an empty log whose first term has the largest id, its tail at an offset
+abbrev topAt : ℕ → LogRecord
+topAt offset = recordAt (rawOf 2147483647 offset ∷ rawOf 2147483645 0 ∷ rawOf 2147483646 0 ∷ []) (pos 2147483647) 96 0 1000000 false
+
+module _ (log : List ℕ) (full : length log ≡ 196608) where
+  -- document 01's small input of row 12: now 6, and the next term has the lowest id
+  top-turns : offerSays (offerOf (topAt 65472) log (bytes 64)) ≡ (is (pos 6) [], TermRotated)
+  unfolding offerOf readingOf soundRecord sound rawOf pressed afterClosed beforeAppend need sizes cut cutFrom zeros ones onesIn onTrip decided firstOf order holds
+  top-turns = rw full
+
+  top-tail : getD (offerOf (topAt 65472) log (bytes 64) .next .tails) 1 (pos 0) ≡ negsuc 9223372036854775807
+  unfolding offerOf readingOf soundRecord sound rawOf pressed afterClosed beforeAppend need sizes cut cutFrom zeros ones onesIn onTrip appendNext changed withTail withCount nextTail rotated
+  top-tail = rw full
+
+  -- and then an offer of 0 bytes there, in step
+  top-then-on : (more : List ℕ) → length more ≡ 196608 → offeredTold (offerOf (offerOf (topAt 65472) log (bytes 64) .next) more [] .answer) ≡ is (pos 0) (pos 65568 ∷ [])
+  unfolding offerOf readingOf soundRecord sound rawOf pressed afterClosed beforeAppend need sizes cut cutFrom zeros ones onesIn onTrip appendNext changed withTail withCount nextTail rotated
+  top-then-on more long = rw (full, long)
+
+-- opened at the lowest id: the tails below it have the largest and the one before
+lowest-opened : openedRecord (pos 65536) (pos 96) (negsuc 2147483647) (pos 5) (pos 6) .tails ≡ negsuc 9223372036854775807 ∷ pos 9223372028264841216 ∷ pos 9223372032559808512 ∷ []
+unfolding openedRecord rawOf
+lowest-opened = refl
+
+-- one term past the largest id, and one term before the initial one
+position-over : positionOf 2147483648 2147483647 65536 64 ≡ pos 65600
+position-over = refl
+
+position-before : positionOf 6 7 65536 0 ≡ negsuc 65535
+position-before = refl
+
 -- ---- numbers
 
 -- id 9, offset 64
 position-9 : positionOf 9 7 65536 64 ≡ pos 131136
 position-9 = refl
 
-position-call : positionedTold (positionCall (recordAt (replicate 3 (rawOf 2147483657 64)) (pos 7) 96 2 1000000 false)) ≡ is (pos 0) (pos 131136 ∷ [])
+position-call : positionedTold (positionCall (recordAt (replicate 3 (rawOf 9 64)) (pos 7) 96 2 1000000 false)) ≡ is (pos 0) (pos 131136 ∷ [])
 unfolding openRecord readingOf soundRecord rawOf ones onesIn
 position-call = refl
 

@@ -8,7 +8,7 @@ use lib.ListN.{length, length-append}
 use Rattle.model.specs.Bytes.{zeros, le2, le4, le8}
 use Rattle.model.specs.FrameDescriptor.{align}
 use Rattle.model.specs.DataFrameHeader.{header24}
-use Rattle.model.specs.LogBufferDescriptor.{biased}
+use Rattle.model.specs.LogBufferDescriptor.{idBits}
 use Rattle.model.specs.History.{Shape, State, open·, committed, aborted}
 use Rattle.model.proofs.Splice.{length-zeros}
 
@@ -39,10 +39,10 @@ typ open· = 1
 typ committed = 1
 typ aborted = 0
 
--- the header of a frame at term offset o, term id i (biased), with length word w
+-- the header of a frame at term offset o, term id i, with length word w
 unfoldable pub head : Shape → ℕ → ℕ → ℕ → ℕ → ℕ → List ℕ
 head c o i w fl ty =
-    header24 (record { length = w; version = 0; flags = fl; type = ty; offset = o; session = c .session; stream = c .stream; id = biased i; reserved = 0 })
+    header24 (record { length = w; version = 0; flags = fl; type = ty; offset = o; session = c .session; stream = c .stream; id = idBits i; reserved = 0 })
 
 unfoldable pub flen : Cell → ℕ
 flen f = length (bodyOf f) + 32

@@ -53,7 +53,7 @@ nothing-rare log term mtu initial session stream fresh calls given short = Deman
 -- what a trip is refused with is a trip's number
 trip-is : (v : Reading) → isTrip (tripError v) ≡ true
 unfolding onTrip
-trip-is v = go (ltb (greatest v) (place v + v .offset)) (lastTerm (v .count) (v .id))
+trip-is v = go (ltb (greatest v) (place v + v .offset)) (lastTerm (v .count))
   where
     go : (a b : Bool) → isTrip (cond a MaxPositionExceeded (cond b LastTerm AdminAction)) ≡ true
     go true b = refl

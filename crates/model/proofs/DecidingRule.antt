@@ -24,7 +24,7 @@ use Rattle.model.specs.Bytes.{word, long}
 use Rattle.model.specs.Errors.{numberOf}
 use Rattle.model.specs.Answers.{offeredTold, claimedTold}
 use Rattle.model.specs.FrameDescriptor.{space}
-use Rattle.model.specs.LogBufferDescriptor.{idOf, offsetOf, rawOf, tailOf, readingOf, active, reading, payloadLimit, greatest, lastTerm, changed, withTail, withCount, nextTail, rotated}
+use Rattle.model.specs.LogBufferDescriptor.{idPlus, idOf, offsetOf, rawOf, tailOf, readingOf, active, reading, payloadLimit, greatest, lastTerm, changed, withTail, withCount, nextTail, rotated}
 use Rattle.model.specs.TermAppender.{written, cut, claimed, claimRecord}
 use Rattle.model.specs.Rule.{ruleNumber, rulePlace, moves, order, firstOf, Asked, message, claim, needs, holds, decided}
 use Rattle.model.specs.Publication.{place, fits, onTrip, tripError, tripNext, appendNext, needOf, offerVerdict, offeredBy, nextBy, logBy, offerOf, offerBytes, claimVerdict, claimedBy, claimOf, claimBytes}
@@ -100,8 +100,8 @@ module _ (test : Rule → Bool) where
 turned-tail : (x : LogRecord) (n i k : ℕ) → ¬ (k ≡ (n + 1) % 3) → tailOf (rotated x n i) k ≡ tailOf x k
 unfolding rotated nextTail withCount withTail changed
 turned-tail x n i k h =
-    cond-case (λ (y : LogRecord). tailOf y k ≡ tailOf x k) (eqb (idOf (tailOf x ((n + 1) % 3)) + 2) i) (withTail x ((n + 1) % 3) (i + 1) 0) x
-    (λ q. getD-set-other (x .tails) ((n + 1) % 3) k (rawOf (i + 1) 0) (pos 0) h) (λ q. refl)
+    cond-case (λ (y : LogRecord). tailOf y k ≡ tailOf x k) (eqb (idPlus (idOf (tailOf x ((n + 1) % 3))) 2) i) (withTail x ((n + 1) % 3) (idPlus i 1) 0) x
+    (λ q. getD-set-other (x .tails) ((n + 1) % 3) k (rawOf (idPlus i 1) 0) (pos 0) h) (λ q. refl)
 
 -- an append moves the tail of the partition that was active, and a rotation another one
 module _ (r : LogRecord) (needed : ℕ) (three : length (r .tails) ≡ 3) (small : reading r .offset + needed < 4294967296) where
@@ -122,7 +122,7 @@ module _ (r : LogRecord) (needed : ℕ) (three : length (r .tails) ≡ 3) (small
 
   appended-at : readingOf (appendNext r v needed) (active r) .offset ≡ v .offset + needed
   unfolding appendNext onTrip readingOf
-  appended-at = go (fits v needed) (ltb (greatest v) (place v + v .offset)) (lastTerm (v .count) (v .id))
+  appended-at = go (fits v needed) (ltb (greatest v) (place v + v .offset)) (lastTerm (v .count))
     where
       go : (b g l : Bool) → at (cond b moved (cond g moved (cond l moved (rotated moved (v .count) (v .id))))) ≡ v .offset + needed
       go true g l = moved-at
@@ -135,7 +135,7 @@ module _ (r : LogRecord) (needed : ℕ) (three : length (r .tails) ≡ 3) (small
 -- a trip's rule has the refusal's number, and moves the tail
 trip-numbered : (v : Reading) → (numberOf (tripError v) ≡ ruleNumber (tripRule v)) × (moves (tripRule v) ≡ true)
 unfolding onTrip
-trip-numbered v = go (ltb (greatest v) (place v + v .offset)) (lastTerm (v .count) (v .id))
+trip-numbered v = go (ltb (greatest v) (place v + v .offset)) (lastTerm (v .count))
   where
     go : (g l : Bool) → (numberOf (cond g MaxPositionExceeded (cond l LastTerm AdminAction)) ≡ ruleNumber (cond g TripPastMaxPosition (cond l ByLastTerm TermRotated)))
         × (moves (cond g TripPastMaxPosition (cond l ByLastTerm TermRotated)) ≡ true)

@@ -17,7 +17,7 @@ use Rattle.model.specs.declared.Outcome.the-variants.{Done, Refused}
 use Rattle.model.specs.declared.Verdict.{Verdict}
 use Rattle.model.specs.declared.Verdict.the-variants.{Pass, Refuse}
 use Rattle.model.specs.Bytes.{word, long, zeros}
-use Rattle.model.specs.LogBufferDescriptor.{biased, idOf, tailOf, readingOf, reading, publisherPosition, soundRecord, sound, Sound, withLimit, withClosed}
+use Rattle.model.specs.LogBufferDescriptor.{idBits, idPlus, idMinus, idOf, tailOf, readingOf, active, reading, publisherPosition, soundRecord, sound, Sound, withLimit, withClosed}
 use Rattle.model.specs.Publication.{openedRecord, openVerdict, openBy, openBytesBy, openOf, openBytes, changeOf}
 use Rattle.model.specs.FragmentAssembler.{partLength}
 use Rattle.model.specs.History.{Call, offer, claim, fill, commit, abort, setLimit, close, Answer, outcome, World, Step, step, answers, left, Shape, shapeOf, open·, committed, aborted, Extent, message, claimed·, padding, sizeOf, sizeAll, tell, told, messages, total, learn, Given, AllGiven}
@@ -26,8 +26,8 @@ use Rattle.model.specs.Demand.{Ends, Replayed, GivesAll, opened, shape, 
 use Rattle.model.specs.Corollaries.{Rising, AllUsual}
 use Rattle.model.proofs.Cut.{need-covers}
 use Rattle.model.proofs.Both.{both-true, and-true}
-use Rattle.model.proofs.RawTail.{raw-id, raw-offset}
-use Rattle.model.proofs.Sound.{sound-true}
+use Rattle.model.proofs.RawTail.{raw-bits, raw-id, raw-offset}
+use Rattle.model.proofs.Sound.{sound-true, initial-small}
 use Rattle.model.proofs.Cells.{bytes, sizes}
 use Rattle.model.proofs.Walking.{Fits}
 use Rattle.model.proofs.OneSession.{flat, Asm, made}
@@ -52,7 +52,7 @@ rest-holds v log h ks limit closed i l =
     let f = i .fixed in
     record {
       is = refl;
-      fixed = record { term-low = f .term-low; term-high = f .term-high; one-bit = f .one-bit; mtu-low = f .mtu-low; mtu-high = f .mtu-high; mtu-32 = f .mtu-32; initial-low = f .initial-low; live = f .live };
+      fixed = record { term-low = f .term-low; term-high = f .term-high; one-bit = f .one-bit; mtu-low = f .mtu-low; mtu-high = f .mtu-high; mtu-32 = f .mtu-32; initial-small = f .initial-small; live = f .live };
       here = i .here;
       low = i .low;
       size = i .size;
@@ -179,7 +179,7 @@ module _ (log : List ℕ) (term mtu initial session stream : ℤ) (fresh : openO
   log-is = ap (openBytesBy log) passes
 
   abbrev b₀ : ℕ
-  b₀ = biased (word initial)
+  b₀ = idBits (word initial)
 
   initial-is : reading r₀ .initial ≡ b₀
   unfolding readingOf openedRecord
@@ -191,19 +191,19 @@ module _ (log : List ℕ) (term mtu initial session stream : ℤ) (fresh : openO
 
   id-is : reading r₀ .id ≡ b₀
   unfolding readingOf openedRecord
-  id-is = raw-id b₀ 0 (omega arith) (omega arith)
+  id-is = raw-bits (word initial) 0 (omega arith)
 
   offset-is : reading r₀ .offset ≡ 0
   unfolding readingOf openedRecord
-  offset-is = raw-offset b₀ 0 (omega arith)
+  offset-is = raw-offset (word initial) 0 (omega arith)
 
-  second : idOf (tailOf r₀ 1) ≡ b₀ - 2
+  second : idOf (tailOf r₀ 1) ≡ idMinus b₀ 2
   unfolding openedRecord
-  second = raw-id (b₀ - 2) 0 (omega arith) (omega arith)
+  second = raw-id (idMinus (word initial) 2) 0 (omega arith) (omega arith) ∙ omega arith
 
-  third : idOf (tailOf r₀ 2) ≡ b₀ - 1
+  third : idOf (tailOf r₀ 2) ≡ idMinus b₀ 1
   unfolding openedRecord
-  third = raw-id (b₀ - 1) 0 (omega arith) (omega arith)
+  third = raw-id (idMinus (word initial) 1) 0 (omega arith) (omega arith) ∙ omega arith
 
   three-tails : length (r₀ .tails) ≡ 3
   unfolding openedRecord
@@ -217,16 +217,13 @@ module _ (log : List ℕ) (term mtu initial session stream : ℤ) (fresh : openO
   unfolding readingOf openedRecord
   limit-is = refl
 
-  low : 2 ≤ b₀
-  low = subst (λ (n : ℕ). 2 ≤ n) initial-is (facts .initial-low)
-
   tails₀ : Tails r₀
   tails₀ =
       record {
         three = three-tails;
         here = omega (arith, id-is, initial-is, count-is);
-        next = ap (λ (n : ℕ). idOf (tailOf r₀ ((n + 1) % 3)) + 2) count-is ∙ omega (arith, second, id-is, low);
-        last = ap (λ (n : ℕ). idOf (tailOf r₀ ((n + 2) % 3)) + 1) count-is ∙ omega (arith, third, id-is, low);
+        next = ap (λ (n : ℕ). idPlus (idOf (tailOf r₀ ((n + 1) % 3))) 2) count-is ∙ omega (arith, second, id-is);
+        last = ap (λ (n : ℕ). idPlus (idOf (tailOf r₀ ((n + 2) % 3))) 1) count-is ∙ omega (arith, third, id-is);
         high = omega (arith, count-is);
       }
 
@@ -235,7 +232,7 @@ module _ (log : List ℕ) (term mtu initial session stream : ℤ) (fresh : openO
   holds₀ =
       record {
         is = refl;
-        fixed = record { term-low = facts .term-low; term-high = facts .term-high; one-bit = facts .one-bit; mtu-low = facts .mtu-low; mtu-high = facts .mtu-high; mtu-32 = facts .mtu-32; initial-low = facts .initial-low; live = live };
+        fixed = record { term-low = facts .term-low; term-high = facts .term-high; one-bit = facts .one-bit; mtu-low = facts .mtu-low; mtu-high = facts .mtu-high; mtu-32 = facts .mtu-32; initial-small = initial-small r₀ (active r₀); live = live };
         here = tails₀ .here;
         low = omega (arith, count-is);
         size = omega (arith, nothing, offset-is);
@@ -278,7 +275,7 @@ module _ (log : List ℕ) (term mtu initial session stream : ℤ) (fresh : openO
     end = left w₀ calls .record·
 
     where-it-is : publisherPosition (reading end) ≡ pos (reached (reading end))
-    where-it-is = position-is (reading end) (run-tails w₀ calls tails-open .here)
+    where-it-is = position-is (reading end) (initial-small end (active end)) (run-tails w₀ calls tails-open .high) (run-tails w₀ calls tails-open .here)
 
     below : reached (reading end) < 3 * shape w₀ .term
     below = ltb-true (reached (reading end)) (3 * shape w₀ .term) (sym (ap (λ (z : ℤ). ltZ z (pos (3 * shape w₀ .term))) where-it-is) ∙ short)

@@ -93,14 +93,14 @@ mtu-between : sounds (ranged 0 (pos 0) (pos 7) (pos 65536) (pos 112) (pos 0)) �
 unfolding readingOf soundRecord rawOf ones onesIn
 mtu-between = refl
 
--- from -2147483646 up
-initial-lowest : sounds (ranged 0 (pos 0) (negsuc 2147483645) (pos 65536) (pos 96) (pos 0)) ≡ true
+-- every id, the lowest and the highest too (R-8)
+initial-lowest : sounds (ranged 0 (pos 0) (negsuc 2147483647) (pos 65536) (pos 96) (pos 0)) ≡ true
 unfolding readingOf soundRecord rawOf ones onesIn
 initial-lowest = refl
 
-initial-below : sounds (ranged 0 (pos 0) (negsuc 2147483646) (pos 65536) (pos 96) (pos 0)) ≡ false
+initial-highest : sounds (ranged 0 (pos 0) (pos 2147483647) (pos 65536) (pos 96) (pos 0)) ≡ true
 unfolding readingOf soundRecord rawOf ones onesIn
-initial-below = refl
+initial-highest = refl
 
 -- no negative count
 count-highest : sounds (ranged 0 (pos 2147483647) (pos 7) (pos 65536) (pos 96) (pos 0)) ≡ true
@@ -194,7 +194,7 @@ finished-largest = refl
 -- ---- positions
 
 -- an offset over the term length is cut to it, one below is not
-offset-cut : termOffset (rawOf 2147483655 65600) 65536 ∷ termOffset (rawOf 2147483655 65504) 65536 ∷ [] ≡ 65536 ∷ 65504 ∷ []
+offset-cut : termOffset (rawOf 7 65600) 65536 ∷ termOffset (rawOf 7 65504) 65536 ∷ [] ≡ 65536 ∷ 65504 ∷ []
 unfolding rawOf
 offset-cut = refl
 

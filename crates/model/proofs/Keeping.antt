@@ -21,7 +21,7 @@ use Rattle.model.specs.declared.Claim.{Claim}
 use Rattle.model.specs.declared.Reading.{Reading}
 use Rattle.model.specs.Bytes.{word, long, splice, zeros}
 use Rattle.model.specs.FrameDescriptor.{space, negated}
-use Rattle.model.specs.LogBufferDescriptor.{biased, reading, payloadLimit, sound, Sound}
+use Rattle.model.specs.LogBufferDescriptor.{idPlus, idMinus, reading, payloadLimit, sound, Sound}
 use Rattle.model.specs.TermAppender.{header, Fragment, cutFrom, cut, need, written, padded, claimed, claimRecord}
 use Rattle.model.specs.History.{World, Shape, shapeOf, State, open·, committed, aborted, Extent, message, claimed·, padding, sizeOf, sizeAll, padTo, startOf, Among}
 use Rattle.model.proofs.Choice.{split, cond-true, cond-false, eq-yes, eq-no, le-case}
@@ -30,7 +30,7 @@ use Rattle.model.proofs.Sound.{term-32, sound-by}
 use Rattle.model.proofs.Cells.{Cell, cell, stored, typ, head, flen, enc, bytes, sizes, length-bytes, bytes-append, sizes-append, flen-ge, fsize-ge, sizes-32}
 use Rattle.model.proofs.Walking.{Small, AllSmall, Fits}
 use Rattle.model.proofs.OneSession.{cells, frames, flat}
-use Rattle.model.proofs.Tails.{Tails, with-tail}
+use Rattle.model.proofs.Tails.{count-of, Tails, with-tail}
 use Rattle.model.proofs.Writing.{fits-in, fits-append, puts, head-is, put-head, fsize-zeros}
 use Rattle.model.proofs.Around.{Pads, message-size, size-all, pads-snoc, size-snoc, flat-snoc, IsClaim, At, at-append, at-new}
 
@@ -43,7 +43,7 @@ pub record Fixed (v : Reading) : Type 0 where
   pub mtu-low : 64 ≤ v .mtu
   pub mtu-high : v .mtu ≤ 65504
   pub mtu-32 : v .mtu % 32 ≡ 0
-  pub initial-low : 2 ≤ v .initial
+  pub initial-small : v .initial < 4294967296
   pub live : v .connected ≡ 1
 
 -- ---- claim records that have been answered
@@ -76,7 +76,7 @@ known-on c h g (k ∷ ks) f a =
 pub record Holds (c : Shape) (v : Reading) (log : List ℕ) (h : List Extent) (ks : List Claim) : Type 0 where
   pub is : shapeOf v ≡ c
   pub fixed : Fixed v
-  pub here : v .id ≡ v .initial + v .count
+  pub here : v .id ≡ idPlus (v .initial) (v .count)
   pub low : v .count < 3
   pub size : sizes (flat c h) ≡ v .count * c .term + min (v .offset) (c .term)
   pub bytes-are : log ≡ bytes c 0 (flat c h) ++ zeros (3 * c .term - sizes (flat c h))
@@ -158,7 +158,6 @@ module _ (v : Reading) (log : List ℕ) (h : List Extent) (ks : List Claim) (i :
         mtu-low = i .fixed .mtu-low;
         mtu-high = i .fixed .mtu-high;
         mtu-32 = i .fixed .mtu-32;
-        initial-low = i .fixed .initial-low;
         count-high = omega (arith, i .low);
         limit-high = i .bound;
         offset-32 = i .whole;
@@ -168,7 +167,7 @@ module _ (v : Reading) (log : List ℕ) (h : List Extent) (ks : List Claim) (i :
 
   pub sound-is : sound v (length log) ≡ true
   sound-is =
-      sym (sound-by v (length log) (i .fixed .term-low) (i .fixed .term-high) (i .fixed .one-bit) (i .fixed .mtu-low) (i .fixed .mtu-high) (i .fixed .mtu-32) (i .fixed .initial-low)
+      sym (sound-by v (length log) (i .fixed .term-low) (i .fixed .term-high) (i .fixed .one-bit) (i .fixed .mtu-low) (i .fixed .mtu-high) (i .fixed .mtu-32)
       (omega (arith, i .low)) (i .bound) (i .whole) (i .most))
       ∙ eq-true long-log
     where
@@ -215,12 +214,12 @@ module _ (v : Reading) (log : List ℕ) (h : List Extent) (ks : List Claim) (i :
     -- with a tail that stands at the end
     grow : (count id offset : ℕ) (log′ : List ℕ) (ks′ : List Claim)
         → log′ ≡ (bytes c· 0 (flat c· h) ++ bytes c· (v .count * T + v .offset) gs) ++ zeros (3 * T - sizes (flat c· h) - sizes gs)
-        → id ≡ v .initial + count → count < 3 → count * T + min offset T ≡ v .count * T + (v .offset + sizes gs)
+        → id ≡ idPlus (v .initial) count → count < 3 → count * T + min offset T ≡ v .count * T + (v .offset + sizes gs)
         → offset % 32 ≡ 0 → offset ≤ 2147483647 → Pads h′ → AllKnown c· h′ ks′ → Holds c· (with-tail v count id offset) log′ h′ ks′
     grow count id offset log′ ks′ q d k p m o b a =
         record {
           is = refl;
-          fixed = record { term-low = f· .term-low; term-high = f· .term-high; one-bit = f· .one-bit; mtu-low = f· .mtu-low; mtu-high = f· .mtu-high; mtu-32 = f· .mtu-32; initial-low = f· .initial-low; live = f· .live };
+          fixed = record { term-low = f· .term-low; term-high = f· .term-high; one-bit = f· .one-bit; mtu-low = f· .mtu-low; mtu-high = f· .mtu-high; mtu-32 = f· .mtu-32; initial-small = f· .initial-small; live = f· .live };
           here = d;
           low = k;
           size = grown-size ∙ sym p;
@@ -303,16 +302,16 @@ module _ (v : Reading) (log : List ℕ) (h : List Extent) (ks : List Claim) (i :
   unfolding Pads
   claim-pads b = tt
 
-  id-back : v .id < 4294967296 → biased (word (toZ w32 (biased (v .id)))) ≡ v .id
-  id-back l =
-      let e : word (toZ w32 (biased (v .id))) ≡ biased (v .id) = ofZ-toZ {w = w32} (record { fits = omega arith }) in
-      ap biased e ∙ omega arith
+  id-back : v .id < 4294967296 → word (toZ w32 (v .id)) ≡ v .id
+  id-back l = ofZ-toZ {w = w32} (record { fits = omega arith })
+
+  pub own-count : idMinus (v .id) (v .initial) ≡ v .count
+  own-count = count-of v (i .fixed .initial-small) (omega (arith, i .low)) (i .here)
 
   claim-starts : v .id < 4294967296 → v .offset ≤ T → (n : ℕ) → startOf c· (claimRecord v (v .count) n) ≡ sizeAll c· h
   unfolding startOf claimRecord
   claim-starts s l n =
-      let e : v .id - v .initial ≡ v .count = omega (arith, i .here) in
-      ap (λ (d : ℕ). (d - v .initial) * T + v .offset) (id-back s) ∙ ap (λ (d : ℕ). d * T + v .offset) e ∙ omega (arith, history-size)
+      ap (λ (d : ℕ). idMinus d (v .initial) * T + v .offset) (id-back s) ∙ ap (λ (d : ℕ). d * T + v .offset) own-count ∙ omega (arith, history-size)
 
   is-claim : (n : ℕ) → IsClaim (n + 32 - 32) (claimed· open· (zeros n))
   unfolding IsClaim
@@ -320,9 +319,7 @@ module _ (v : Reading) (log : List ℕ) (h : List Extent) (ks : List Claim) (i :
 
   claim-spot : v .id < 4294967296 → (n : ℕ) → word (claimRecord v (v .count) n .partition) * T + word (claimRecord v (v .count) n .offset) ≡ startOf c· (claimRecord v (v .count) n)
   unfolding startOf claimRecord
-  claim-spot s n =
-      let e : v .id - v .initial ≡ v .count = omega (arith, i .here) in
-      sym (ap (λ (d : ℕ). (d - v .initial) * T + v .offset) (id-back s) ∙ ap (λ (d : ℕ). d * T + v .offset) e)
+  claim-spot s n = sym (ap (λ (d : ℕ). idMinus d (v .initial) * T + v .offset) (id-back s) ∙ ap (λ (d : ℕ). d * T + v .offset) own-count)
 
   claim-length : (n : ℕ) → word (claimRecord v (v .count) n .length) ≡ n + 32
   unfolding claimRecord
@@ -404,7 +401,7 @@ module _ (v : Reading) (log : List ℕ) (h : List Extent) (ks : List Claim) (i :
   unfolding Pads
   padding-pads l = (omega (arith, i .whole, even), omega (arith, i .whole, even), tt)
 
-  pad-holds : v .offset < T → (count id offset : ℕ) → id ≡ v .initial + count → count < 3 → count * T + min offset T ≡ v .count * T + T → offset % 32 ≡ 0 → offset ≤ 2147483647
+  pad-holds : v .offset < T → (count id offset : ℕ) → id ≡ idPlus (v .initial) count → count < 3 → count * T + min offset T ≡ v .count * T + T → offset % 32 ≡ 0 → offset ≤ 2147483647
       → Holds c· (with-tail v count id offset) (splice log (v .count * T + v .offset) (header v (v .offset) (T - v .offset) 192 0)) (h ++ (padding (T - v .offset) ∷ [])) ks
   pad-holds l count id offset d k p m o =
       let gs = cell aborted 192 0 (zeros left) ∷ [] in
@@ -414,12 +411,12 @@ module _ (v : Reading) (log : List ℕ) (h : List Extent) (ks : List Claim) (i :
       (known-on c· h (h ++ (padding (T - v .offset) ∷ [])) ks (λ q n a. at-append c· q n h (padding (T - v .offset) ∷ []) a) (i .known))
 
   -- nothing is left of the term
-  full-holds : T ≤ v .offset → (count id offset : ℕ) → id ≡ v .initial + count → count < 3 → count * T + min offset T ≡ v .count * T + T → offset % 32 ≡ 0 → offset ≤ 2147483647
+  full-holds : T ≤ v .offset → (count id offset : ℕ) → id ≡ idPlus (v .initial) count → count < 3 → count * T + min offset T ≡ v .count * T + T → offset % 32 ≡ 0 → offset ≤ 2147483647
       → Holds c· (with-tail v count id offset) log h ks
   full-holds l count id offset d k p m o =
       record {
         is = refl;
-        fixed = record { term-low = f· .term-low; term-high = f· .term-high; one-bit = f· .one-bit; mtu-low = f· .mtu-low; mtu-high = f· .mtu-high; mtu-32 = f· .mtu-32; initial-low = f· .initial-low; live = f· .live };
+        fixed = record { term-low = f· .term-low; term-high = f· .term-high; one-bit = f· .one-bit; mtu-low = f· .mtu-low; mtu-high = f· .mtu-high; mtu-32 = f· .mtu-32; initial-small = f· .initial-small; live = f· .live };
         here = d;
         low = k;
         size = omega (arith, i .size);
@@ -450,7 +447,7 @@ module _ (v : Reading) (log : List ℕ) (h : List Extent) (ks : List Claim) (i :
   unfolding padded
   padded-some l = cond-true (ltb (v .offset) T) _ log (lt-ltb (v .offset) T l)
 
-  pub trip-holds : zero < v .offset → (count id offset : ℕ) → id ≡ v .initial + count → count < 3 → count * T + min offset T ≡ v .count * T + T → offset % 32 ≡ 0 → offset ≤ 2147483647
+  pub trip-holds : zero < v .offset → (count id offset : ℕ) → id ≡ idPlus (v .initial) count → count < 3 → count * T + min offset T ≡ v .count * T + T → offset % 32 ≡ 0 → offset ≤ 2147483647
       → Holds c· (with-tail v count id offset) (padded v log (v .count * T)) (padTo c· h) ks
   trip-holds z count id offset d k p m o =
       split T (v .offset)

@@ -15,7 +15,7 @@ use Rattle.model.specs.declared.LogRecord.{LogRecord}
 use Rattle.model.specs.declared.Reading.{Reading}
 use Rattle.model.specs.declared.Outcome.the-variants.{Done}
 use Rattle.model.specs.Bytes.{word, long}
-use Rattle.model.specs.LogBufferDescriptor.{biased, idOf, offsetOf, termId, tailOf, readingOf, active, reading, soundRecord, changed, withTail, lastTerm, rotated, rotateLogOf, Sound}
+use Rattle.model.specs.LogBufferDescriptor.{idOf, offsetOf, termId, tailOf, readingOf, active, reading, soundRecord, changed, withTail, lastTerm, rotated, rotateLogOf, Sound}
 use Rattle.model.specs.TermAppender.{need}
 use Rattle.model.proofs.RawTail.{raw-id, raw-offset, moved-tail}
 use Rattle.model.proofs.SoundRecord.{sound-record-by}
@@ -24,10 +24,11 @@ use native.Mathlib.Decide.{decLe}
 use native.Mathlib.Nat.{lt-of-not-le}
 
 -- a term id as the Rust answers it, handed back, is the tail's
-pub term-id-back : (raw : ℤ) → SFits w64 raw → biased (word (termId raw)) ≡ idOf raw
+pub term-id-back : (raw : ℤ) → SFits w64 raw → word (termId raw) ≡ idOf raw
 term-id-back raw f =
     let small : long raw < 18446744073709551616 = fits-ofZ f .fits in
-    ap biased (ofZ-toZ {w = w32} (record { fits = omega arith }))
+    let e : long raw / 4294967296 ≡ idOf raw = omega arith in
+    ofZ-toZ {w = w32} (record { fits = omega arith }) ∙ e
 
 -- ---- the active tail moved
 
@@ -50,7 +51,7 @@ withPlace v id offset =
 
 pub place-sound : (v : Reading) (n id offset : ℕ) → Sound v n → offset % 32 ≡ 0 → offset ≤ 2147483647 → soundRecord (withPlace v id offset) ≡ true
 place-sound v n id offset s m h =
-    sym (sound-record-by (withPlace v id offset) (s .term-low) (s .term-high) (s .one-bit) (s .mtu-low) (s .mtu-high) (s .mtu-32) (s .initial-low) (s .count-high) (s .limit-high) m) ∙ le-leb _ _ h
+    sym (sound-record-by (withPlace v id offset) (s .term-low) (s .term-high) (s .one-bit) (s .mtu-low) (s .mtu-high) (s .mtu-32) (s .count-high) (s .limit-high) m) ∙ le-leb _ _ h
 
 module _ (r : LogRecord) (id offset : ℕ) (three : length (r .tails) ≡ 3) (hi : id < 4294967296) (ho : offset < 4294967296) where
   by-place : (a b : ℕ) → a ≡ id → b ≡ offset → withPlace (reading r) a b ≡ withPlace (reading r) id offset
@@ -65,7 +66,7 @@ module _ (r : LogRecord) (id offset : ℕ) (three : length (r .tails) ≡ 3) (hi
 
 -- after an append that tripped, `rotate_log` on the record's own count and term id
 pub rotate-moved : (r : LogRecord) (n needed : ℕ) (id : ℤ) → length (r .tails) ≡ 3 → Sound (reading r) n → reading r .id < 4294967296 → needed % 32 ≡ 0 → reading r .offset + needed ≤ 2147483647
-    → biased (word id) ≡ reading r .id → lastTerm (reading r .count) (reading r .id) ≡ false
+    → word id ≡ reading r .id → lastTerm (reading r .count) ≡ false
     → rotateLogOf (withTail r (active r) (reading r .id) (reading r .offset + needed)) (r .«active_term_count») id
     ≡ record { next = rotated (withTail r (active r) (reading r .id) (reading r .offset + needed)) (reading r .count) (reading r .id); answer = Done }
 unfolding readingOf withTail changed

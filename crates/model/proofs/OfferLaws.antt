@@ -1,7 +1,7 @@
 -- Offers and claims, for the code above the appenders: their ladders taken apart, what a trip leads to, and that an offer that nothing
 -- refuses is the append at the active partition with what its answer leads to.
 use mathlib.Core.Path.{_≡_, refl, sym, ap, ap₂, _∙_, subst}
-use mathlib.Core.Bool.{Bool, true, false, cond, _&&_, _||_, not}
+use mathlib.Core.Bool.{Bool, true, false, cond, _&&_, not}
 use Prim.Native.Nat.{ℕ, _+_, _*_, _/_, _%_, _≤_, _<_, min}
 use mathlib.Core.List.{List}
 use native.Mathlib.Omega.{arith}
@@ -25,7 +25,7 @@ use Rattle.model.specs.declared.Offered.the-variants.{Position, Refused 
 use Rattle.model.specs.declared.OfferReply.{OfferReply}
 use Rattle.model.specs.declared.Rule.{Rule}
 use Rattle.model.specs.Bytes.{word, long}
-use Rattle.model.specs.LogBufferDescriptor.{biased, reading, active, payloadLimit, greatest, sound, Sound, withTail, lastTerm, rotated, rotateLogOf}
+use Rattle.model.specs.LogBufferDescriptor.{idMinus, reading, active, payloadLimit, greatest, sound, Sound, withTail, lastTerm, rotated, rotateLogOf}
 use Rattle.model.specs.TermAppender.{written, cut, padded, course, replyBy, bytesBy}
 use Rattle.model.specs.Rule.{message, decided}
 use Rattle.model.specs.Publication.{refuseIf, place, needOf, tooLong, pressed, afterClosed, tailRoom, beforeAppend, offerVerdict, fits, onTrip, tripError, tripNext, appendNext, offeredBy, nextBy, logBy, offerOf, offerBytes}
@@ -40,7 +40,7 @@ module _ (v : Reading) (m : ℕ) where
   -- what follows a ladder that passes is what stands behind it
   pub closed-pass : (x : Verdict) → afterClosed v m Pass ≡ Pass → afterClosed v m x ≡ x
   unfolding afterClosed
-  closed-pass x h = go (not (eqb (v .id) (v .initial + v .count))) (leb (v .limit) (place v)) (pressed v m) h
+  closed-pass x h = go (not (eqb (idMinus (v .id) (v .initial)) (v .count))) (leb (v .limit) (place v)) (pressed v m) h
     where
       go : (a b : Bool) (w : Error) → refuseIf a AdminAction (refuseIf b w Pass) ≡ Pass → refuseIf a AdminAction (refuseIf b w x) ≡ x
       go true b w h = absurd (let z : _≡_ {A = ℕ} 0 1 = cc in omega arith)
@@ -49,7 +49,7 @@ module _ (v : Reading) (m : ℕ) where
 
   pub closed-refuse : (x : Verdict) (e : Error) → afterClosed v m Pass ≡ Refuse e → afterClosed v m x ≡ Refuse e
   unfolding afterClosed
-  closed-refuse x e h = go (not (eqb (v .id) (v .initial + v .count))) (leb (v .limit) (place v)) (pressed v m) h
+  closed-refuse x e h = go (not (eqb (idMinus (v .id) (v .initial)) (v .count))) (leb (v .limit) (place v)) (pressed v m) h
     where
       go : (a b : Bool) (w : Error) → refuseIf a AdminAction (refuseIf b w Pass) ≡ Refuse e → refuseIf a AdminAction (refuseIf b w x) ≡ Refuse e
       go true b w h = h
@@ -57,15 +57,15 @@ module _ (v : Reading) (m : ℕ) where
       go false false w h = absurd (let z : _≡_ {A = ℕ} 0 1 = cc in omega arith)
 
   -- its rungs
-  pub closed-6 : (v .id ≡ v .initial + v .count → ⊥) → Refuse AdminAction ≡ afterClosed v m Pass
+  pub closed-6 : (idMinus (v .id) (v .initial) ≡ v .count → ⊥) → Refuse AdminAction ≡ afterClosed v m Pass
   unfolding afterClosed
   closed-6 h = simp (ne-eqb _ _ h)
 
-  pub closed-7 : v .id ≡ v .initial + v .count → v .limit ≤ place v → Refuse (pressed v m) ≡ afterClosed v m Pass
+  pub closed-7 : idMinus (v .id) (v .initial) ≡ v .count → v .limit ≤ place v → Refuse (pressed v m) ≡ afterClosed v m Pass
   unfolding afterClosed
   closed-7 k h = simp (eq-eqb _ _ k, le-leb _ _ h)
 
-  pub closed-last : v .id ≡ v .initial + v .count → place v < v .limit → Pass ≡ afterClosed v m Pass
+  pub closed-last : idMinus (v .id) (v .initial) ≡ v .count → place v < v .limit → Pass ≡ afterClosed v m Pass
   unfolding afterClosed
   closed-last k h = simp (eq-eqb _ _ k, lt-leb _ _ h)
 
@@ -105,7 +105,7 @@ ladder a b c d e w f x =
 module _ (v : Reading) (n m : ℕ) where
   pub before-pass : (x : Verdict) → beforeAppend v n m Pass ≡ Pass → beforeAppend v n m x ≡ x
   unfolding beforeAppend afterClosed
-  before-pass x h = go (ltb 2147483647 m) (not (sound v n)) (v .closed) (not (eqb (v .id) (v .initial + v .count))) (leb (v .limit) (place v)) (pressed v m) (tooLong v m) h
+  before-pass x h = go (ltb 2147483647 m) (not (sound v n)) (v .closed) (not (eqb (idMinus (v .id) (v .initial)) (v .count))) (leb (v .limit) (place v)) (pressed v m) (tooLong v m) h
     where
       go : (a b c d e : Bool) (w : Error) (f : Bool) → ladder a b c d e w f Pass ≡ Pass → ladder a b c d e w f x ≡ x
       go true b c d e w f h = absurd (let z : _≡_ {A = ℕ} 0 1 = cc in omega arith)
@@ -118,7 +118,7 @@ module _ (v : Reading) (n m : ℕ) where
 
   pub before-refuse : (x : Verdict) (err : Error) → beforeAppend v n m Pass ≡ Refuse err → beforeAppend v n m x ≡ Refuse err
   unfolding beforeAppend afterClosed
-  before-refuse x err h = go (ltb 2147483647 m) (not (sound v n)) (v .closed) (not (eqb (v .id) (v .initial + v .count))) (leb (v .limit) (place v)) (pressed v m) (tooLong v m) h
+  before-refuse x err h = go (ltb 2147483647 m) (not (sound v n)) (v .closed) (not (eqb (idMinus (v .id) (v .initial)) (v .count))) (leb (v .limit) (place v)) (pressed v m) (tooLong v m) h
     where
       go : (a b c d e : Bool) (w : Error) (f : Bool) → ladder a b c d e w f Pass ≡ Refuse err → ladder a b c d e w f x ≡ Refuse err
       go true b c d e w f h = h
@@ -174,11 +174,7 @@ module _ (v : Reading) (n m : ℕ) where
 
 -- rotation of `next`, handed the count and the term id that it was moved from
 abbrev pub Turns : LogRecord → Reading → ℤ → ℤ → Type 0
-Turns next v count id = lastTerm (v .count) (v .id) ≡ false → rotateLogOf next count id ≡ record { next = rotated next (v .count) (v .id); answer = Done }
-
-either : (b : Bool) → (b || true) ≡ true
-either true = refl
-either false = refl
+Turns next v count id = lastTerm (v .count) ≡ false → rotateLogOf next count id ≡ record { next = rotated next (v .count) (v .id); answer = Done }
 
 module _ {ℓ} {X : Type ℓ} (v : Reading) (seven twelve six : X) where
   pub trip-7 : greatest v < place v + v .offset → seven ≡ onTrip v seven twelve six
@@ -186,21 +182,18 @@ module _ {ℓ} {X : Type ℓ} (v : Reading) (seven twelve six : X) where
   trip-7 h = simp (lt-ltb _ _ h)
 
   module _ (h : place v + v .offset ≤ greatest v) where
-    trip-on : (b : Bool) → lastTerm (v .count) (v .id) ≡ b → cond b twelve six ≡ onTrip v seven twelve six
+    trip-on : (b : Bool) → lastTerm (v .count) ≡ b → cond b twelve six ≡ onTrip v seven twelve six
     unfolding onTrip
     trip-on b e = ap (λ (t : Bool). cond t twelve six) (sym e) ∙ simp (le-ltb _ _ h)
 
-    pub trip-12-id : v .id ≡ 4294967295 → twelve ≡ onTrip v seven twelve six
-    trip-12-id k = trip-on true (simp (eq-eqb _ _ k))
+    pub trip-12 : v .count ≡ 2147483647 → twelve ≡ onTrip v seven twelve six
+    trip-12 k = trip-on true (eq-eqb _ _ k)
 
-    pub trip-12-count : v .count ≡ 2147483647 → twelve ≡ onTrip v seven twelve six
-    trip-12-count k = trip-on true (ap (λ (t : Bool). eqb (v .id) 4294967295 || t) (eq-eqb _ _ k) ∙ either (eqb (v .id) 4294967295))
-
-    pub trip-6 : lastTerm (v .count) (v .id) ≡ false → six ≡ onTrip v seven twelve six
+    pub trip-6 : lastTerm (v .count) ≡ false → six ≡ onTrip v seven twelve six
     trip-6 k = trip-on false k
 
-pub not-last : (v : Reading) → (v .id ≡ 4294967295 → ⊥) → (v .count ≡ 2147483647 → ⊥) → lastTerm (v .count) (v .id) ≡ false
-not-last v h k = simp (ne-eqb _ _ h, ne-eqb _ _ k)
+pub not-last : (v : Reading) → (v .count ≡ 2147483647 → ⊥) → lastTerm (v .count) ≡ false
+not-last v k = ne-eqb _ _ k
 
 -- ---- the append, and what its answer leads to
 
@@ -300,7 +293,7 @@ end-in r v k n nd g end Fit c h = let e : v .offset + nd ≡ end = cc in omega (
 
 -- one that tripped leaves a record that turns
 pub trip-turns : (r : LogRecord) (v : Reading) (k n nd g : ℕ) (id : ℤ) (x : Course) → v ≡ reading r → k ≡ active r → course v n nd g ≡ x → replyBy r v k nd x .answer ≡ Tripped
-    → length (r .tails) ≡ 3 → nd % 32 ≡ 0 → biased (word id) ≡ v .id → Turns (replyBy r v k nd x .next) v (r .«active_term_count») id
+    → length (r .tails) ≡ 3 → nd % 32 ≡ 0 → word id ≡ v .id → Turns (replyBy r v k nd x .next) v (r .«active_term_count») id
 trip-turns r v k n nd g id (Deny e) ev ek c h three m ei l = absurd (let z : _≡_ {A = ℕ} 0 1 = cc in omega arith)
 trip-turns r v k n nd g id Stray ev ek c h three m ei l = absurd (let z : _≡_ {A = ℕ} 0 1 = cc in omega arith)
 trip-turns r v k n nd g id Fit ev ek c h three m ei l = absurd (let z : _≡_ {A = ℕ} 0 1 = cc in omega arith)
@@ -308,11 +301,11 @@ trip-turns r v k n nd g id Trip ev ek c h three m ei l =
     let w : Went v n nd = course-says v n nd g Trip c .0 in
     go v k ev ek (w .sound-so) (w .room) ei l
   where
-    go : (u : Reading) (j : ℕ) → u ≡ reading r → j ≡ active r → Sound u n → u .offset + nd ≤ 2147483647 → biased (word id) ≡ u .id → lastTerm (u .count) (u .id) ≡ false
+    go : (u : Reading) (j : ℕ) → u ≡ reading r → j ≡ active r → Sound u n → u .offset + nd ≤ 2147483647 → word id ≡ u .id → lastTerm (u .count) ≡ false
         → rotateLogOf (withTail r j (u .id) (u .offset + nd)) (r .«active_term_count») id ≡ record { next = rotated (withTail r j (u .id) (u .offset + nd)) (u .count) (u .id); answer = Done }
     go u j eu ej s o ei l =
-        subst (λ (q : Reading). Sound q n → q .offset + nd ≤ 2147483647 → biased (word id) ≡ q .id → lastTerm (q .count) (q .id) ≡ false
+        subst (λ (q : Reading). Sound q n → q .offset + nd ≤ 2147483647 → word id ≡ q .id → lastTerm (q .count) ≡ false
         → rotateLogOf (withTail r j (q .id) (q .offset + nd)) (r .«active_term_count») id ≡ record { next = rotated (withTail r j (q .id) (q .offset + nd)) (q .count) (q .id); answer = Done }) (sym eu)
-        (subst (λ (i : ℕ). Sound (reading r) n → reading r .offset + nd ≤ 2147483647 → biased (word id) ≡ reading r .id → lastTerm (reading r .count) (reading r .id) ≡ false
+        (subst (λ (i : ℕ). Sound (reading r) n → reading r .offset + nd ≤ 2147483647 → word id ≡ reading r .id → lastTerm (reading r .count) ≡ false
         → rotateLogOf (withTail r i (reading r .id) (reading r .offset + nd)) (r .«active_term_count») id ≡ record { next = rotated (withTail r i (reading r .id) (reading r .offset + nd)) (reading r .count) (reading r .id); answer = Done }) (sym ej)
         (λ s o e l. rotate-moved r n nd id three s (id-small r (active r)) m o e l)) s o ei l

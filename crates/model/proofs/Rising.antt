@@ -1,7 +1,7 @@
 -- Every call keeps the tails in step, and the publisher's position does not fall; an accepted offer or claim answers the position that
 -- it reaches, and that one is greater. All of it from the tails alone, whatever the log holds, and past the third term.
 use mathlib.Core.Path.{_≡_, refl, sym, ap, ap₂, _∙_, subst}
-use mathlib.Core.Bool.{Bool, true, false, cond, not, _||_}
+use mathlib.Core.Bool.{Bool, true, false, cond, not}
 use Prim.Native.Nat.{ℕ, zero, suc, _+_, _*_, _/_, _%_, _≤_, _<_, min}
 use native.Mathlib.Nat.{le-refl, le-trans, mul-le-mul-right, le-div-iff-mul-le}
 use mathlib.Core.List.{List, [], _∷_}
@@ -24,7 +24,7 @@ use Rattle.model.specs.declared.Claimed.{Claimed}
 use Rattle.model.specs.declared.Claimed.the-variants.{Position as ClaimPosition, Refused as ClaimRefused}
 use Rattle.model.specs.Bytes.{word}
 use Rattle.model.specs.FrameDescriptor.{space}
-use Rattle.model.specs.LogBufferDescriptor.{reading, active, payloadLimit, greatest, soundRecord, sound, Sound, lastTerm, withTail, withLimit, withClosed, rotated}
+use Rattle.model.specs.LogBufferDescriptor.{idPlus, idMinus, reading, active, payloadLimit, greatest, soundRecord, sound, Sound, lastTerm, withTail, withLimit, withClosed, rotated}
 use Rattle.model.specs.TermAppender.{need, claimRecord}
 use Rattle.model.specs.Publication.{changeOf, place, pressed, afterClosed, tailRoom, fits, onTrip, tripError, tripNext, appendNext, tooLong, needOf, beforeAppend, offerVerdict, offeredBy, nextBy, offerOf, claimVerdict, claimedBy, claimOf}
 use Rattle.model.specs.History.{Call, offer, claim, fill, commit, abort, setLimit, close, Answer, offered, claimed, outcome, World, step, answers, left}
@@ -64,7 +64,7 @@ after-lets : (v : Reading) (n m needed : ℕ) (x : Verdict) → Lets v n needed 
 unfolding afterClosed
 after-lets v n m needed x h =
     let no = lets-no v n needed in
-    cond-case (Lets v n needed) (not (eqb (v .id) (v .initial + v .count))) (Refuse AdminAction) _ (λ e. no AdminAction)
+    cond-case (Lets v n needed) (not (eqb (idMinus (v .id) (v .initial)) (v .count))) (Refuse AdminAction) _ (λ e. no AdminAction)
     (λ e. cond-case (Lets v n needed) (leb (v .limit) (place v)) (Refuse (pressed v m)) x (λ e. no (pressed v m)) (λ e. h))
 
 room-lets : (v : Reading) (n needed : ℕ) → sound v n ≡ true → Lets v n needed (tailRoom v needed)
@@ -143,17 +143,9 @@ module _ (r : LogRecord) (n needed : ℕ) (h : Tails r) (t : Through (reading r)
   fits-up s f = (omega (arith, reached-moved), omega (arith, reached-moved))
 
   -- rotated
-  module _ (below : lastTerm (v .count) (v .id) ≡ false) where
-    not-last : (v .count < 2147483647) × (v .id < 4294967295)
-    not-last = go (eqb (v .id) 4294967295) (eqb (v .count) 2147483647) refl refl below
-      where
-        go : (a b : Bool) → eqb (v .id) 4294967295 ≡ a → eqb (v .count) 2147483647 ≡ b → (a || b) ≡ false → (v .count < 2147483647) × (v .id < 4294967295)
-        go true b e f q = clash true refl q
-        go false true e f q = clash true refl q
-        go false false e f q = (
-          split 2147483647 (v .count) (λ l. absurd (eqb-false (v .count) 2147483647 f (omega (arith, h .high)))) (λ l. l),
-          split 4294967295 (v .id) (λ l. absurd (eqb-false (v .id) 4294967295 e (omega (arith, id-small r (active r))))) (λ l. l),
-        )
+  module _ (below : lastTerm (v .count) ≡ false) where
+    not-last : v .count < 2147483647
+    not-last = split 2147483647 (v .count) (λ l. absurd (eqb-false (v .count) 2147483647 below (omega (arith, h .high)))) (λ l. l)
 
     abbrev over : LogRecord
     over = rotated moved (v .count) (v .id)
@@ -162,18 +154,15 @@ module _ (r : LogRecord) (n needed : ℕ) (h : Tails r) (t : Through (reading r)
     same-over = ap₂ (rotated moved) (sym (ap (λ (x : Reading). x .count) read-moved)) (sym (ap (λ (x : Reading). x .id) read-moved))
 
     count-low : reading moved .count < 2147483647
-    count-low = subst (λ (x : Reading). x .count < 2147483647) (sym read-moved) (not-last .0)
+    count-low = subst (λ (x : Reading). x .count < 2147483647) (sym read-moved) not-last
 
-    id-low : reading moved .id < 4294967295
-    id-low = subst (λ (x : Reading). x .id < 4294967295) (sym read-moved) (not-last .1)
-
-    pub read-over : reading over ≡ with-tail v (v .count + 1) (v .id + 1) 0
+    pub read-over : reading over ≡ with-tail v (v .count + 1) (idPlus (v .id) 1) 0
     read-over =
-        ap reading same-over ∙ rotated-reading moved (moved-tails r h o small) count-low id-low
-        ∙ ap (λ (x : Reading). with-tail x (x .count + 1) (x .id + 1) 0) read-moved
+        ap reading same-over ∙ rotated-reading moved (moved-tails r h o small) count-low
+        ∙ ap (λ (x : Reading). with-tail x (x .count + 1) (idPlus (x .id) 1) 0) read-moved
 
     pub over-tails : Tails over
-    over-tails = subst Tails (sym same-over) (rotated-tails moved (moved-tails r h o small) count-low id-low)
+    over-tails = subst Tails (sym same-over) (rotated-tails moved (moved-tails r h o small) count-low)
 
     over-up : (a : Answer) → Reaches (reached v) (reached (reading over)) a → Up r a over
     over-up a q =
@@ -183,9 +172,9 @@ module _ (r : LogRecord) (n needed : ℕ) (h : Tails r) (t : Through (reading r)
   -- a trip, whatever is answered that is no position
   trip-up : (a : Answer) → ((high : ℕ) → Reaches (reached v) high a) → Up r a (tripNext moved v)
   unfolding onTrip
-  trip-up a q = go (ltb (greatest v) (place v + v .offset)) (lastTerm (v .count) (v .id)) refl
+  trip-up a q = go (ltb (greatest v) (place v + v .offset)) (lastTerm (v .count)) refl
     where
-      go : (b d : Bool) → lastTerm (v .count) (v .id) ≡ d → Up r a (cond b moved (cond d moved (rotated moved (v .count) (v .id))))
+      go : (b d : Bool) → lastTerm (v .count) ≡ d → Up r a (cond b moved (cond d moved (rotated moved (v .count) (v .id))))
       go true d e = moved-up a (q _)
       go false true e = moved-up a (q _)
       go false false e = over-up e a (q _)

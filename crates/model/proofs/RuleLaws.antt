@@ -15,7 +15,7 @@ use Rattle.model.specs.declared.Rule.{Rule}
 use Rattle.model.specs.declared.Rule.the-variants.{IllegalArgument as ByArgument, IllegalRecord as ByRecord, PublicationClosed as ByClosed, ExceedsMaxPayloadLength as ByPayload, CountOutOfStep, LimitPastMaxPosition, BackPressured as ByPressure, NotConnected as ByConnection, ExceedsMaxMessageLength as ByMessage, TailOverflow as ByTail, TripPastMaxPosition, LastTerm as ByLastTerm, TermRotated, Unfragmented, Fragmented, Claimed}
 use Rattle.model.specs.Errors.{numberOf}
 use Rattle.model.specs.FrameDescriptor.{space}
-use Rattle.model.specs.LogBufferDescriptor.{payloadLimit, messageLimit, greatest, sound, lastTerm}
+use Rattle.model.specs.LogBufferDescriptor.{idMinus, payloadLimit, messageLimit, greatest, sound, lastTerm}
 use Rattle.model.specs.Rule.{ruleNumber, moves, message, claim, holds, order, firstOf, decided}
 use Rattle.model.specs.Publication.{refuseIf, place, pressed, afterClosed, tailRoom, fits, onTrip, needOf, beforeAppend, offerVerdict, claimVerdict}
 use Rattle.model.proofs.Anchors as Anchors
@@ -104,9 +104,9 @@ module _ (v : Reading) (n m : ℕ) where
       rung p (ltb 2147483647 m) IllegalArgument ByArgument _ _ (refl, (refl, refl))
       (rung p (not (sound v n)) IllegalRecord ByRecord _ _ (refl, (refl, refl))
       (rung p (v .closed) PublicationClosed ByClosed _ _ (refl, (refl, refl))
-      (middle p (eqb (v .id) (v .initial + v .count)) (leb (v .limit) (place v)) (leb (greatest v) (place v + m)) (eqb (v .connected) 1) _ _
+      (middle p (eqb (idMinus (v .id) (v .initial)) (v .count)) (leb (v .limit) (place v)) (leb (greatest v) (place v + m)) (eqb (v .connected) 1) _ _
       (rung p (ltb (payloadLimit v) m && ltb (messageLimit v) m) ExceedsMaxMessageLength ByMessage _ _ (refl, (refl, refl))
-      (last (offeredRule v m) _ (ltb 2147483647 (v .offset + needOf v m)) (ltb (v .term) (v .offset + needOf v m)) (ltb (greatest v) (place v + v .offset)) (lastTerm (v .count) (v .id)) (fits v (needOf v m))
+      (last (offeredRule v m) _ (ltb 2147483647 (v .offset + needOf v m)) (ltb (v .term) (v .offset + needOf v m)) (ltb (greatest v) (place v + v .offset)) (lastTerm (v .count)) (fits v (needOf v m))
       (one-or-many (leb m (payloadLimit v)) (ltb (payloadLimit v) m) (other m (payloadLimit v))) (other (v .offset + needOf v m) (v .term)))))))
 
   pub claim-named : Named (cond (fits v (space m)) Claimed (tripRule v)) (claimVerdict v n m) (decided v n (claim m))
@@ -117,8 +117,8 @@ module _ (v : Reading) (n m : ℕ) where
       (rung p (not (sound v n)) IllegalRecord ByRecord _ _ (refl, (refl, refl))
       (rung p (v .closed) PublicationClosed ByClosed _ _ (refl, (refl, refl))
       (rung p (ltb (payloadLimit v) m) ExceedsMaxPayloadLength ByPayload _ _ (refl, (refl, refl))
-      (middle p (eqb (v .id) (v .initial + v .count)) (leb (v .limit) (place v)) (leb (greatest v) (place v + m)) (eqb (v .connected) 1) _ _
-      (last Claimed Claimed (ltb 2147483647 (v .offset + space m)) (ltb (v .term) (v .offset + space m)) (ltb (greatest v) (place v + v .offset)) (lastTerm (v .count) (v .id)) (fits v (space m)) refl
+      (middle p (eqb (idMinus (v .id) (v .initial)) (v .count)) (leb (v .limit) (place v)) (leb (greatest v) (place v + m)) (eqb (v .connected) 1) _ _
+      (last Claimed Claimed (ltb 2147483647 (v .offset + space m)) (ltb (v .term) (v .offset + space m)) (ltb (greatest v) (place v + v .offset)) (lastTerm (v .count)) (fits v (space m)) refl
       (other (v .offset + space m) (v .term)))))))
 
 -- ---- for the code: by the refusal, or by whether the append fits

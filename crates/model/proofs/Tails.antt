@@ -7,14 +7,14 @@ use native.Mathlib.Omega.{arith}
 use borrow.Author.Tests.{le-ltb}
 use lib.ListN.{length, getD, set, length-set}
 use lib.Seq.{getD-set-same, getD-set-other}
-use lib.IntN.{ℤ, pos, negsuc, _+ℤ_, _-ℤ_, _*ℤ_}
+use lib.IntN.{ℤ, pos, _+ℤ_, _*ℤ_}
 use mir.Syntax.{w32}
 use mir.Val.{toZ}
-use mir.Facts.{ofZ-toZ}
+use mir.Facts.{ofZ-toZ, toZ-pos}
 use Rattle.model.specs.declared.LogRecord.{LogRecord}
 use Rattle.model.specs.declared.Reading.{Reading}
 use Rattle.model.specs.Bytes.{word, long}
-use Rattle.model.specs.LogBufferDescriptor.{idOf, offsetOf, rawOf, tailOf, readingOf, active, reading, publisherPosition, changed, withTail, withCount, withLimit, withClosed, nextTail, rotated}
+use Rattle.model.specs.LogBufferDescriptor.{idPlus, idMinus, idOf, offsetOf, rawOf, tailOf, readingOf, active, reading, publisherPosition, changed, withTail, withCount, withLimit, withClosed, nextTail, rotated}
 use Rattle.model.proofs.Choice.{eq-yes}
 use Rattle.model.proofs.RawTail.{raw-id, raw-offset}
 use Rattle.model.proofs.Sound.{id-small}
@@ -33,9 +33,9 @@ with-rest v limit closed =
 
 pub record Tails (r : LogRecord) : Type 0 where
   pub three : length (r .tails) ≡ 3
-  pub here : reading r .id ≡ reading r .initial + reading r .count
-  pub next : idOf (tailOf r ((reading r .count + 1) % 3)) + 2 ≡ reading r .id
-  pub last : idOf (tailOf r ((reading r .count + 2) % 3)) + 1 ≡ reading r .id
+  pub here : reading r .id ≡ idPlus (reading r .initial) (reading r .count)
+  pub next : idPlus (idOf (tailOf r ((reading r .count + 1) % 3))) 2 ≡ reading r .id
+  pub last : idPlus (idOf (tailOf r ((reading r .count + 2) % 3))) 1 ≡ reading r .id
   pub high : reading r .count ≤ 2147483647
 
 count-is : (r : LogRecord) → reading r .count ≡ word (r .«active_term_count»)
@@ -79,17 +79,17 @@ module _ (r : LogRecord) (h : Tails r) (o : ℕ) (small : o < 4294967296) where
       let c = count-is r in
       record {
         three = moved-three;
-        here = id ∙ h .here ∙ ap₂ _+_ (sym initial) (sym count);
-        next = ap (λ (n : ℕ). idOf (tailOf moved ((n + 1) % 3)) + 2) count
-            ∙ ap (λ (z : ℤ). idOf z + 2) (moved-other ((reading r .count + 1) % 3) (λ (q : (reading r .count + 1) % 3 ≡ active r). omega arith)) ∙ h .next ∙ sym id;
-        last = ap (λ (n : ℕ). idOf (tailOf moved ((n + 2) % 3)) + 1) count
-            ∙ ap (λ (z : ℤ). idOf z + 1) (moved-other ((reading r .count + 2) % 3) (λ (q : (reading r .count + 2) % 3 ≡ active r). omega arith)) ∙ h .last ∙ sym id;
+        here = id ∙ h .here ∙ ap₂ idPlus (sym initial) (sym count);
+        next = ap (λ (n : ℕ). idPlus (idOf (tailOf moved ((n + 1) % 3))) 2) count
+            ∙ ap (λ (z : ℤ). idPlus (idOf z) 2) (moved-other ((reading r .count + 1) % 3) (λ (q : (reading r .count + 1) % 3 ≡ active r). omega arith)) ∙ h .next ∙ sym id;
+        last = ap (λ (n : ℕ). idPlus (idOf (tailOf moved ((n + 2) % 3))) 1) count
+            ∙ ap (λ (z : ℤ). idPlus (idOf z) 1) (moved-other ((reading r .count + 2) % 3) (λ (q : (reading r .count + 2) % 3 ≡ active r). omega arith)) ∙ h .last ∙ sym id;
         high = subst (λ (n : ℕ). n ≤ 2147483647) (sym count) (h .high);
       }
 
 -- ---- a rotation
 
-module _ (r : LogRecord) (h : Tails r) (below : reading r .count < 2147483647) (more : reading r .id < 4294967295) where
+module _ (r : LogRecord) (h : Tails r) (below : reading r .count < 2147483647) where
   abbrev n· : ℕ
   n· = reading r .count
 
@@ -99,14 +99,14 @@ module _ (r : LogRecord) (h : Tails r) (below : reading r .count < 2147483647) (
   abbrev k· : ℕ
   k· = (reading r .count + 1) % 3
 
-  turned : nextTail r n· i· ≡ withTail r k· (i· + 1) 0
+  turned : nextTail r n· i· ≡ withTail r k· (idPlus i· 1) 0
   unfolding nextTail
-  turned = eq-yes (idOf (tailOf r k·) + 2) i· _ r (h .next)
+  turned = eq-yes (idPlus (idOf (tailOf r k·)) 2) i· _ r (h .next)
 
   abbrev over : LogRecord
   over = rotated r n· i·
 
-  rotated-is : over ≡ withCount (withTail r k· (i· + 1) 0) (n· + 1)
+  rotated-is : over ≡ withCount (withTail r k· (idPlus i· 1) 0) (n· + 1)
   unfolding rotated
   rotated-is = ap (λ (x : LogRecord). withCount x (n· + 1)) turned
 
@@ -116,30 +116,30 @@ module _ (r : LogRecord) (h : Tails r) (below : reading r .count < 2147483647) (
   within : k· < length (r .tails)
   within = omega (arith, h .three)
 
-  read-over : reading (withCount (withTail r k· (i· + 1) 0) (n· + 1)) ≡ with-tail (reading r) (n· + 1) (i· + 1) 0
+  read-over : reading (withCount (withTail r k· (idPlus i· 1) 0) (n· + 1)) ≡ with-tail (reading r) (n· + 1) (idPlus i· 1) 0
   unfolding readingOf withTail withCount changed
   read-over =
-      ap (λ (n : ℕ). with-tail (reading r) n (idOf (getD (set (r .tails) k· (rawOf (i· + 1) 0)) (n % 3) (pos 0))) (offsetOf (getD (set (r .tails) k· (rawOf (i· + 1) 0)) (n % 3) (pos 0)))) counted
+      ap (λ (n : ℕ). with-tail (reading r) n (idOf (getD (set (r .tails) k· (rawOf (idPlus i· 1) 0)) (n % 3) (pos 0))) (offsetOf (getD (set (r .tails) k· (rawOf (idPlus i· 1) 0)) (n % 3) (pos 0)))) counted
       ∙ ap₂ (λ (i f : ℕ). with-tail (reading r) (n· + 1) i f)
-      (ap idOf (getD-set-same (r .tails) k· (rawOf (i· + 1) 0) (pos 0) within) ∙ raw-id (i· + 1) 0 (omega arith) (omega arith))
-      (ap offsetOf (getD-set-same (r .tails) k· (rawOf (i· + 1) 0) (pos 0) within) ∙ raw-offset (i· + 1) 0 (omega arith))
+      (ap idOf (getD-set-same (r .tails) k· (rawOf (idPlus i· 1) 0) (pos 0) within) ∙ raw-id (idPlus i· 1) 0 (omega arith) (omega arith))
+      (ap offsetOf (getD-set-same (r .tails) k· (rawOf (idPlus i· 1) 0) (pos 0) within) ∙ raw-offset (idPlus i· 1) 0 (omega arith))
 
-  pub rotated-reading : reading over ≡ with-tail (reading r) (n· + 1) (i· + 1) 0
+  pub rotated-reading : reading over ≡ with-tail (reading r) (n· + 1) (idPlus i· 1) 0
   rotated-reading = ap reading rotated-is ∙ read-over
 
   over-other : (j : ℕ) → ¬ (j ≡ k·) → tailOf over j ≡ tailOf r j
   unfolding withTail withCount changed
-  over-other j n = ap (λ (x : LogRecord). tailOf x j) rotated-is ∙ getD-set-other (r .tails) k· j (rawOf (i· + 1) 0) (pos 0) n
+  over-other j n = ap (λ (x : LogRecord). tailOf x j) rotated-is ∙ getD-set-other (r .tails) k· j (rawOf (idPlus i· 1) 0) (pos 0) n
 
   over-three : length (over .tails) ≡ 3
   unfolding withTail withCount changed
-  over-three = ap (λ (x : LogRecord). length (x .tails)) rotated-is ∙ length-set (r .tails) k· (rawOf (i· + 1) 0) ∙ h .three
+  over-three = ap (λ (x : LogRecord). length (x .tails)) rotated-is ∙ length-set (r .tails) k· (rawOf (idPlus i· 1) 0) ∙ h .three
 
   pub rotated-tails : Tails over
   rotated-tails =
       let e = rotated-reading in
       let count : reading over .count ≡ n· + 1 = ap (λ (v : Reading). v .count) e in
-      let id : reading over .id ≡ i· + 1 = ap (λ (v : Reading). v .id) e in
+      let id : reading over .id ≡ idPlus i· 1 = ap (λ (v : Reading). v .id) e in
       let initial : reading over .initial ≡ reading r .initial = ap (λ (v : Reading). v .initial) e in
       let two : (n· + 1 + 1) % 3 ≡ (n· + 2) % 3 = ap (λ (n : ℕ). n % 3) (omega arith) in
       let three : (n· + 1 + 2) % 3 ≡ n· % 3 = omega arith in
@@ -147,10 +147,10 @@ module _ (r : LogRecord) (h : Tails r) (below : reading r .count < 2147483647) (
       record {
         three = over-three;
         here = omega (arith, h .here);
-        next = ap (λ (n : ℕ). idOf (tailOf over ((n + 1) % 3)) + 2) count ∙ ap (λ (k : ℕ). idOf (tailOf over k) + 2) two
-            ∙ ap (λ (z : ℤ). idOf z + 2) (over-other ((n· + 2) % 3) (λ (q : (n· + 2) % 3 ≡ k·). omega arith)) ∙ omega (arith, h .last);
-        last = ap (λ (n : ℕ). idOf (tailOf over ((n + 2) % 3)) + 1) count ∙ ap (λ (k : ℕ). idOf (tailOf over k) + 1) three
-            ∙ ap (λ (z : ℤ). idOf z + 1) (over-other (n· % 3) (λ (q : n· % 3 ≡ k·). omega arith)) ∙ omega arith;
+        next = ap (λ (n : ℕ). idPlus (idOf (tailOf over ((n + 1) % 3))) 2) count ∙ ap (λ (k : ℕ). idPlus (idOf (tailOf over k)) 2) two
+            ∙ ap (λ (z : ℤ). idPlus (idOf z) 2) (over-other ((n· + 2) % 3) (λ (q : (n· + 2) % 3 ≡ k·). omega arith)) ∙ omega (arith, h .last);
+        last = ap (λ (n : ℕ). idPlus (idOf (tailOf over ((n + 2) % 3))) 1) count ∙ ap (λ (k : ℕ). idPlus (idOf (tailOf over k)) 1) three
+            ∙ ap (λ (z : ℤ). idPlus (idOf z) 1) (over-other (n· % 3) (λ (q : n· % 3 ≡ k·). omega arith)) ∙ omega arith;
         high = omega arith;
       }
 
@@ -178,11 +178,11 @@ module _ (r : LogRecord) (h : Tails r) where
 abbrev pub reached : Reading → ℕ
 reached v = v .count * v .term + min (v .offset) (v .term)
 
-gap : (a b : ℕ) → pos (a + b) -ℤ pos a ≡ pos b
-gap zero b = ap pos (omega arith)
-gap (suc a) b = ap (λ (t : Bool). cond t (negsuc (suc a - suc (suc a + b))) (pos (suc a + b - suc a))) (le-ltb (suc a + b) (suc a) (omega arith)) ∙ ap pos (omega arith)
+-- the active term's count
+pub count-of : (v : Reading) → v .initial < 4294967296 → v .count ≤ 2147483647 → v .id ≡ idPlus (v .initial) (v .count) → idMinus (v .id) (v .initial) ≡ v .count
+count-of v a b e = ap (λ (i : ℕ). idMinus i (v .initial)) e ∙ omega arith
 
-pub position-is : (v : Reading) → v .id ≡ v .initial + v .count → publisherPosition v ≡ pos (reached v)
-position-is v e =
-    ap (λ (i : ℕ). (pos i -ℤ pos (v .initial)) *ℤ pos (v .term) +ℤ pos (min (v .offset) (v .term))) e
-    ∙ ap (λ (d : ℤ). d *ℤ pos (v .term) +ℤ pos (min (v .offset) (v .term))) (gap (v .initial) (v .count))
+pub position-is : (v : Reading) → v .initial < 4294967296 → v .count ≤ 2147483647 → v .id ≡ idPlus (v .initial) (v .count) → publisherPosition v ≡ pos (reached v)
+position-is v a b e =
+    ap (λ (d : ℕ). toZ w32 d *ℤ pos (v .term) +ℤ pos (min (v .offset) (v .term))) (count-of v a b e)
+    ∙ ap (λ (d : ℤ). d *ℤ pos (v .term) +ℤ pos (min (v .offset) (v .term))) (toZ-pos w32 (omega arith))

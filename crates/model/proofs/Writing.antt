@@ -11,7 +11,7 @@ use Rattle.model.specs.declared.Reading.{Reading}
 use Rattle.model.specs.Bytes.{zeros, splice, le2, le4, le8}
 use Rattle.model.specs.FrameDescriptor.{align, space}
 use Rattle.model.specs.DataFrameHeader.{header24}
-use Rattle.model.specs.LogBufferDescriptor.{biased}
+use Rattle.model.specs.LogBufferDescriptor.{idBits, idPlus}
 use Rattle.model.specs.TermAppender.{header, Fragment, fragment, bodyOf, fragmentBytes, written}
 use Rattle.model.specs.History.{Shape, shapeOf, State, open·, committed, aborted, overlay}
 use Rattle.model.proofs.Fields.{fragment-parts}
@@ -69,14 +69,14 @@ solid-is : (c : Shape) (k o : ℕ) (f : Cell) → o < c .term → solidAt c o (c
 unfolding solid
 solid-is c k o f h = ap₂ (λ (a b : ℕ). solidAt c a (c .initial + b) f) (sym (digits-mod k h)) (sym (digits-div k h))
 
-module _ (v : Reading) (k : ℕ) (own : v .id ≡ v .initial + k) where
+module _ (v : Reading) (k : ℕ) (own : v .id ≡ idPlus (v .initial) k) where
   abbrev c· : Shape
   c· = shapeOf v
 
   -- the header that is written is the frame's
   pub head-is : (o w fl ty : ℕ) → header v o w fl ty ≡ head c· o (c· .initial + k) w fl ty
   unfolding header head
-  head-is o w fl ty = ap (λ (i : ℕ). header24 (record { length = w; version = 0; flags = fl; type = ty; offset = o; session = v .session; stream = v .stream; id = biased i; reserved = 0 })) own
+  head-is o w fl ty = ap (λ (i : ℕ). header24 (record { length = w; version = 0; flags = fl; type = ty; offset = o; session = v .session; stream = v .stream; id = i; reserved = 0 })) own
 
   fragment-is : (o : ℕ) (f : Fragment) → fragmentBytes v o f ≡ solidAt c· o (c· .initial + k) (cellOf f)
   unfolding solidAt stored typ flen
@@ -149,7 +149,7 @@ put-head c k o z x d fl n e h l =
 
 -- a frame, by parts: length word, version and flags, type, the rest of the header, and what follows
 abbrev spot : Shape → ℕ → List ℕ
-spot c p = le4 (p % c .term) ++ (le4 (c .session) ++ (le4 (c .stream) ++ le4 (biased (c .initial + p / c .term))))
+spot c p = le4 (p % c .term) ++ (le4 (c .session) ++ (le4 (c .stream) ++ le4 (idBits (c .initial + p / c .term))))
 
 parts : Shape → ℕ → ℕ → ℕ → ℕ → ℕ → List ℕ → List ℕ
 parts c p w fl ty re t = le4 w ++ ((0 ∷ fl ∷ []) ++ (le2 ty ++ ((spot c p ++ le8 re) ++ t)))

@@ -21,7 +21,7 @@ use Rattle.model.specs.declared.Claimed.{Claimed}
 use Rattle.model.specs.declared.Claimed.the-variants.{Position as ClaimPosition, Refused as ClaimRefused}
 use Rattle.model.specs.Bytes.{word, zeros}
 use Rattle.model.specs.FrameDescriptor.{space}
-use Rattle.model.specs.LogBufferDescriptor.{biased, payloadLimit}
+use Rattle.model.specs.LogBufferDescriptor.{idMinus, payloadLimit}
 use Rattle.model.specs.TermAppender.{need}
 use Rattle.model.specs.BufferClaim.{writeOf, writeBytes, commitOf, commitBytes, abortBytes}
 use Rattle.model.specs.Publication.{limitOf, closeOf, offerOf, offerBytes, claimOf, claimBytes}
@@ -86,7 +86,7 @@ left w (x ∷ xs) = left (step w x .next) xs
 
 -- ---- the history
 
--- what opening fixed for good: term length, payload limit, session, stream and initial id (biased)
+-- what opening fixed for good: term length, payload limit, session, stream and initial id
 pub record Shape : Type 0 where
   pub term : ℕ
   pub payload : ℕ
@@ -147,7 +147,7 @@ afterRefusal c h e = cond (isTrip e) (padTo c h) h
 
 -- the position at which a claim's extent begins
 unfoldable pub startOf : Shape → Claim → ℕ
-startOf c k = (biased (word (k .«term_id»)) - c .initial) * c .term + word (k .offset)
+startOf c k = idMinus (word (k .«term_id»)) (c .initial) * c .term + word (k .offset)
 
 -- the history with the extent that begins at q changed by f
 unfoldable pub edit : Shape → (Extent → Extent) → ℕ → List Extent → List Extent

@@ -7,11 +7,11 @@
 --    0                T               2T               3T
 use mathlib.Core.Path.{_≡_}
 use Prim.Native.Nat.{ℕ, _+_, _-_, _*_, _/_, _%_, _^_, _≤_, min}
-use mathlib.Core.Bool.{Bool, true, cond, _&&_, _||_}
+use mathlib.Core.Bool.{Bool, true, cond, _&&_}
 use mathlib.Core.List.{List}
 use lib.Dec.{eqb, leb, ltb}
 use lib.ListN.{getD, set}
-use lib.IntN.{ℤ, pos, _+ℤ_, _-ℤ_, _*ℤ_}
+use lib.IntN.{ℤ, pos, _+ℤ_, _*ℤ_}
 use lib.Count.{ones, trailingZeros}
 use mir.Syntax.{w32, w64}
 use mir.Val.{toZ}
@@ -38,28 +38,36 @@ isPowerOfTwo n = eqb (ones n) 1
 abbrev pub bitsToShift : ℕ → ℕ
 bitsToShift term = trailingZeros 32 term
 
--- From the 32 bits of a term id to the id with 2^31 added, and back. So biased, ids are natural numbers in their own order.
-abbrev pub biased : ℕ → ℕ
-biased n = (n + 2147483648) % 4294967296
+-- Term ids are taken as their 32 bits, and wrap (R-8 of document 02): after 2147483647 comes -2147483648.
+abbrev pub idBits : ℕ → ℕ
+idBits n = n % 4294967296
 
--- a raw tail: its term id, biased, its offset, and the two put together
+-- The id so many terms on, and an id less another or less so many terms. A term's count is its id less the initial one, as a signed number of
+-- 32 bits.
+abbrev pub idPlus : ℕ → ℕ → ℕ
+idPlus id n = idBits (id + n)
+
+abbrev pub idMinus : ℕ → ℕ → ℕ
+idMinus id n = idBits (id + 4294967296 - n)
+
+-- a raw tail: its term id, its offset, and the two put together
 abbrev pub idOf : ℤ → ℕ
-idOf raw = biased (long raw / 4294967296)
+idOf raw = idBits (long raw / 4294967296)
 
 abbrev pub offsetOf : ℤ → ℕ
 offsetOf raw = long raw % 4294967296
 
 unfoldable pub rawOf : ℕ → ℕ → ℤ
-rawOf id offset = toZ w64 (biased id * 4294967296 + offset)
+rawOf id offset = toZ w64 (idBits id * 4294967296 + offset)
 
--- (term id - initial id) × term length + offset, the difference taken exactly; both ids biased, or neither
+-- the term's count × term length + offset
 abbrev pub positionOf : ℕ → ℕ → ℕ → ℕ → ℤ
-positionOf id initial term offset = (pos id -ℤ pos initial) *ℤ pos term +ℤ pos offset
+positionOf id initial term offset = toZ w32 (idMinus id initial) *ℤ pos term +ℤ pos offset
 
--- The same as the Rust computes it, by the bits to shift. An exact answer has room for shifts up to 30, the largest of any term; past
--- that it refuses 1.
+-- The same by the bits to shift, as the Rust computes it where the difference of the ids has 32 bits. An exact answer has room for shifts up to
+-- 30, the largest of any term; past that it refuses 1.
 unfoldable pub computePosition : ℤ → ℕ → ℕ → ℤ → Positioned
-computePosition id offset bits initial = cond (ltb 30 bits) (NumberRefused IllegalArgument) (Number ((id -ℤ initial) *ℤ pos (2 ^ bits) +ℤ pos offset))
+computePosition id offset bits initial = cond (ltb 30 bits) (NumberRefused IllegalArgument) (Number (positionOf (word id) (word initial) (2 ^ bits) offset))
 
 -- the parts of a raw tail as the Rust answers them: the signed id, and the offset cut to a term length
 abbrev pub termId : ℤ → ℤ
@@ -91,7 +99,7 @@ readingOf r k =
       term = word (r .«term_length»);
       mtu = word (r .«mtu_length»);
       count = word (r .«active_term_count»);
-      initial = biased (word (r .«initial_term_id»));
+      initial = idBits (word (r .«initial_term_id»));
       session = word (r .«session_id»);
       stream = word (r .«stream_id»);
       connected = word (r .«is_connected»);
@@ -129,10 +137,9 @@ unfoldable pub soundRecord : Reading → Bool
 soundRecord v =
     leb 65536 (v .term) && (leb (v .term) 1073741824 && (isPowerOfTwo (v .term)
     && (leb 64 (v .mtu) && (leb (v .mtu) 65504 && (eqb (v .mtu % 32) 0
-    && (leb 2 (v .initial)
     && (leb (v .count) 2147483647
     && (leb (v .limit) 4611686018427387904
-    && (eqb (v .offset % 32) 0 && leb (v .offset) 2147483647)))))))))
+    && (eqb (v .offset % 32) 0 && leb (v .offset) 2147483647))))))))
 
 -- and those of a lent log of n bytes: exactly three terms
 unfoldable pub sound : Reading → ℕ → Bool
@@ -146,7 +153,6 @@ pub record Sound (v : Reading) (n : ℕ) : Type 0 where
   pub mtu-low : 64 ≤ v .mtu
   pub mtu-high : v .mtu ≤ 65504
   pub mtu-32 : v .mtu % 32 ≡ 0
-  pub initial-low : 2 ≤ v .initial
   pub count-high : v .count ≤ 2147483647
   pub limit-high : v .limit ≤ 4611686018427387904
   pub offset-32 : v .offset % 32 ≡ 0
@@ -215,21 +221,21 @@ withClosed r = changed r (r .tails) (r .«active_term_count») (r .«publication
 
 -- the next partition's tail becomes (id + 1, 0) if its id is id - 2
 unfoldable pub nextTail : LogRecord → ℕ → ℕ → LogRecord
-nextTail r count id = cond (eqb (idOf (tailOf r ((count + 1) % 3)) + 2) id) (withTail r ((count + 1) % 3) (id + 1) 0) r
+nextTail r count id = cond (eqb (idPlus (idOf (tailOf r ((count + 1) % 3))) 2) id) (withTail r ((count + 1) % 3) (idPlus id 1) 0) r
 
 -- as an offer or a claim rotates: the count rises by 1 in any case
 unfoldable pub rotated : LogRecord → ℕ → ℕ → LogRecord
 rotated r count id = withCount (nextTail r count id) (count + 1)
 
 -- `rotate_log`, given a count and a term id, sets the count only if it is the one given, as the Rust does. In order: 1, 2, 12.
-abbrev pub lastTerm : ℕ → ℕ → Bool
-lastTerm count id = eqb id 4294967295 || eqb count 2147483647
+abbrev pub lastTerm : ℕ → Bool
+lastTerm count = eqb count 2147483647
 
-unfoldable pub rotateVerdict : Reading → ℕ → ℕ → Verdict
-rotateVerdict v count id =
+unfoldable pub rotateVerdict : Reading → ℕ → Verdict
+rotateVerdict v count =
     cond (ltb 2147483647 count) (Refuse IllegalArgument)
     (cond (soundRecord v)
-    (cond (lastTerm count id) (Refuse LastTerm) Pass)
+    (cond (lastTerm count) (Refuse LastTerm) Pass)
     (Refuse IllegalRecord))
 
 abbrev pub rotateBy : LogRecord → ℕ → ℕ → Verdict → RecordReply
@@ -238,4 +244,4 @@ rotateBy r count id Pass =
     record { next = cond (eqb (word (r .«active_term_count»)) count) (rotated r count id) (nextTail r count id); answer = Done }
 
 unfoldable pub rotateLogOf : LogRecord → ℤ → ℤ → RecordReply
-rotateLogOf r count id = rotateBy r (word count) (biased (word id)) (rotateVerdict (reading r) (word count) (biased (word id)))
+rotateLogOf r count id = rotateBy r (word count) (word id) (rotateVerdict (reading r) (word count))

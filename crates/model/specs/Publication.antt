@@ -1,6 +1,6 @@
 -- The publication: opening, limit change, close, position, limit, window, offer and claim. Each refusal stands in document 01's order
 -- ("Answers, by number", last paragraph), as R-3 of document 02 amends it, with what it leaves. Which check decided is Rule's. Read TermReader next.
-use Prim.Native.Nat.{ℕ, _+_, _-_, _*_}
+use Prim.Native.Nat.{ℕ, _+_, _*_}
 use mathlib.Core.Bool.{Bool, false, cond, _&&_, not}
 use mathlib.Core.List.{List, [], _∷_}
 use lib.Dec.{eqb, leb, ltb}
@@ -24,7 +24,7 @@ use Rattle.model.specs.declared.Claimed.the-variants.{Position as ClaimP
 use Rattle.model.specs.declared.ClaimReply.{ClaimReply}
 use Rattle.model.specs.Bytes.{word, long, zeros}
 use Rattle.model.specs.FrameDescriptor.{space}
-use Rattle.model.specs.LogBufferDescriptor.{biased, rawOf, active, reading, payloadLimit, messageLimit, greatest, publisherPosition, soundRecord, sound, withTail, withLimit, withClosed, lastTerm, rotated}
+use Rattle.model.specs.LogBufferDescriptor.{idMinus, rawOf, active, reading, payloadLimit, messageLimit, greatest, publisherPosition, soundRecord, sound, withTail, withLimit, withClosed, lastTerm, rotated}
 use Rattle.model.specs.TermAppender.{written, cut, need, padded, claimed, claimRecord}
 use Rattle.model.specs.Rule.{message, claim, decided}
 
@@ -38,7 +38,7 @@ refuseIf b e rest = cond b (Refuse e) rest
 unfoldable pub openedRecord : ℤ → ℤ → ℤ → ℤ → ℤ → LogRecord
 openedRecord term mtu initial session stream =
     record {
-      tails = rawOf (biased (word initial)) 0 ∷ rawOf (biased (word initial) - 2) 0 ∷ rawOf (biased (word initial) - 1) 0 ∷ [];
+      tails = rawOf (word initial) 0 ∷ rawOf (idMinus (word initial) 2) 0 ∷ rawOf (idMinus (word initial) 1) 0 ∷ [];
       «active_term_count» = pos 0;
       «initial_term_id» = initial;
       «term_length» = term;
@@ -124,7 +124,7 @@ pressed v m = cond (leb (greatest v) (place v + m)) MaxPositionExceeded (cond (e
 -- 6 (count), 7/8/9, and then `rest`
 unfoldable pub afterClosed : Reading → ℕ → Verdict → Verdict
 afterClosed v m rest =
-    refuseIf (not (eqb (v .id) (v .initial + v .count))) AdminAction
+    refuseIf (not (eqb (idMinus (v .id) (v .initial)) (v .count))) AdminAction
     (refuseIf (leb (v .limit) (place v)) (pressed v m)
     rest)
 
@@ -137,7 +137,7 @@ fits v needed = leb (v .offset + needed) (v .term)
 
 -- A trip: 7, 12, or rotated and 6. In 7's sum the offset counts twice: the position holds it already.
 unfoldable pub onTrip {ℓ} : {X : Type ℓ} → Reading → X → X → X → X
-onTrip v seven twelve six = cond (ltb (greatest v) (place v + v .offset)) seven (cond (lastTerm (v .count) (v .id)) twelve six)
+onTrip v seven twelve six = cond (ltb (greatest v) (place v + v .offset)) seven (cond (lastTerm (v .count)) twelve six)
 
 abbrev pub tripError : Reading → Error
 tripError v = onTrip v MaxPositionExceeded LastTerm AdminAction

@@ -2,7 +2,7 @@
 -- own, which does not ask what the other rules say; the rule answered is the first in the order whose test holds. Publication answers it;
 -- DecidingRule says what it tells of the answer. Read Publication next.
 use Prim.Native.Nat.{ℕ, _+_, _*_}
-use mathlib.Core.Bool.{Bool, true, false, cond, _&&_, _||_, not}
+use mathlib.Core.Bool.{Bool, true, false, cond, _&&_, not}
 use mathlib.Core.List.{List, [], _∷_}
 use lib.Dec.{eqb, leb, ltb}
 use lib.IntN.{ℤ, pos}
@@ -10,7 +10,7 @@ use Rattle.model.specs.declared.Reading.{Reading}
 use Rattle.model.specs.declared.Rule.{Rule}
 use Rattle.model.specs.declared.Rule.the-variants.{IllegalArgument, IllegalRecord, PublicationClosed, ExceedsMaxPayloadLength, CountOutOfStep, LimitPastMaxPosition, BackPressured, NotConnected, ExceedsMaxMessageLength, TailOverflow, TripPastMaxPosition, LastTerm, TermRotated, Unfragmented, Fragmented, Claimed}
 use Rattle.model.specs.FrameDescriptor.{space}
-use Rattle.model.specs.LogBufferDescriptor.{payloadLimit, messageLimit, greatest, sound}
+use Rattle.model.specs.LogBufferDescriptor.{payloadLimit, messageLimit, greatest, sound, idMinus, lastTerm}
 use Rattle.model.specs.TermAppender.{need}
 
 -- ---- number and place
@@ -97,20 +97,20 @@ notBelow v = leb (v .limit) (standsAt v)
 abbrev pub trips : Reading → Asked → Bool
 trips v a = ltb (v .term) (v .offset + needs v a)
 
--- Each rule's row of document 01's table, for a record read so and a log of n bytes. Ids have 2^31 added. On a trip 7's sum has the offset twice.
+-- Each rule's row of document 01's table, for a record read so and a log of n bytes. On a trip 7's sum has the offset twice.
 unfoldable pub holds : Reading → ℕ → Asked → Rule → Bool
 holds v n a IllegalArgument = ltb 2147483647 (bytesOf a)
 holds v n a IllegalRecord = not (sound v n)
 holds v n a PublicationClosed = v .closed
 holds v n a ExceedsMaxPayloadLength = isClaim a && ltb (payloadLimit v) (bytesOf a)
-holds v n a CountOutOfStep = not (eqb (v .id) (v .initial + v .count))
+holds v n a CountOutOfStep = not (eqb (idMinus (v .id) (v .initial)) (v .count))
 holds v n a LimitPastMaxPosition = notBelow v && leb (greatest v) (standsAt v + bytesOf a)
 holds v n a BackPressured = notBelow v && eqb (v .connected) 1
 holds v n a NotConnected = notBelow v && not (eqb (v .connected) 1)
 holds v n a ExceedsMaxMessageLength = not (isClaim a) && (ltb (payloadLimit v) (bytesOf a) && ltb (messageLimit v) (bytesOf a))
 holds v n a TailOverflow = ltb 2147483647 (v .offset + needs v a)
 holds v n a TripPastMaxPosition = trips v a && ltb (greatest v) (standsAt v + v .offset)
-holds v n a LastTerm = trips v a && (eqb (v .id) 4294967295 || eqb (v .count) 2147483647)
+holds v n a LastTerm = trips v a && lastTerm (v .count)
 holds v n a TermRotated = trips v a
 holds v n a Unfragmented = not (isClaim a) && leb (bytesOf a) (payloadLimit v)
 holds v n a Fragmented = not (isClaim a) && ltb (payloadLimit v) (bytesOf a)

@@ -22,14 +22,14 @@ use Rattle.model.specs.declared.AppendClaimReply.{AppendClaimReply}
 use Rattle.model.specs.Bytes.{word, long, splice, zeros}
 use Rattle.model.specs.FrameDescriptor.{space, negated}
 use Rattle.model.specs.DataFrameHeader.{Header, header24, headerBytes}
-use Rattle.model.specs.LogBufferDescriptor.{biased, readingOf, sound, goodPartition, withTail}
+use Rattle.model.specs.LogBufferDescriptor.{readingOf, sound, goodPartition, withTail}
 
 -- ---- frames
 
 -- a header at an offset of the record's term, version 0
 abbrev pub headerOf : Reading → ℕ → ℕ → ℕ → ℕ → ℕ → Header
 headerOf v offset len flags type reserved =
-    record { length = len; version = 0; flags = flags; type = type; offset = offset; session = v .session; stream = v .stream; id = biased (v .id); reserved = reserved }
+    record { length = len; version = 0; flags = flags; type = type; offset = offset; session = v .session; stream = v .stream; id = v .id; reserved = reserved }
 
 -- the 24 bytes of it that writing a header sets: claims and paddings leave the reserved value as it is
 unfoldable pub header : Reading → ℕ → ℕ → ℕ → ℕ → List ℕ
@@ -139,30 +139,30 @@ fragmentedCourse r n k m payload given =
 abbrev pub unfragmentedReply : LogRecord → List ℕ → ℤ → List ℕ → ℤ → AppendReply
 unfragmentedReply r log partition m given =
     replyBy r (readingOf r (word partition)) (word partition) (space (length m))
-    (unfragmentedCourse r (length log) (word partition) (length m) (biased (word given)))
+    (unfragmentedCourse r (length log) (word partition) (length m) (word given))
 
 abbrev pub unfragmentedBytes : LogRecord → List ℕ → ℤ → List ℕ → ℤ → ℤ → List ℕ
 unfragmentedBytes r log partition m reserved given =
     bytesBy (readingOf r (word partition)) (word partition) log
     (written (readingOf r (word partition)) log (word partition * readingOf r (word partition) .term) (readingOf r (word partition) .offset) (fragment 192 (long reserved) m ∷ []))
-    (unfragmentedCourse r (length log) (word partition) (length m) (biased (word given)))
+    (unfragmentedCourse r (length log) (word partition) (length m) (word given))
 
 abbrev pub fragmentedReply : LogRecord → List ℕ → ℤ → List ℕ → ℤ → ℤ → AppendReply
 fragmentedReply r log partition m payload given =
     replyBy r (readingOf r (word partition)) (word partition) (need (word payload) (length m))
-    (fragmentedCourse r (length log) (word partition) (length m) (word payload) (biased (word given)))
+    (fragmentedCourse r (length log) (word partition) (length m) (word payload) (word given))
 
 abbrev pub fragmentedBytes : LogRecord → List ℕ → ℤ → List ℕ → ℤ → ℤ → ℤ → List ℕ
 fragmentedBytes r log partition m reserved payload given =
     bytesBy (readingOf r (word partition)) (word partition) log
     (written (readingOf r (word partition)) log (word partition * readingOf r (word partition) .term) (readingOf r (word partition) .offset) (cut (word payload) (long reserved) m))
-    (fragmentedCourse r (length log) (word partition) (length m) (word payload) (biased (word given)))
+    (fragmentedCourse r (length log) (word partition) (length m) (word payload) (word given))
 
 -- ---- claims
 
 -- a claim's record: the frame's partition, offset, length and term id
 unfoldable pub claimRecord : Reading → ℕ → ℕ → Claim
-claimRecord v k n = record { partition = pos k; offset = pos (v .offset); length = pos (n + 32); «term_id» = toZ w32 (biased (v .id)) }
+claimRecord v k n = record { partition = pos k; offset = pos (v .offset); length = pos (n + 32); «term_id» = toZ w32 (v .id) }
 
 abbrev pub claimAppendedBy : LogRecord → Reading → ℕ → ℕ → Course → AppendClaimReply
 claimAppendedBy r v k n (Refuse e) = record { next = r; answer = ClaimRefused e }
@@ -173,10 +173,10 @@ claimAppendedBy r v k n Fit = record { next = movedBy r v k (space n) Fit; answe
 abbrev pub claimAppendReply : LogRecord → List ℕ → ℤ → ℤ → ℤ → AppendClaimReply
 claimAppendReply r log partition n given =
     claimAppendedBy r (readingOf r (word partition)) (word partition) (word n)
-    (unfragmentedCourse r (length log) (word partition) (word n) (biased (word given)))
+    (unfragmentedCourse r (length log) (word partition) (word n) (word given))
 
 abbrev pub claimAppendBytes : LogRecord → List ℕ → ℤ → ℤ → ℤ → List ℕ
 claimAppendBytes r log partition n given =
     bytesBy (readingOf r (word partition)) (word partition) log
     (claimed (readingOf r (word partition)) log (word partition * readingOf r (word partition) .term) (word n))
-    (unfragmentedCourse r (length log) (word partition) (word n) (biased (word given)))
+    (unfragmentedCourse r (length log) (word partition) (word n) (word given))

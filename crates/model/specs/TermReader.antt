@@ -32,7 +32,7 @@ use Rattle.model.specs.Bytes.{word}
 use Rattle.model.specs.Parts.{locatedBy}
 use Rattle.model.specs.FrameDescriptor.{align, lengthAt, frameAt, isUnsound, unsoundFrameAt, flagsAt, ends}
 use Rattle.model.specs.DataFrameHeader.{Header, headerAt}
-use Rattle.model.specs.LogBufferDescriptor.{biased, positionOf, reading, sound, withinTerm, goodPartition, goodOffset, firstRows, frameRow}
+use Rattle.model.specs.LogBufferDescriptor.{positionOf, reading, sound, withinTerm, goodPartition, goodOffset, firstRows, frameRow}
 
 -- ---- the walk
 
@@ -225,7 +225,7 @@ fieldsOf v at h =
       «stream_id» = toZ w32 (h .stream);
       «term_id» = toZ w32 (h .id);
       «reserved_value» = toZ w64 (h .reserved);
-      position = positionOf (biased (h .id)) (v .initial) (v .term) at +ℤ alignℤ (toZ w32 (h .length));
+      position = positionOf (h .id) (v .initial) (v .term) at +ℤ alignℤ (toZ w32 (h .length));
     }
 
 unfoldable pub headerVerdict : Reading → ℕ → ℕ → ℕ → Verdict

@@ -50,8 +50,8 @@ pub enum Error {
     FramePastTerm(u32),
 }
 
-// The record's numbers as they are judged, none of them signed, with one partition's tail taken apart. Term ids have 2^31 added; any
-// other negative number shows as one above its range. specs/LogBufferDescriptor.antt says how a record is read.
+// The record's numbers as they are judged, none of them signed, with one partition's tail taken apart. A term id is its 32
+// bits; any other negative number shows as one above its range. specs/LogBufferDescriptor.antt says how a record is read.
 pub struct Reading {
     pub term: usize,
     pub mtu: usize,

@@ -27,7 +27,7 @@ use Rattle.model.specs.declared.Rule.{Rule}
 use Rattle.model.specs.declared.Rule.the-variants.{Claimed as ByClaim}
 use Rattle.model.specs.Bytes.{word}
 use Rattle.model.specs.FrameDescriptor.{space}
-use Rattle.model.specs.LogBufferDescriptor.{biased, readingOf, reading, active, payloadLimit, sound, withTail}
+use Rattle.model.specs.LogBufferDescriptor.{readingOf, reading, active, payloadLimit, sound, withTail}
 use Rattle.model.specs.TermAppender.{padded, claimed, course, bytesBy, claimRecord, claimAppendedBy}
 use Rattle.model.specs.Rule.{claim as asks, decided}
 use Rattle.model.specs.Publication.{refuseIf, place, afterClosed, tailRoom, claimVerdict, fits, tripError, tripNext, appendNext, nextBy, logBy, claimedBy, claimOf, claimBytes}
@@ -197,7 +197,7 @@ module _ (r : LogRecord) (log : List ℕ) (v : Reading) (k n g : ℕ) (a : Appen
       go Fit c h = let e : readingOf r k .offset + space n ≡ end = cc in omega (arith, course-says (readingOf r k) (length log) (space n) g Fit c .1)
 
   -- one that tripped leaves a record that turns
-  pub claim-turns : (count id : ℤ) → count ≡ r .«active_term_count» → biased (word id) ≡ g → length (r .tails) ≡ 3 → a .answer ≡ Tripped → Turns (a .next) v count id
+  pub claim-turns : (count id : ℤ) → count ≡ r .«active_term_count» → word id ≡ g → length (r .tails) ≡ 3 → a .answer ≡ Tripped → Turns (a .next) v count id
   claim-turns count id ec ei three h =
       subst (λ (q : LogRecord). Turns q v count id) (sym (ap (λ (x : AppendClaimReply). x .next) ea))
       (subst (λ (x : Reading). Turns (claimingReply r log k n g .next) x count id) (sym here)

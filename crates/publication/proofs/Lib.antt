@@ -2,7 +2,6 @@
 pub mod ClaimLaws
 pub mod OfferBy
 pub mod Lengths
-pub mod Ids
 pub mod Numbers
 pub mod OpenLaws
 pub mod Ways

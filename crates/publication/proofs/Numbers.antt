@@ -1,13 +1,14 @@
 -- Position, limit and window: the ladder that they share, and the position as the code computes it.
 use mathlib.Core.Path.{_≡_, refl, sym, ap, ap₂, subst, _∙_}
 use mathlib.Core.Bool.{Bool, true, false, cond}
-use Prim.Native.Nat.{ℕ, _/_, _%_, _^_, _≤_, _<_, min}
+use Prim.Native.Nat.{ℕ, _*_, _%_, _^_, _≤_, _<_, min}
+use native.Mathlib.Nat.{mul-le-mul}
 use native.Mathlib.Omega.{arith}
 use borrow.Author.Tests.{le-ltb}
 use lib.Count.{trailingZeros}
-use lib.IntN.{ℤ, pos, natAbs, negℤ, _+ℤ_, _-ℤ_, _*ℤ_}
+use lib.IntN.{ℤ, pos, negsuc, natAbs, negℤ, _+ℤ_, _-ℤ_, _*ℤ_}
 use mir.Syntax.{w32, w64}
-use mir.Val.{SFits}
+use mir.Val.{SFits, toZ, ofZ}
 use mir.Facts.{fits-ofZ, sfits-toZ}
 use Rattle.model.specs.declared.LogRecord.{LogRecord}
 use Rattle.model.specs.declared.Reading.{Reading}
@@ -17,16 +18,14 @@ use Rattle.model.specs.declared.Verdict.the-variants.{Pass, Refuse}
 use Rattle.model.specs.declared.Positioned.{Positioned}
 use Rattle.model.specs.declared.Positioned.the-variants.{Position, Refused}
 use Rattle.model.specs.declared.Outcome.the-variants.{Done, Refused as ChangeRefused}
-use Rattle.model.specs.Bytes.{long}
-use Rattle.model.specs.LogBufferDescriptor.{idOf, offsetOf, termId, termOffset, tailOf, readingOf, reading, soundRecord, Sound, computePosition, publisherPosition}
+use Rattle.model.specs.Bytes.{word}
+use Rattle.model.specs.LogBufferDescriptor.{idMinus, positionOf, idOf, offsetOf, termId, termOffset, tailOf, readingOf, reading, soundRecord, Sound, computePosition, publisherPosition}
 use Rattle.model.specs.Publication.{openRecord, changeOf}
 use Rattle.model.proofs.Moving.{term-id-back}
 use Rattle.model.proofs.Power.{shift-high}
-use Rattle.model.proofs.Sound.{id-small, initial-small}
 use Rattle.logbuffer.proofs.Shifts.{shifted}
-use Rattle.logbuffer.proofs.Exact.{near-sum, near-neg, near-fits}
+use Rattle.logbuffer.proofs.Exact.{near-sum, near-neg, near-times, near-32, near-fits}
 use Rattle.publication.specs.Numbers.{numberVerdict}
-use Rattle.publication.proofs.Ids.{id-difference, near-position, small-limit}
 
 -- ---- 2, 5
 
@@ -67,18 +66,22 @@ module _ (v : Reading) where
 
 -- ---- the position
 
-module _ (r : LogRecord) (v : Reading) (n : ℕ) (ev : v ≡ reading r) (s : Sound v n) where
-  ids : (raw : ℤ) → SFits w64 raw → SFits w32 (r .«initial_term_id») → raw ≡ tailOf r (v .count % 3) → termId raw -ℤ r .«initial_term_id» ≡ pos (v .id) -ℤ pos (v .initial)
-  unfolding readingOf
-  ids raw f fi er =
-      let t : SFits w32 (termId raw) = sfits-toZ (record { fits = upper (long raw) (fits-ofZ f .fits) }) in
-      sym (id-difference (termId raw) (r .«initial_term_id») t fi) ∙ ap₂ (λ (x y : ℕ). pos x -ℤ pos y) (term-id-back raw f ∙ ap idOf er ∙ sym (ap (λ (x : Reading). x .id) ev ∙ back (v .count) (ap (λ (x : Reading). x .count) ev))) (sym (ap (λ (x : Reading). x .initial) ev))
-    where
-      upper : (x : ℕ) → x < 18446744073709551616 → x / 4294967296 < 4294967296
-      upper x h = omega arith
+-- a limit that row 2 lets pass lies as near to 0 as its bits say
+small-limit : (z : ℤ) → SFits w64 z → ofZ w64 z ≤ 4611686018427387904 → natAbs z ≤ 4611686018427387904
+small-limit (pos n) f h = omega arith
+small-limit (negsuc n) f h = absurd (omega arith)
 
+module _ (r : LogRecord) (v : Reading) (n : ℕ) (ev : v ≡ reading r) (s : Sound v n) where
+  own-id : (raw : ℤ) → SFits w64 raw → raw ≡ tailOf r (v .count % 3) → word (termId raw) ≡ v .id
+  unfolding readingOf
+  own-id raw f er = term-id-back raw f ∙ ap idOf er ∙ sym (ap (λ (x : Reading). x .id) ev ∙ back (v .count) (ap (λ (x : Reading). x .count) ev))
+    where
       back : (k : ℕ) → k ≡ reading r .count → reading r .id ≡ idOf (tailOf r (k % 3))
       back k e = ap (λ (j : ℕ). idOf (tailOf r (j % 3))) (sym e)
+
+  own-initial : SFits w32 (r .«initial_term_id») → word (r .«initial_term_id») ≡ v .initial
+  unfolding readingOf
+  own-initial f = let h : word (r .«initial_term_id») < 4294967296 = fits-ofZ f .fits in let e : word (r .«initial_term_id») ≡ word (r .«initial_term_id») % 4294967296 = omega arith in e ∙ sym (ap (λ (x : Reading). x .initial) ev)
 
   pub position-by : (raw initial id : ℤ) (offset bits : ℕ) → SFits w64 raw → raw ≡ tailOf r (v .count % 3) → SFits w32 (r .«initial_term_id») → initial ≡ r .«initial_term_id» → id ≡ termId raw
       → offset ≡ termOffset raw (v .term) → bits ≡ trailingZeros 32 (v .term) → computePosition id offset bits initial ≡ Position (publisherPosition v)
@@ -86,14 +89,21 @@ module _ (r : LogRecord) (v : Reading) (n : ℕ) (ev : v ≡ reading r) (s : Sou
   position-by raw initial id offset bits f er fi ei ed eo eb =
       let e : 2 ^ bits ≡ v .term = ap (λ (x : ℕ). 2 ^ x) eb ∙ shifted (v .term) (s .term-high) (s .one-bit) in
       let l : bits ≤ 30 = shift-high bits (v .term) e (s .term-high) in
-      let d : id -ℤ initial ≡ pos (v .id) -ℤ pos (v .initial) = ap₂ (λ (x y : ℤ). x -ℤ y) ed ei ∙ ids raw f fi er in
+      let i : word id ≡ v .id = ap word ed ∙ own-id raw f er in
+      let j : word initial ≡ v .initial = ap word ei ∙ own-initial fi in
       let o : offset ≡ min (v .offset) (v .term) = eo ∙ ap (λ (x : ℕ). min x (v .term)) (ap offsetOf er ∙ sym (ap (λ (x : Reading). x .offset) ev ∙ ap (λ (j : ℕ). offsetOf (tailOf r (j % 3))) (sym (ap (λ (x : Reading). x .count) ev)))) in
-      simp (le-ltb 30 bits l) (ap₂ (λ (x y : ℤ). Position (x +ℤ y)) (ap₂ (λ (x : ℤ) (y : ℕ). x *ℤ pos y) d e) (ap pos o))
+      simp (le-ltb 30 bits l) (ap Position (ap₂ (λ (x y : ℕ). positionOf x y (2 ^ bits) offset) i j ∙ ap₂ (λ (x y : ℕ). positionOf (v .id) (v .initial) x y) e o))
+
+  abbrev count : ℤ
+  count = toZ w32 (idMinus (v .id) (v .initial))
+
+  count-fits : SFits w32 count
+  count-fits = let l : idMinus (v .id) (v .initial) < 4294967296 = omega arith in sfits-toZ {n = idMinus (v .id) (v .initial)} (record { fits = l })
 
   pub position-near : natAbs (publisherPosition v) ≤ 4611686018427387903
   position-near =
-      near-position (v .id) (v .initial) (v .term) (min (v .offset) (v .term)) (subst (λ (x : Reading). x .id < 4294967296) (sym ev) (id-small _ _)) (subst (λ (x : Reading). x .initial < 4294967296) (sym ev) (initial-small _ _)) (s .initial-low) (s .term-high)
-      (omega arith)
+      let m : natAbs count * v .term ≤ 2147483648 * 1073741824 = mul-le-mul (near-32 count count-fits) (s .term-high) in
+      omega (arith, m, near-times count (v .term), near-sum (count *ℤ pos (v .term)) (pos (min (v .offset) (v .term))), s .term-high)
 
   limit-near : SFits w64 (r .«publication_limit») → natAbs (r .«publication_limit») ≤ 4611686018427387904
   unfolding readingOf

@@ -13,7 +13,7 @@ use Rattle.model.specs.declared.Offered.the-variants.{Refused as Declined}
 use Rattle.model.specs.declared.Appended.the-variants.{Offset, Tripped}
 use Rattle.model.specs.declared.AppendReply.{AppendReply}
 use Rattle.model.specs.Bytes.{word, long}
-use Rattle.model.specs.LogBufferDescriptor.{biased, readingOf, reading, active, payloadLimit}
+use Rattle.model.specs.LogBufferDescriptor.{readingOf, reading, active, payloadLimit}
 use Rattle.model.specs.TermAppender.{need, course}
 use Rattle.model.specs.Publication.{beforeAppend, offerOf, offerBytes}
 use Rattle.model.proofs.Append.{appendReply, appendBytes}
@@ -54,7 +54,7 @@ module _ (r : LogRecord) (log m : List ℕ) (v : Reading) (k g : ℕ) (a : Appen
       (end-in r (readingOf r k) k (length log) (need (v .mtu - 32) (length m)) g end _ refl (sym (ap (λ (x : AppendReply). x .answer) ea) ∙ h))
 
   -- one that tripped leaves a record that turns
-  pub turns-by : (count id : ℤ) → count ≡ r .«active_term_count» → biased (word id) ≡ g → length (r .tails) ≡ 3 → (v .mtu - 32) % 32 ≡ 0 → a .answer ≡ Tripped → Turns (a .next) v count id
+  pub turns-by : (count id : ℤ) → count ≡ r .«active_term_count» → word id ≡ g → length (r .tails) ≡ 3 → (v .mtu - 32) % 32 ≡ 0 → a .answer ≡ Tripped → Turns (a .next) v count id
   turns-by count id ec ei three p h =
       let nd = need (v .mtu - 32) (length m) in
       let law = trip-turns r (readingOf r k) k (length log) nd g id (course (readingOf r k) (length log) nd g) (ap (readingOf r) ek) ek refl (sym (ap (λ (x : AppendReply). x .answer) ea) ∙ h) three (need-32 (v .mtu - 32) (length m))

@@ -2,7 +2,7 @@
 use mathlib.Core.Path.{_≡_, sym, ap}
 use mathlib.Core.Bool.{Bool, true, false}
 use mathlib.Core.List.{List, [], _∷_}
-use Prim.Native.Nat.{ℕ, _-_}
+use Prim.Native.Nat.{ℕ}
 use lib.ListN.{length}
 use lib.IntN.{ℤ, pos}
 use Rattle.model.specs.declared.LogRecord.{LogRecord}
@@ -11,11 +11,11 @@ use Rattle.model.specs.declared.Outcome.the-variants.{Done, Refused}
 use Rattle.model.specs.declared.Verdict.{Verdict}
 use Rattle.model.specs.declared.Verdict.the-variants.{Pass, Refuse}
 use Rattle.model.specs.Bytes.{word, zeros}
-use Rattle.model.specs.LogBufferDescriptor.{biased, rawOf, reading, sound}
+use Rattle.model.specs.LogBufferDescriptor.{idMinus, rawOf, reading, sound}
 use Rattle.model.specs.Publication.{openedRecord, noRecord, openVerdict, openBy, openBytesBy, openOf, openBytes}
 
 pub opened-by : (term mtu initial session stream term′ mtu′ initial′ session′ stream′ a b c : ℤ) → term′ ≡ term → mtu′ ≡ mtu → initial′ ≡ initial → session′ ≡ session → stream′ ≡ stream
-    → a ≡ rawOf (biased (word initial)) 0 → b ≡ rawOf (biased (word initial) - 2) 0 → c ≡ rawOf (biased (word initial) - 1) 0
+    → a ≡ rawOf (word initial) 0 → b ≡ rawOf (idMinus (word initial) 2) 0 → c ≡ rawOf (idMinus (word initial) 1) 0
     → record {
       tails = a ∷ b ∷ c ∷ [];
       «active_term_count» = pos 0;

@@ -15,7 +15,7 @@ use Rattle.model.specs.declared.AppendReply.{AppendReply}
 use Rattle.model.specs.declared.AppendClaimReply.{AppendClaimReply}
 use Rattle.model.specs.Bytes.{word}
 use Rattle.model.specs.FrameDescriptor.{space}
-use Rattle.model.specs.LogBufferDescriptor.{biased, readingOf}
+use Rattle.model.specs.LogBufferDescriptor.{readingOf}
 use Rattle.model.specs.TermAppender.{cut, need, written, claimed, bytesBy, claimRecord, claimAppendedBy}
 use Rattle.model.proofs.Sound.{id-small}
 use Rattle.model.proofs.Append.{appendReply, appendBytes, claimingReply, claimingBytes, unfragmented-good}
@@ -51,11 +51,7 @@ claiming-by r log out v k n w c reply ev hk short ew eo er ec =
     (b .0 ∙ ap (claimAppendedBy r (readingOf r k) k n) e, b .1 ∙ ap (bytesBy (readingOf r k) k log (claimed (readingOf r k) log (k * readingOf r k .term) n)) e)
 
 -- the claim's record, number by number
-pub claim-record-is : (v : Reading) (k n : ℕ) (a b l i : ℤ) → a ≡ pos k → b ≡ pos (v .offset) → l ≡ pos (n + 32) → i ≡ toZ w32 (biased (v .id))
+pub claim-record-is : (v : Reading) (k n : ℕ) (a b l i : ℤ) → a ≡ pos k → b ≡ pos (v .offset) → l ≡ pos (n + 32) → i ≡ toZ w32 (v .id)
     → record { partition = a; offset = b; length = l; «term_id» = i } ≡ claimRecord v k n
 unfolding claimRecord
 claim-record-is v k n a b l i ea eb el ei = cc
-
--- a term id whose biased bits were read is that of the claim's record
-pub id-back : (t : ℤ) (i : ℕ) → SFits w32 t → biased (word t) ≡ i → word t ≡ biased i
-id-back t i f e = let h : word t < 4294967296 = fits-ofZ f .fits in omega arith

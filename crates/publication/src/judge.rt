@@ -57,7 +57,7 @@ fn back_pressure(v: Reading, begin: usize, m: usize) -> Error
 
 // What both ask once they are not closed: 6 (count), 7/8/9.
 pub(crate) fn after_closed(v: Reading, m: usize) -> Verdict
-    requires { ⌜ Bounds v × ((v .initial < 4294967296) × ((m ≤ 2147483647) × (ones (v .term) ≡ 1))) ⌝ }
+    requires { ⌜ Bounds v × (((v .id < 4294967296) × (v .initial < 4294967296)) × ((m ≤ 2147483647) × (ones (v .term) ≡ 1))) ⌝ }
     ensures { λ r. ⌜ r ≡ afterClosed v m Pass ⌝ }
 {
     let id = v.id;
@@ -65,7 +65,7 @@ pub(crate) fn after_closed(v: Reading, m: usize) -> Verdict
     let count = v.count;
     let offset = v.offset;
     let limit = v.limit;
-    if id != initial + count {
+    if log_buffer_descriptor::id_minus(id as u32, initial as u32) as usize != count {
         return Verdict::Refuse(Error::AdminAction);
     }
     let begin = begin_position(v);
@@ -77,7 +77,7 @@ pub(crate) fn after_closed(v: Reading, m: usize) -> Verdict
 
 // Of an offer, all but 11, which the appender refuses.
 pub(crate) fn before_offer(v: Reading, n: usize, m: usize) -> Verdict
-    requires { ⌜ v .initial < 4294967296 ⌝ }
+    requires { ⌜ (v .id < 4294967296) × (v .initial < 4294967296) ⌝ }
     ensures { λ r. ⌜ r ≡ beforeAppend v n m Pass ⌝ }
 {
     if m > 2147483647 {

@@ -12,7 +12,7 @@ use model::Reading;
 use model::Verdict;
 
 pub(crate) fn before_claim(v: Reading, n: usize, m: usize) -> Verdict
-    requires { ⌜ v .initial < 4294967296 ⌝ }
+    requires { ⌜ (v .id < 4294967296) × (v .initial < 4294967296) ⌝ }
     ensures { λ r. ⌜ r ≡ claimVerdict v n m ⌝ }
 {
     if m > 2147483647 {

@@ -5,7 +5,7 @@ ghost use lib.ListN.{length as lengthOf};
 ghost use Rattle.model.specs.declared.Verdict.the-variants.{Pass};
 ghost use Rattle.model.specs.Bytes.{word, long};
 ghost use Rattle.model.specs.FrameDescriptor.{space};
-ghost use Rattle.model.specs.LogBufferDescriptor.{biased, readingOf, reading};
+ghost use Rattle.model.specs.LogBufferDescriptor.{readingOf, reading};
 ghost use Rattle.model.specs.Publication.{beforeAppend, tripNext, tripError, offerOf, offerBytes, claimVerdict, claimOf, claimBytes};
 ghost use Rattle.model.proofs.Sound.{Bounds};
 ghost use Rattle.model.proofs.Append.{appendReply, appendBytes, claimingReply, claimingBytes};
@@ -48,7 +48,7 @@ struct Trip {
 // in memory.
 fn own_term_id(rec: LogRecord, k: usize) -> i32
     requires { ⌜ k < 3 ⌝ }
-    ensures { λ r. ⌜ biased (word r) ≡ readingOf rec k .id ⌝ }
+    ensures { λ r. ⌜ word r ≡ readingOf rec k .id ⌝ }
 {
     if k == 0 {
         return log_buffer_descriptor::term_id(rec.tails[0]);
@@ -68,19 +68,11 @@ fn after_trip(next: LogRecord, v: Reading, begin: usize, count: i32, term_id: i3
     let term = v.term;
     let active = v.count;
     let offset = v.offset;
-    let id = v.id;
     if begin + offset + offset > term * 2147483648 {
         return Trip {
             next: next,
             error: Error::MaxPositionExceeded,
             rule: Rule::TripPastMaxPosition,
-        };
-    }
-    if id == 4294967295 {
-        return Trip {
-            next: next,
-            error: Error::LastTerm,
-            rule: Rule::LastTerm,
         };
     }
     if active == 2147483647 {
@@ -190,7 +182,7 @@ fn claiming(
     n: usize,
     term_id: i32,
 ) -> AppendClaimReply
-    requires { ⌜ (v ≡ readingOf rec k) × ((k ≤ 2) × ((v .offset + space n ≤ 2147483647) × (biased (word «term_id») ≡ v .id))) ⌝ }
+    requires { ⌜ (v ≡ readingOf rec k) × ((k ≤ 2) × ((v .offset + space n ≤ 2147483647) × (word «term_id» ≡ v .id))) ⌝ }
     ensures { λ r. ⌜ r ≡ claimingReply rec (now (log .entry)) k n (v .id) ⌝ }
     ensures { λ _. ⌜ now (log .exit) ≡ claimingBytes rec (now (log .entry)) k n (v .id) ⌝ }
 {

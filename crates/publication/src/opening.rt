@@ -1,10 +1,10 @@
 // A log is opened: zeroed, with the record of an empty log.
 ghost use mathlib.Core.Path.{_≡_};
-ghost use Prim.Native.Nat.{_-_, _<_};
 ghost use lib.ListN.{length};
-ghost use Rattle.model.specs.Bytes.{zeros, word};
-ghost use Rattle.model.specs.LogBufferDescriptor.{biased, rawOf};
+ghost use Rattle.model.specs.Bytes.{zeros};
+ghost use Rattle.model.specs.LogBufferDescriptor.{rawOf};
 ghost use Rattle.model.specs.Publication.{openedRecord, noRecord, openOf, openBytes};
+use logbuffer::cast;
 use logbuffer::log_buffer_descriptor;
 use model::Error;
 use model::LogRecord;
@@ -22,29 +22,11 @@ fn clear(log: &mut [u8])
     }
 }
 
-// A term id with 2^31 added.
-fn biased_id(id: i32) -> usize
-    ensures { λ r. ⌜ (r ≡ biased (word id)) × (r < 4294967296) ⌝ }
-{
-    ((id as i64) + 2147483648) as usize
-}
-
-// The raw tail at the start of the term of a biased id.
-fn raw_tail(id: usize) -> i64
-    requires { ⌜ id < 4294967296 ⌝ }
+// The raw tail at the start of the term of an id, by its 32 bits.
+fn raw_tail(id: u32) -> i64
     ensures { λ r. ⌜ r ≡ rawOf id 0 ⌝ }
 {
-    ((id as i64) - 2147483648) * 4294967296
-}
-
-// So many ids before; 0 where there are none.
-fn before(id: usize, n: usize) -> usize
-    ensures { λ r. ⌜ r ≡ id - n ⌝ }
-{
-    if id < n {
-        return 0;
-    }
-    id - n
+    cast::to_i64((id as usize) * 4294967296)
 }
 
 // The record of an empty log.
@@ -57,10 +39,10 @@ fn opened(
 ) -> LogRecord
     ensures { λ r. ⌜ r ≡ openedRecord «term_length» «mtu_length» «initial_term_id» «session_id» «stream_id» ⌝ }
 {
-    let id = biased_id(initial_term_id);
+    let id = cast::word(initial_term_id) as u32;
     let first = raw_tail(id);
-    let second = raw_tail(before(id, 2));
-    let third = raw_tail(before(id, 1));
+    let second = raw_tail(log_buffer_descriptor::id_minus(id, 2));
+    let third = raw_tail(log_buffer_descriptor::id_minus(id, 1));
     LogRecord {
         tails: [first, second, third],
         active_term_count: 0,

@@ -1,5 +1,5 @@
 -- The tests pick the case of `onTrip`; the rotation does what `Turns` says.
-use Rattle.model.proofs.OfferLaws.{trip-7, trip-12-id, trip-12-count, trip-6, not-last}
+use Rattle.model.proofs.OfferLaws.{trip-7, trip-12, trip-6, not-last}
 use Rattle.model.proofs.Sound.{begin-most}
 use Prim.Native.Nat.{_+_, _≤_, _<_}
 use Rattle.model.specs.LogBufferDescriptor.{greatest, rotateLogOf}
@@ -19,15 +19,12 @@ stays : (c : tie.Else1) → place (c .before .args .v) + c .before .args .v .off
 stays c = omega (arith, c .before .pre .1 .0, c .if1 .left)
 
 returns-2 : tie.Need-returns-2
-returns-2 c = let v = c .before .before .args .v in let h = stays (c .before) in (trip-12-id v _ _ _ h (c .if2 .taken), (trip-12-id v _ _ _ h (c .if2 .taken), trip-12-id v _ _ _ h (c .if2 .taken)))
+returns-2 c = let v = c .before .before .args .v in let h = stays (c .before) in (trip-12 v _ _ _ h (c .if2 .taken), (trip-12 v _ _ _ h (c .if2 .taken), trip-12 v _ _ _ h (c .if2 .taken)))
 
 returns-3 : tie.Need-returns-3
-returns-3 c = let v = c .before .before .before .args .v in let h = stays (c .before .before) in (trip-12-count v _ _ _ h (c .if3 .taken), (trip-12-count v _ _ _ h (c .if3 .taken), trip-12-count v _ _ _ h (c .if3 .taken)))
-
-returns-4 : tie.Need-returns-4
-returns-4 c = let s = c .before .before .before .before .before in
-    let h = stays (c .before .before .before .before) in
-    let l = not-last (s .args .v) (c .before .before .before .if2 .left) (c .before .before .if3 .left) in
+returns-3 c = let s = c .before .before .before .before in
+    let h = stays (c .before .before .before) in
+    let l = not-last (s .args .v) (c .before .before .if2 .left) in
     let t = c .before .rotate-log .ensures ∙ ap₂ (rotateLogOf (s .args .next)) (toZ-ofZ (s .fits .count)) (toZ-ofZ (s .fits .term-id)) ∙ s .pre .1 .1 l in
     (ap (λ (x : RecordReply). x .next) t ∙ trip-6 (s .args .v) _ _ _ h l, (trip-6 (s .args .v) _ _ _ h l, trip-6 (s .args .v) _ _ _ h l))
 
@@ -40,6 +37,5 @@ after-trip-spec =
     (search needs)
     returns
     returns-2
-    returns-3
     (search needs)
-    returns-4)
+    returns-3)

@@ -24,7 +24,7 @@ use Rattle.model.specs.declared.ClaimReply.{ClaimReply}
 use Rattle.model.specs.declared.Claimed.the-variants.{Position, Refused as Declined}
 use Rattle.model.specs.Bytes.{word}
 use Rattle.model.specs.FrameDescriptor.{space}
-use Rattle.model.specs.LogBufferDescriptor.{biased, readingOf, active, Sound}
+use Rattle.model.specs.LogBufferDescriptor.{readingOf, active, Sound}
 use Rattle.model.specs.Publication.{claimOf, claimBytes}
 use Rattle.model.proofs.Append.{claimingReply, claimingBytes}
 use Rattle.model.proofs.Sound.{sound-true, bounds, begin-most}
@@ -55,9 +55,9 @@ part : (s : tie.Start) → s .args .v .count % 3 ≡ active (s .args .rec)
 part s = active-by (s .args .rec) (s .args .v) (s .pre .0)
 
 -- the term id that is handed over is that of the tail
-given-is : (c : tie.After-own-term-id) → (let s = c .before .before .before in biased (word (toZ w32 (ofZ w32 (c .own-term-id .result)))) ≡ s .args .v .id)
+given-is : (c : tie.After-own-term-id) → (let s = c .before .before .before in word (toZ w32 (ofZ w32 (c .own-term-id .result))) ≡ s .args .v .id)
 given-is c = let s = c .before .before .before in
-    ap (λ (z : ℤ). biased (word z)) (toZ-ofZ {w = w32} {z = c .own-term-id .result} (search needs)) ∙ c .own-term-id .ensures
+    ap word (toZ-ofZ {w = w32} {z = c .own-term-id .result} (search needs)) ∙ c .own-term-id .ensures
     ∙ ap (λ (n : ℕ). readingOf (s .args .rec) n .id) (part s) ∙ sym (ap (λ (x : Reading). x .id) (s .pre .0))
 
 asked : (c : tie.After-word) → c .word .result ≡ word (c .before .before .before .before .before .args .length)

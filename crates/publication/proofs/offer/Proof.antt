@@ -1,6 +1,6 @@
 -- Refused before the append, or `offer_on`.
 use Rattle.publication.proofs.OfferBy.{refused-by}
-use Rattle.model.proofs.Sound.{initial-small}
+use Rattle.model.proofs.Sound.{id-small, initial-small}
 use Rattle.model.specs.Publication.{beforeAppend, offerBytes}
 use Rattle.model.specs.declared.Verdict.the-variants.{Pass}
 use Rattle.model.specs.declared.Reading.{Reading}
@@ -13,7 +13,7 @@ use Rattle.publication.proofs.offer.Statement.{statement}
 use Rattle.publication.proofs.offer.Tie as tie
 
 before-offer-requires : tie.Need-before-offer-requires
-before-offer-requires c κs = subst (λ (x : Reading). x .initial < 4294967296) (sym (c .read-active .ensures)) (initial-small _ _)
+before-offer-requires c κs = subst (λ (x : Reading). (x .id < 4294967296) × (x .initial < 4294967296)) (sym (c .read-active .ensures)) (id-small _ _, initial-small _ _)
 
 offer-on-requires : tie.Need-offer-on-requires
 offer-on-requires c κs = (c .before .before .before .before .read-active .ensures, sym (c .before .before .before .before-offer .ensures) ∙ c .before .enum-told .given .1)

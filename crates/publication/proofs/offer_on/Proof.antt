@@ -21,7 +21,7 @@ use Rattle.model.specs.declared.Appended.the-variants.{Offset, Tripped, Refused
 use Rattle.model.specs.declared.OfferReply.{OfferReply}
 use Rattle.model.specs.declared.Offered.the-variants.{Position, Refused as Declined}
 use Rattle.model.specs.Bytes.{word, long}
-use Rattle.model.specs.LogBufferDescriptor.{biased, readingOf, active, Sound}
+use Rattle.model.specs.LogBufferDescriptor.{readingOf, active, Sound}
 use Rattle.model.specs.Publication.{offerOf, offerBytes}
 use Rattle.model.proofs.Sound.{sound-true, bounds, begin-most}
 use Rattle.model.proofs.OfferLaws.{Passed, passed, after, afterBy}
@@ -79,9 +79,9 @@ append-message-requires : tie.Need-append-message-requires
 append-message-requires c κs = let s = c .before .before .before .before in (s .pre .0 ∙ ap (readingOf (s .args .rec)) (sym (part s)), (omega arith, (omega (arith, so s .mtu-low), (omega (arith, so s .mtu-high), (omega (arith, so s .mtu-32, so s .mtu-low), pass s .short)))))
 
 -- the term id that is handed over is that of the tail
-given-is : (c : tie.After-own-term-id) → (let s = c .before .before .before .before .before .before .before .before .before .before .before in biased (word (toZ w32 (ofZ w32 (c .own-term-id .result)))) ≡ s .args .v .id)
+given-is : (c : tie.After-own-term-id) → (let s = c .before .before .before .before .before .before .before .before .before .before .before in word (toZ w32 (ofZ w32 (c .own-term-id .result))) ≡ s .args .v .id)
 given-is c = let s = c .before .before .before .before .before .before .before .before .before .before .before in
-    ap (λ (z : ℤ). biased (word z)) (toZ-ofZ {w = w32} {z = c .own-term-id .result} (search needs)) ∙ c .own-term-id .ensures
+    ap word (toZ-ofZ {w = w32} {z = c .own-term-id .result} (search needs)) ∙ c .own-term-id .ensures
     ∙ ap (λ (n : ℕ). readingOf (s .args .rec) n .id) (part s) ∙ sym (ap (λ (x : Reading). x .id) (s .pre .0))
 
 after-trip-requires : tie.Need-after-trip-requires

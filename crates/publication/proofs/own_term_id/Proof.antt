@@ -8,16 +8,16 @@ use mir.Val.{SFits, toZ, ofZ}
 use mir.Facts.{toZ-ofZ}
 use borrow.Author.Needs.{needs}
 use Rattle.model.specs.Bytes.{word}
-use Rattle.model.specs.LogBufferDescriptor.{biased, termId, tailOf, readingOf}
+use Rattle.model.specs.LogBufferDescriptor.{termId, tailOf, readingOf}
 use Rattle.model.proofs.Moving.{term-id-back}
 use Rattle.publication.proofs.own_term_id.Statement.{statement}
 use Rattle.publication.proofs.own_term_id.Tie as tie
 
 own : (s : tie.Start) (k : ℕ) (z : ℤ) → SFits w64 (tailOf (s .args .t1) k) → z ≡ termId (toZ w64 (ofZ w64 (tailOf (s .args .t1) k))) → SFits w32 z → k ≡ s .args .k
-    → biased (word (toZ w32 (ofZ w32 z))) ≡ readingOf (s .args .t1) (s .args .k) .id
+    → word (toZ w32 (ofZ w32 z)) ≡ readingOf (s .args .t1) (s .args .k) .id
 unfolding readingOf
 own s k z f e g h =
-    ap (λ (x : ℤ). biased (word x)) (toZ-ofZ {w = w32} {z = z} g ∙ e ∙ ap termId (toZ-ofZ f)) ∙ term-id-back _ f
+    ap word (toZ-ofZ {w = w32} {z = z} g ∙ e ∙ ap termId (toZ-ofZ f)) ∙ term-id-back _ f
     ∙ ap (λ (n : ℕ). readingOf (s .args .t1) n .id) h
 
 returns : tie.Need-returns

@@ -2,7 +2,7 @@
 use Rattle.publication.proofs.ClaimLaws.{claim-1, claim-refused}
 use Rattle.publication.proofs.Lengths.{length-bits, length-casts}
 use Rattle.logbuffer.proofs.Signs.{negative}
-use Rattle.model.proofs.Sound.{initial-small}
+use Rattle.model.proofs.Sound.{id-small, initial-small}
 use Rattle.model.specs.Publication.{claimVerdict, claimOf, claimBytes}
 use Rattle.model.specs.Bytes.{word}
 use Rattle.model.specs.declared.Error.the-variants.{IllegalArgument}
@@ -26,7 +26,7 @@ cast-before-claim : tie.Need-cast-before-claim
 cast-before-claim c = let s = c .before .before .before in length-casts (s .args .length) (s .fits .length) (c .before .if1 .left)
 
 before-claim-requires : tie.Need-before-claim-requires
-before-claim-requires c κs = subst (λ (x : Reading). x .initial < 4294967296) (sym (c .read-active .ensures)) (initial-small _ _)
+before-claim-requires c κs = subst (λ (x : Reading). (x .id < 4294967296) × (x .initial < 4294967296)) (sym (c .read-active .ensures)) (id-small _ _, initial-small _ _)
 
 claim-on-requires : tie.Need-claim-on-requires
 claim-on-requires c κs = let s = c .before .before .before .before .before .before .before in (

@@ -40,7 +40,7 @@ one-bit : (c : tie.After-first-rows) → c .first-rows .result ≡ Pass → ones
 one-bit c h =
     let g = rows-pass (goodPartition (p c .partition) && goodOffset (p c .offset) (p c .read)) (sound (p c .read) (length (st c .args .log .now))) (rows c ∙ h) in sound-true _ _ (g .1) .one-bit
 
--- a biased id has 32 bits
+-- an id has 32 bits
 initial-in : (c : tie.After-first-rows) → p c .read .initial < 4294967296
 initial-in c = let r = st c .args .rec in subst (λ (x : Place). x .read .initial < 4294967296) (sym (p-is c)) (initial-small r (active r))
 

@@ -10,7 +10,7 @@ use mir.Val.{toZ, ofZ}
 use lib.IntN.{_+ℤ_}
 use Rattle.model.specs.DataFrameHeader.{headerAt}
 use Rattle.model.specs.Bytes.{u16, u32, u64}
-use Rattle.model.specs.LogBufferDescriptor.{biased, positionOf}
+use Rattle.model.specs.LogBufferDescriptor.{positionOf}
 use Rattle.model.specs.TermReader.{alignℤ}
 use Rattle.logbuffer.proofs.Shifts.{shifted, bits-high}
 use Rattle.logbuffer.proofs.HeaderLaws.{field32, field64, past-field, same-fields}
@@ -41,13 +41,12 @@ returns c =
     (field32 (c .before .before .before .to-i324 .result) (c .before .before .before .before .word45 .result) _ (c .before .before .before .to-i324 .ensures) (c .before .before .before .before .word45 .ensures .1) (c .before .before .before .before .word45 .ensures .0 ∙ ap u32 (sym (drop-drop 16 (a .index) (a .log .now)))))
     (field32 (c .before .before .to-i325 .result) (c .before .before .before .before .before .before .before .before .before .before .before .before .before .before .before .word42 .result) _ (c .before .before .to-i325 .ensures) (c .before .before .before .before .before .before .before .before .before .before .before .before .before .before .before .word42 .ensures .1) (c .before .before .before .before .before .before .before .before .before .before .before .before .before .before .before .word42 .ensures .0 ∙ ap u32 (sym (drop-drop 20 (a .index) (a .log .now)))))
     (field64 (c .to-i64 .result) (c .before .long8 .result) _ (c .to-i64 .ensures) (record { fits = c .before .long8 .ok }) (c .before .long8 .ensures ∙ ap u64 (sym (drop-drop 24 (a .index) (a .log .now)))))
-    (past-field (a .v) (a .at) (c .before .before .before .before .before .before .before .before .before .before .before .before .before .before .before .word42 .result) (u32 (drop 20 (drop (a .index) (a .log .now)))) (u32 (drop (a .index) (a .log .now))) (toZ w32 (ofZ w32 (c .before .before .before .before .before .before .before .before .before .before .before .before .before .before .before .before .to-i32 .result))) (c .before .before .before .before .before .before .before .before .before .before .before .before .position-past .result) (c .before .before .before .before .before .before .before .before .before .before .before .before .position-past .ensures ∙ ap (λ (t : ℕ). positionOf (biased (c .before .before .before .before .before .before .before .before .before .before .before .before .before .before .before .word42 .result)) (a .v .initial) t (a .at) +ℤ alignℤ (toZ w32 (ofZ w32 (c .before .before .before .before .before .before .before .before .before .before .before .before .before .before .before .before .to-i32 .result)))) (term-is (c .before .before .before .before .before .before .before .before .before .before .before .before .before))) (record { sfits = c .before .before .before .before .before .before .before .before .before .before .before .before .position-past .ok }) t n)
+    (past-field (a .v) (a .at) (c .before .before .before .before .before .before .before .before .before .before .before .before .before .before .before .word42 .result) (u32 (drop 20 (drop (a .index) (a .log .now)))) (u32 (drop (a .index) (a .log .now))) (toZ w32 (ofZ w32 (c .before .before .before .before .before .before .before .before .before .before .before .before .before .before .before .before .to-i32 .result))) (c .before .before .before .before .before .before .before .before .before .before .before .before .position-past .result) (c .before .before .before .before .before .before .before .before .before .before .before .before .position-past .ensures ∙ ap (λ (t : ℕ). positionOf (c .before .before .before .before .before .before .before .before .before .before .before .before .before .before .before .word42 .result) (a .v .initial) t (a .at) +ℤ alignℤ (toZ w32 (ofZ w32 (c .before .before .before .before .before .before .before .before .before .before .before .before .before .before .before .before .to-i32 .result)))) (term-is (c .before .before .before .before .before .before .before .before .before .before .before .before .before))) (record { sfits = c .before .before .before .before .before .before .before .before .before .before .before .before .position-past .ok }) t n)
 
 pub fields-at-spec : {M : Type 1} → statement M
 fields-at-spec =
     tie.close
     (tie.spec
-    (search needs)
     (search needs)
     (search needs)
     (search needs)

@@ -1,74 +1,56 @@
--- Each step of the sum fits 64 bits: the difference is near 0, and the shift is at most 30.
+-- The sum fits 64 bits: the count has 32, and the shift is at most 30.
 use mathlib.Core.Path.{_≡_, ap, ap₂, _∙_}
-use Prim.Native.Nat.{_*_, _%_, _^_}
-use native.Mathlib.Nat.{lt-trans}
 use native.Mathlib.Omega.{arith}
 use borrow.Author.Tests.{lt-ltb, le-ltb}
 use borrow.Author.Needs.{needs}
-use lib.Dec.{lit<}
-use lib.Pow.{pow-pos}
-use lib.IntN.{ℤ, pos, _+ℤ_, _-ℤ_, _*ℤ_}
-use mir.Facts.{toZ-ofZ, sfits-widen, toZ-pos}
-use mir.Val.{SFits, toZ, ofZ}
-use mir.Syntax.{w32, w64}
+use Prim.Native.Nat.{ℕ, _^_, _<_}
+use lib.IntN.{ℤ, pos, _*ℤ_}
+use mir.Syntax.{w32}
+use mir.Val.{SFits, toZ}
+use mir.Facts.{toZ-ofZ, sfits-toZ}
 use Rattle.model.specs.declared.Positioned.the-variants.{Position}
-use Rattle.model.specs.LogBufferDescriptor.{computePosition}
-use Rattle.logbuffer.proofs.Signed.{lands, asks}
-use Rattle.logbuffer.proofs.Exact.{difference-fits, product-near, position-fits}
-use Rattle.logbuffer.proofs.Shifts.{left-by}
+use Rattle.model.specs.Bytes.{word}
+use Rattle.model.specs.LogBufferDescriptor.{idMinus, computePosition}
+use Rattle.logbuffer.proofs.Past.{here-asks, here-lands}
 use Rattle.logbuffer.proofs.log_buffer_descriptor.compute_position.Statement.{statement}
 use Rattle.logbuffer.proofs.log_buffer_descriptor.compute_position.Tie as tie
-
--- the numbers at each step of the last line
-module _ (c : tie.Else1) where
-  abbrev s : tie.Start
-  s = c .before
-
-  abbrev difference : toZ w64 (ofZ w64 (toZ w32 (ofZ w32 (s .args .term-id)))) -ℤ toZ w64 (ofZ w64 (toZ w32 (ofZ w32 (s .args .initial)))) ≡ s .args .term-id -ℤ s .args .initial
-  difference = ap₂ (λ (a b : ℤ). a -ℤ b) (lands (toZ-ofZ (s .fits .term-id)) (sfits-widen tt (s .fits .term-id))) (lands (toZ-ofZ (s .fits .initial)) (sfits-widen tt (s .fits .initial)))
-
-  abbrev product : toZ w64 (ofZ w64 (toZ w64 (ofZ w64 (toZ w32 (ofZ w32 (s .args .term-id)))) -ℤ toZ w64 (ofZ w64 (toZ w32 (ofZ w32 (s .args .initial))))) * 2 ^ s .args .bits % 18446744073709551616)
-      ≡ (s .args .term-id -ℤ s .args .initial) *ℤ pos (2 ^ s .args .bits)
-  product =
-      ap (λ (x : ℤ). toZ w64 (ofZ w64 x * 2 ^ s .args .bits % 18446744073709551616)) difference
-      ∙ left-by (s .args .term-id -ℤ s .args .initial) (2 ^ s .args .bits) (pow-pos (s .args .bits)) (omega (arith, product-near (s .args .term-id) (s .args .initial) (s .fits .term-id) (s .fits .initial) (s .args .bits) (c .if1 .left)))
-
-  abbrev sum-fit : SFits w64 ((s .args .term-id -ℤ s .args .initial) *ℤ pos (2 ^ s .args .bits) +ℤ pos (s .args .offset))
-  sum-fit = position-fits (s .args .term-id) (s .args .initial) (s .fits .term-id) (s .fits .initial) (s .args .bits) (c .if1 .left) (s .args .offset) (s .fits .offset .fits)
-
-  low : toZ w64 (s .args .offset) ≡ pos (s .args .offset)
-  low = toZ-pos w64 (lt-trans (s .fits .offset .fits) (lit< tt))
 
 returns : tie.Need-returns
 unfolding computePosition
 returns c = simp (lt-ltb 30 (c .before .args .bits) (c .if1 .taken))
 
-cast-t7 : tie.Need-cast-t7
-cast-t7 c = asks (toZ-ofZ (c .before .fits .term-id)) (sfits-widen tt (c .before .fits .term-id))
+module _ (c : tie.After-term-begin) where
+  abbrev s : tie.Start
+  s = c .before .before .before .before
 
-cast-t8 : tie.Need-cast-t8
-cast-t8 c = asks (toZ-ofZ (c .before .fits .initial)) (sfits-widen tt (c .before .fits .initial))
+  abbrev count : ℤ
+  count = toZ w32 (idMinus (word (s .args .term-id)) (word (s .args .initial)))
 
-sub-t9 : tie.Need-sub-t9
-sub-t9 c = asks (difference c) (difference-fits (c .before .args .term-id) (c .before .args .initial) (c .before .fits .term-id) (c .before .fits .initial))
+  count-fits : SFits w32 count
+  count-fits = let l : idMinus (word (s .args .term-id)) (word (s .args .initial)) < 4294967296 = omega arith in sfits-toZ {n = idMinus (word (s .args .term-id)) (word (s .args .initial))} (record { fits = l })
 
-add-t13 : tie.Need-add-t13
-add-t13 c = asks (ap₂ (λ (a b : ℤ). a +ℤ b) (product c) (low c)) (sum-fit c)
+  begins : c .term-begin .result ≡ count *ℤ pos (2 ^ s .args .bits)
+  begins =
+      c .term-begin .ensures
+      ∙ ap₂ (λ (i j : ℕ). toZ w32 (idMinus i j) *ℤ pos (2 ^ s .args .bits)) (c .before .before .word .ensures .0 ∙ ap word (toZ-ofZ (s .fits .term-id))) (c .before .word2 .ensures .0 ∙ ap word (toZ-ofZ (s .fits .initial)))
+
+add-t11 : tie.Need-add-t11
+add-t11 c = here-asks (count c) (c .term-begin .result) (s c .args .bits) (s c .args .offset) (pos 0) (count-fits c) (c .before .before .before .if1 .left) (begins c) (s c .fits .offset .fits) (record { sfits = omega arith })
 
 returns-2 : tie.Need-returns-2
 unfolding computePosition
-returns-2 c = simp (le-ltb 30 (c .before .args .bits) (c .if1 .left)) (ap Position (lands (ap₂ (λ (a b : ℤ). a +ℤ b) (product c) (low c)) (sum-fit c)))
+returns-2 c =
+    simp (le-ltb 30 (s c .args .bits) (c .before .before .before .if1 .left))
+    (ap Position (here-lands (count c) (c .term-begin .result) (s c .args .bits) (s c .args .offset) (pos 0) (count-fits c) (c .before .before .before .if1 .left) (begins c) (s c .fits .offset .fits) (record { sfits = omega arith })))
 
 pub compute-position-spec : {M : Type 1} → statement M
 compute-position-spec =
     tie.close
     (tie.spec
     returns
-    cast-t7
-    cast-t8
-    sub-t9
     (search needs)
     (search needs)
+    (λ c κs. (c .before .word .ensures .1, (c .word2 .ensures .1, c .before .before .if1 .left)))
     (search needs)
-    add-t13
+    add-t11
     returns-2)

@@ -1,26 +1,45 @@
 -- By the next partition's term id.
-use mathlib.Core.Path.{sym, ap, subst, _∙_}
-use Prim.Native.Nat.{_+_, _<_}
+use mathlib.Core.Path.{_≡_, sym, ap, subst, _∙_}
+use Prim.Native.Nat.{ℕ, _%_, _+_, _<_}
 use native.Mathlib.Omega.{arith}
 use borrow.Author.Needs.{needs}
 use Rattle.model.specs.declared.Reading.{Reading}
+use Rattle.model.specs.LogBufferDescriptor.{idPlus, withTail, readingOf}
 use Rattle.model.proofs.Sound.{id-small}
 use Rattle.model.proofs.Rotate.{next-set, next-kept}
 use Rattle.logbuffer.proofs.log_buffer_descriptor.next_tail.Statement.{statement}
 use Rattle.logbuffer.proofs.log_buffer_descriptor.next_tail.Tie as tie
 
-add-if1 : tie.Need-add-if1
-add-if1 c = let b : c .before .read .result .id < 4294967296 = subst (λ (x : Reading). x .id < 4294967296) (sym (c .before .read .ensures)) (id-small _ _) in omega arith
+cast-id-plus : tie.Need-cast-id-plus
+cast-id-plus c = record { fits = subst (λ (x : Reading). x .id < 4294967296) (sym (c .before .read .ensures)) (id-small _ _) }
+
+-- two terms after the next partition's id
+two-on : (c : tie.After-id-plus) → (let a = c .before .before .before .args in c .id-plus .result ≡ idPlus (readingOf (a .rec) ((a .count + 1) % 3) .id) 2)
+two-on c = c .id-plus .ensures ∙ ap (λ (x : Reading). idPlus (x .id) 2) (c .before .before .read .ensures)
 
 returns : tie.Need-returns
-returns c = let s = c .before .before .before .before .args in
-    c .with-tail .ensures ∙ next-set (s .rec) (s .count) (s .id) (sym (ap (λ (x : Reading). x .id + 2) (c .before .before .before .read .ensures)) ∙ c .before .if1 .taken)
+returns c =
+    let a = c .before .before .before .before .before .before .args in
+    c .with-tail .ensures ∙ ap (λ (i : ℕ). withTail (a .rec) ((a .count + 1) % 3) i 0) (c .before .id-plus2 .ensures)
+    ∙ next-set (a .rec) (a .count) (a .id) (sym (two-on (c .before .before .before)) ∙ c .before .before .if1 .taken)
 
 returns-2 : tie.Need-returns-2
-returns-2 c = let s = c .before .before .before .args in
-    next-kept (s .rec) (s .count) (s .id) (λ h. c .if1 .left (ap (λ (x : Reading). x .id + 2) (c .before .before .read .ensures) ∙ h))
+returns-2 c =
+    let a = c .before .before .before .before .args in
+    next-kept (a .rec) (a .count) (a .id) (λ h. c .if1 .left (two-on (c .before) ∙ h))
 
 pub next-tail-spec : {M : Type 1} → statement M
 next-tail-spec =
     tie.close
-    (tie.spec (search needs) (search needs) add-if1 (search needs) (search needs) returns returns-2)
+    (tie.spec
+    (search needs)
+    (search needs)
+    cast-id-plus
+    (search needs)
+    (search needs)
+    (search needs)
+    (search needs)
+    (search needs)
+    (search needs)
+    returns
+    returns-2)

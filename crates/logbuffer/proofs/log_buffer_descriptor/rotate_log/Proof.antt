@@ -11,7 +11,7 @@ use Rattle.model.specs.declared.Reading.{Reading}
 use Rattle.model.specs.declared.Verdict.{Verdict}
 use Rattle.model.specs.declared.Verdict.the-variants.{Pass}
 use Rattle.model.specs.Bytes.{word}
-use Rattle.model.specs.LogBufferDescriptor.{biased, readingOf, withCount, rotateBy, rotateLogOf}
+use Rattle.model.specs.LogBufferDescriptor.{readingOf, withCount, rotateBy, rotateLogOf}
 use Rattle.model.proofs.Rotate.{rotate-passed, rotate-is, rotate-risen, rotate-kept}
 use Rattle.logbuffer.proofs.log_buffer_descriptor.rotate_log.Statement.{statement}
 use Rattle.logbuffer.proofs.log_buffer_descriptor.rotate_log.Tie as tie
@@ -25,13 +25,13 @@ module _ (c : tie.After-rotate-verdict) where
   k = c .before .before .before .word .result
 
   abbrev t : ℕ
-  t = biased (c .before .before .word2 .result)
+  t = c .before .before .word2 .result
 
   given-is : k ≡ word (s .args .count)
   given-is = c .before .before .before .word .ensures .0 ∙ ap (ofZ w32) (toZ-ofZ (s .fits .count))
 
-  term-is : t ≡ biased (word (s .args .id))
-  term-is = ap biased (c .before .before .word2 .ensures .0 ∙ ap (ofZ w32) (toZ-ofZ (s .fits .id)))
+  term-is : t ≡ word (s .args .id)
+  term-is = c .before .before .word2 .ensures .0 ∙ ap (ofZ w32) (toZ-ofZ (s .fits .id))
 
   count-is : c .before .read-active .result .count ≡ word (s .args .rec .«active_term_count»)
   unfolding readingOf
@@ -41,7 +41,7 @@ module _ (c : tie.After-rotate-verdict) where
   law x e = rotate-is (s .args .rec) (s .args .count) (s .args .id) k t (c .before .read-active .result) x given-is term-is (c .before .read-active .ensures) (sym e ∙ c .rotate-verdict .ensures)
 
   low : c .rotate-verdict .result ≡ Pass → k < 2147483647
-  low e = rotate-passed (c .before .read-active .result) k t (sym (c .rotate-verdict .ensures) ∙ e)
+  low e = rotate-passed (c .before .read-active .result) k (sym (c .rotate-verdict .ensures) ∙ e)
 
 next-tail-requires : tie.Need-next-tail-requires
 next-tail-requires c κs = let h = low (c .before .before) (c .enum-told .given .1) in omega arith
@@ -65,7 +65,6 @@ pub rotate-log-spec : {M : Type 1} → statement M
 rotate-log-spec =
     tie.close
     (tie.spec
-    (search needs)
     (search needs)
     (search needs)
     (search needs)

@@ -6,7 +6,6 @@ use mir.Syntax.{w32, w64}
 use mir.Val.{toZ, ofZ}
 use mir.Facts.{toZ-ofZ}
 use Rattle.model.specs.Bytes.{word, long}
-use Rattle.model.specs.LogBufferDescriptor.{biased}
 use Rattle.logbuffer.specs.Ways.{fragmentLimit}
 use Rattle.logbuffer.proofs.Ways.{fragmented-is}
 use Rattle.logbuffer.proofs.term_appender.append_fragmented_message.Statement.{statement}
@@ -23,7 +22,7 @@ returns c =
     c .before .before .before .before .fragment-limit .ensures ∙ ap (fragmentLimit (length (a .message .now))) n in
     let t : toZ w32 (ofZ w32 (a .term-id)) ≡ a .term-id = toZ-ofZ (s .fits .term-id) in
     let z : toZ w64 (ofZ w64 (a .reserved-value)) ≡ a .reserved-value = toZ-ofZ (s .fits .reserved-value) in
-    let law = fragmented-is (a .rec) (a .log .now) (a .message .now) (word (a .partition)) (word (a .payload-limit)) (long (a .reserved-value)) (biased (word (a .term-id))) in
+    let law = fragmented-is (a .rec) (a .log .now) (a .message .now) (word (a .partition)) (word (a .payload-limit)) (long (a .reserved-value)) (word (a .term-id)) in
     (m .0 ∙ (cc) ∙ law .0, m .1 ∙ (cc) ∙ law .1)
 
 pub append-fragmented-message-spec : {M : Type 1} → statement M

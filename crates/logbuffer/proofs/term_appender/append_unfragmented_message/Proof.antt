@@ -5,7 +5,6 @@ use mir.Syntax.{w32, w64}
 use mir.Val.{toZ, ofZ}
 use mir.Facts.{toZ-ofZ}
 use Rattle.model.specs.Bytes.{word, long}
-use Rattle.model.specs.LogBufferDescriptor.{biased}
 use Rattle.logbuffer.proofs.Ways.{unfragmented-is}
 use Rattle.logbuffer.proofs.term_appender.append_unfragmented_message.Statement.{statement}
 use Rattle.logbuffer.proofs.term_appender.append_unfragmented_message.Tie as tie
@@ -18,7 +17,7 @@ returns c =
     let k : c .before .before .before .before .word .result ≡ word (a .partition) = c .before .before .before .before .word .ensures .0 ∙ search needs in
     let t : toZ w32 (ofZ w32 (a .term-id)) ≡ a .term-id = toZ-ofZ (s .fits .term-id) in
     let z : toZ w64 (ofZ w64 (a .reserved-value)) ≡ a .reserved-value = toZ-ofZ (s .fits .reserved-value) in
-    let law = unfragmented-is (a .rec) (a .log .now) (a .message .now) (word (a .partition)) (long (a .reserved-value)) (biased (word (a .term-id))) in
+    let law = unfragmented-is (a .rec) (a .log .now) (a .message .now) (word (a .partition)) (long (a .reserved-value)) (word (a .term-id)) in
     (m .0 ∙ (cc) ∙ law .0, m .1 ∙ (cc) ∙ law .1)
 
 pub append-unfragmented-message-spec : {M : Type 1} → statement M

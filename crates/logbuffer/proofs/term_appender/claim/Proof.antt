@@ -7,7 +7,6 @@ use lib.ListN.{length}
 use mir.Facts.{toZ-ofZ}
 use Rattle.model.specs.declared.Reading.{Reading}
 use Rattle.model.specs.Bytes.{word}
-use Rattle.model.specs.LogBufferDescriptor.{biased}
 use Rattle.model.proofs.Sound.{id-small, offset-small}
 use Rattle.logbuffer.proofs.Ways.{claim-by, claim-bits, claim-course}
 use Rattle.logbuffer.proofs.term_appender.claim.Statement.{statement}
@@ -25,16 +24,16 @@ returns c =
     let s = c .before .before .before .before .before .before .before .before .before .before .before in
     let a = s .args in
     let d = c .before .before .before .before .claim-way in
-    let g = c .before .before .before .before .before .biased-id in
+    let g = c .before .before .before .before .before .word3 in
     let v = c .before .before .before .before .before .before .before .read in
     let n = c .before .before .before .before .before .before .before .before .word2 in
     let k = c .before .before .before .before .before .before .before .before .before .word in
     let en : n .result ≡ word (a .length) = n .ensures .0 ∙ search needs in
     let ek : k .result ≡ word (a .partition) = k .ensures .0 ∙ search needs in
-    let by = claim-by (a .rec) (a .log .now) (d .last .1 .0) (v .result) (k .result) (n .result) (g .result) (biased (word (a .term-id))) (d .result) (c .before .claim-record .result) (c .claim-reply .result)
-    (v .ensures) (g .ensures ∙ ap (λ (z : ℤ). biased (word z)) (toZ-ofZ (s .fits .term-id))) (d .ensures .0) (d .ensures .1) (c .claim-reply .ensures)
+    let by = claim-by (a .rec) (a .log .now) (d .last .1 .0) (v .result) (k .result) (n .result) (g .result) (word (a .term-id)) (d .result) (c .before .claim-record .result) (c .claim-reply .result)
+    (v .ensures) (g .ensures .0 ∙ ap word (toZ-ofZ (s .fits .term-id))) (d .ensures .0) (d .ensures .1) (c .claim-reply .ensures)
     (λ hk h. c .before .claim-record .ensures ∙ claim-bits (v .result) (k .result) (n .result) hk h) in
-    let law = claim-course (a .rec) (length (a .log .now)) (word (a .partition)) (word (a .length)) (biased (word (a .term-id))) in
+    let law = claim-course (a .rec) (length (a .log .now)) (word (a .partition)) (word (a .length)) (word (a .term-id)) in
     (cc (by .0, law), cc (by .1, law))
 
 pub claim-spec : {M : Type 1} → statement M
