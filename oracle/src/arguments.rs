@@ -87,8 +87,8 @@ impl Arguments {
 
     pub fn initial(&mut self) -> i32 {
         match self.below(6) {
-            0 => self.pick(&[-2_147_483_646, -2_147_483_645, 2_147_483_640, 2_147_483_645, 2_147_483_646, 2_147_483_647]),
-            1 => self.any_i32().max(-2_147_483_646),
+            0 => self.pick(&[i32::MIN, i32::MIN + 1, i32::MIN + 2, i32::MIN + 3, 2_147_483_640, 2_147_483_645, i32::MAX - 1, i32::MAX]),
+            1 => self.any_i32(),
             _ => self.pick(&[0, 1, 7, -1, -5]),
         }
     }
@@ -407,9 +407,10 @@ impl Arguments {
     pub fn edge_record(&mut self, from: &Record) -> Record {
         let mut record = *from;
         record.initial_term_id = self.initial();
+        // The count at which the id is the largest, and those around it, where ids wrap.
         let most = (i32::MAX as i64 - record.initial_term_id as i64).min(i32::MAX as i64) as i32;
-        let picked = self.pick(&[0, 1, 2, 3, most, most - 1, most - 2, most / 2, i32::MAX, i32::MAX - 1]);
-        record.active_term_count = picked.clamp(0, most);
+        let picked = self.pick(&[0, 1, 2, 3, most, most.saturating_add(1), most.saturating_add(2), most - 1, most - 2, most / 2, i32::MAX, i32::MAX - 1]);
+        record.active_term_count = picked.max(0);
         let id = record.initial_term_id.wrapping_add(record.active_term_count);
         let partition = (record.active_term_count % 3) as usize;
         let offset = match self.below(6) {
@@ -434,7 +435,7 @@ impl Arguments {
         let mut r = *from;
         let k = self.below(3) as usize;
         match self.below(12) {
-            0 => r.term_length = self.pick(&[r.term_length + 1, r.term_length / 2, r.term_length * 2, 0, -1, 32_768, i32::MIN, 1 << 20]),
+            0 => r.term_length = self.pick(&[r.term_length + 1, r.term_length / 2, r.term_length.wrapping_mul(2), 0, -1, 32_768, i32::MIN, 1 << 20]),
             1 => r.mtu_length = self.pick(&[0, 32, 63, 64, 65, 65_504, 65_505, 65_536, -32, i32::MAX, i32::MIN]),
             2 => r.initial_term_id = self.pick(&[-2_147_483_648, -2_147_483_647, -2_147_483_646, 2_147_483_647]),
             3 | 4 => r.active_term_count = self.edge_i32(),

@@ -14,7 +14,9 @@ mod calls;
 mod domain;
 mod lists;
 mod original;
+mod moved;
 mod overflows;
+mod wrapped;
 mod port;
 mod slices;
 mod world;
@@ -54,6 +56,8 @@ impl Table {
         println!("\n{} calls compared", self.compared);
         let turned = all.get(&Told::ClosedAndLong).unwrap_or(&0);
         println!("{turned} claims over the payload limit on a closed publication: the port 5, the Rust 4 (R-3)");
+        let wrapped = all.get(&Told::Wrapped).unwrap_or(&0);
+        println!("{wrapped} calls whose term ids wrap, the same as the Rust's with every id moved (R-8)");
     }
 }
 
@@ -69,6 +73,7 @@ fn cells(tolds: &BTreeMap<Told, u64>) -> [String; 5] {
             Told::Empty => texts[2].push(format!("empty: {n}")),
             Told::Overflowed => texts[3].push(format!("overflow: {n}")),
             Told::ClosedAndLong => texts[3].push(format!("R-3: {n}")),
+            Told::Wrapped => texts[3].push(format!("R-8: {n}")),
             Told::ByHand => texts[3].push(format!("by hand: {n}")),
         }
     }

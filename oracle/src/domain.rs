@@ -5,6 +5,7 @@
 
 use crate::assemblies;
 use crate::overflows::overflows;
+use crate::wrapped::wraps;
 use crate::calls::{Assembler, Call, Claim, Image, Record};
 
 /// What a call is judged on.
@@ -30,6 +31,8 @@ pub enum Verdict {
     Overflows,
     /// Stopped by an unsound frame at this index of the log, which is not the first frame met.
     Stopped(usize),
+    /// Term ids wrap (R-8 of document 02): the Rust overflows, or counts on past 32 bits.
+    Wrapped,
     /// A claim over the payload limit on a closed publication: by R-3 of document 02 it refuses 5, and in the Rust 4.
     ClosedAndLong,
 }
@@ -76,7 +79,6 @@ impl State<'_> {
         let offset = self.tail(tail).1;
         !is_power
             || !is_mtu
-            || r.initial_term_id < -2_147_483_646
             || r.active_term_count < 0
             || offset % 32 != 0
             || offset > MOST
@@ -238,7 +240,7 @@ fn publish(s: &State, length: i64, is_offer: bool) -> Verdict {
     let r = s.record;
     let (id, offset) = s.tail(s.active());
     let (count, payload_limit) = (r.active_term_count as i64, r.mtu_length as i64 - 32);
-    if count != id - r.initial_term_id as i64 {
+    if count != id.wrapping_sub(r.initial_term_id as i64) as i32 as i64 {
         return Inside;
     }
     let position = count * s.term_length() + offset;
@@ -254,7 +256,7 @@ fn publish(s: &State, length: i64, is_offer: bool) -> Verdict {
         return Refused(11);
     }
     let is_tripped = offset + need > s.term_length();
-    if is_tripped && position + offset <= s.greatest() && (id == MOST || count == MOST) {
+    if is_tripped && position + offset <= s.greatest() && count == MOST {
         return Refused(12);
     }
     Inside
@@ -284,14 +286,14 @@ pub fn rule(call: &Call, s: &State) -> Option<(u32, i32)> {
     let checks = [
         (3, 5, r.is_closed),
         (4, 4, !is_offer && length > payload_limit),
-        (5, 6, count != id - r.initial_term_id as i64),
+        (5, 6, count != id.wrapping_sub(r.initial_term_id as i64) as i32 as i64),
         (6, 7, is_at_limit && position + length >= s.greatest()),
         (7, 8, is_at_limit && is_connected),
         (8, 9, is_at_limit && !is_connected),
         (9, 10, is_offer && length > payload_limit && length > (s.term_length() / 8).min(16_777_216)),
         (10, 11, offset + need > MOST),
         (11, 7, is_tripped && position + offset > s.greatest()),
-        (12, 12, is_tripped && (id == MOST || count == MOST)),
+        (12, 12, is_tripped && count == MOST),
         (13, 6, is_tripped),
         (14, 0, is_offer && length <= payload_limit),
         (15, 0, is_offer),
@@ -317,8 +319,8 @@ fn on_record(call: &Call, s: &State) -> Step {
             let record = Record { publication_limit: *limit, ..*s.record };
             broken(&State { record: &record, ..*s }).unwrap_or(Inside)
         }
-        Call::RotateLog { count, term_id } => {
-            let last = *count as i64 == MOST || *term_id as i64 == MOST;
+        Call::RotateLog { count, .. } => {
+            let last = *count as i64 == MOST;
             let step = refuse_if(*count < 0, 1).or_else(|| broken(s)).or_else(|| refuse_if(last, 12));
             step.unwrap_or(Inside)
         }
@@ -510,6 +512,8 @@ pub fn judge(call: &Call, s: &State) -> Verdict {
     let step = on_record(call, s).or_else(|| writing(call, s)).or_else(|| frames(call, s)).or_else(|| images(call, s));
     match step.or_else(|| assemblies::judge(call, s)).unwrap_or_else(|| numbers(call)) {
         Inside | Stopped(_) if overflows(call, s) => Verdict::Overflows,
+        Inside if wraps(call, s) => Verdict::Wrapped,
+        Refused(12) if matches!(call, Call::Offer { .. } | Call::TryClaim { .. }) && wraps(call, s) => Verdict::Wrapped,
         verdict => verdict,
     }
 }
@@ -531,6 +535,11 @@ impl State<'_> {
 
     pub fn term(&self) -> i64 {
         self.term_length()
+    }
+
+    /// The term id of the frame at an offset of a partition.
+    pub fn term_id(&self, partition: i64, offset: i64) -> i32 {
+        self.word((partition * self.term_length() + offset) as usize + 20)
     }
 
     /// Flags and session of the frame at an offset of a partition.

@@ -50,7 +50,6 @@ fn is_sound(rec: &Record) -> bool {
     };
     is_term
         && is_mtu
-        && rec.initial_term_id >= -2_147_483_646
         && (0..=1i64 << 62).contains(&rec.publication_limit)
         && usize::try_from(rec.active_term_count).is_ok_and(is_tail)
 }

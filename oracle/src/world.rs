@@ -4,6 +4,7 @@
 use crate::assemblies;
 use crate::calls::{Answer, Assembler, Call, Record, IMAGES, UNWRITTEN};
 use crate::domain::{judge, rule, State, Verdict};
+use crate::moved;
 use crate::original::{Original, Outcome};
 use crate::port::Port;
 
@@ -34,6 +35,8 @@ pub enum Told {
     Empty,
     /// Left out: a sum of the Rust overflowed, or a number does not fit its i32 or i64.
     Overflowed,
+    /// Left out, by R-8 of document 02: term ids wrap. The Rust answered the same with its ids moved.
+    Wrapped,
     /// Left out, by R-3 of document 02: the port refused 5 where the Rust refused 4.
     ClosedAndLong,
     ByHand,
@@ -94,7 +97,7 @@ impl World {
         let verdict = judge(call, &self.state());
         let rule = rule(call, &self.state());
         let fragment = self.expected_fragment(call, verdict);
-        let tails = self.port.record.tails;
+        let before = self.port.record;
         let answer = self.port.call(call);
         self.answered = answer.values;
         self.decided(rule, &answer)?;
@@ -105,10 +108,11 @@ impl World {
             Verdict::BadFrame(number, place) => self.refused(call, &answer, Answer::bad_frame(number, place))?,
             Verdict::Empty => self.empty(call, &answer)?,
             Verdict::Overflows => self.overflows(call)?,
+            Verdict::Wrapped => self.wrapped(call, &answer, &before)?,
             Verdict::ClosedAndLong => self.closed_and_long(call, &answer)?,
         };
         self.assembled(call, fragment)?;
-        self.same_state(tails, call).map_err(|what| format!("{what}; port answered {answer:?}"))?;
+        self.same_state(before.tails, call).map_err(|what| format!("{what}; port answered {answer:?}"))?;
         Ok(told)
     }
 
@@ -138,6 +142,38 @@ impl World {
         }
         self.set_original();
         Ok(Told::Overflowed)
+    }
+
+    /// Left out of equality; the Rust runs with every id moved, and then answer, record and frames have their ids moved back. In the last term it
+    /// overflows by its count, with tail and padding left as 12 leaves them.
+    fn wrapped(&mut self, call: &Call, answer: &Answer, before: &Record) -> Result<Told, String> {
+        let by = moved::moved_by(call, before);
+        let back = by.wrapping_neg();
+        self.original.set_record(&moved::moved_record(before, by));
+        let term = before.term_length as usize;
+        if let Call::HeaderFields { partition, offset } = call {
+            let at = *partition as usize * term + *offset as usize + 20;
+            moved::move_id(&mut self.original.log.terms_mut()[at..at + 4], by);
+        }
+        match self.original.call(&moved::moved_call(call, by)) {
+            Outcome::Answered(given) => same(answer, &moved::moved_answer(call, given, back), "the Rust, its ids moved,")?,
+            Outcome::Overflowed if answer.code == 12 => {}
+            _ => return Err(format!("ids wrap: the Rust, its ids moved, has no answer; port {answer:?}")),
+        }
+        let record = moved::moved_record(&self.original.record(), back);
+        if record != self.port.record {
+            return Err(format!("ids wrap; records differ: port {:?}, Rust {record:?}", self.port.record));
+        }
+        if let Call::Offer { .. } | Call::TryClaim { .. } = call {
+            let k = (before.active_term_count % 3) as usize;
+            let [from, to] = [before.tails[k], record.tails[k]].map(|raw| (raw & 0xffff_ffff) as usize);
+            if to > from {
+                moved::move_frames(&mut self.original.log.terms_mut()[k * term..(k + 1) * term], from, to, back);
+            }
+            self.windows(before.tails, call)?;
+        }
+        self.set_original();
+        Ok(Told::Wrapped)
     }
 
     /// Left out of equality; both run all the same, and each has to refuse with its own number. Neither changes anything.

@@ -1,7 +1,8 @@
 // A mixed list of calls, and the replay of the log that it leaves. A call's line says what it answered; then comes one line for each
 // message that the replay gives: where it lies (0 the log, 1 the lent buffer), its length, its first and its last byte. The messages are those
 // offered and committed, in order; refused offers and aborted claims leave none, and an open claim hides what lies behind it. Then the count,
-// and a replay whose lent buffer has parts of one byte: 18.
+// and a replay whose lent buffer has parts of one byte: 18. Last the same list from the largest term id on, so that its second term has the
+// lowest (R-8 of document 02): the same lines again.
 use logbuffer::buffer_claim;
 use logbuffer::cast;
 use logbuffer::errors;
@@ -189,22 +190,45 @@ fn count_all(rec: LogRecord, log: &[u8]) {
     }
 }
 
+fn first_calls(rec: LogRecord, log: &mut [u8]) -> LogRecord {
+    let a = small_calls(rec, log);
+    refused_calls(claim_calls(a, log), log)
+}
+
+// Into the second term.
+fn full_calls(rec: LogRecord, log: &mut [u8]) -> LogRecord {
+    let a = long_calls(long_calls(rec, log, 4), log, 5);
+    long_calls(long_calls(a, log, 6), log, 7)
+}
+
+fn fresh(initial_term_id: i32, log: &mut [u8]) -> LogRecord {
+    let opened = opening::open_log(log, 65536, 96, initial_term_id, 11, 12);
+    positions::set_publication_limit(opened.next, 1099511627776).next
+}
+
+fn last_calls(rec: LogRecord, log: &mut [u8]) -> LogRecord {
+    let a = open_calls(rec, log);
+    offer(
+        b"offer 10, closed",
+        positions::close(a).next,
+        log,
+        &[8u8; 10],
+    )
+}
+
+// The list of calls, on a log just opened.
+fn calls(rec: LogRecord, log: &mut [u8]) -> LogRecord {
+    last_calls(full_calls(first_calls(rec, log), log), log)
+}
+
 fn main() {
     let mut log = [0u8; 196608];
-    let opened = opening::open_log(&mut log, 65536, 96, 7, 11, 12);
-    let a = positions::set_publication_limit(opened.next, 1099511627776).next;
-    let b = small_calls(a, &mut log);
-    let c = refused_calls(claim_calls(b, &mut log), &mut log);
-    let d = long_calls(long_calls(c, &mut log, 4), &mut log, 5);
-    let e = long_calls(long_calls(d, &mut log, 6), &mut log, 7);
-    let f = open_calls(e, &mut log);
-    let g = offer(
-        b"offer 10, closed",
-        positions::close(f).next,
-        &mut log,
-        &[8u8; 10],
-    );
-    replay_all(g, &log);
-    count_all(g, &log);
-    short_buffer(g, &log);
+    let rec = calls(fresh(7, &mut log), &mut log);
+    replay_all(rec, &log);
+    count_all(rec, &log);
+    short_buffer(rec, &log);
+    io::write_all(1, b"from the largest term id on\n");
+    let over = calls(fresh(2147483647, &mut log), &mut log);
+    replay_all(over, &log);
+    count_all(over, &log);
 }

@@ -113,7 +113,7 @@ fn offers() {
     );
 }
 
-// Rows 7 and 12: the last term of all, and the last term id.
+// Rows 7 and 12: the last term of all; and the largest term id, which is not the last (R-8 of document 02).
 fn last_terms() {
     let mut log = [0u8; 196608];
     let message = [3u8; 64];
@@ -132,6 +132,16 @@ fn last_terms() {
     print::offered(
         b"offer, id 2147483647, term full",
         publication::offer(end, &mut log, &message, 0),
+    );
+    let mut half = fresh(&mut log);
+    half.initial_term_id = -2147483646;
+    half.active_term_count = 2147483647;
+    half.mtu_length = 65504;
+    half.publication_limit = 4611686018427387904;
+    half.tails[1] = 4295000064;
+    print::claimed(
+        b"claim 65472 at 32768, last term",
+        publication::try_claim(half, &mut log, 65472),
     );
 }
 
