@@ -317,7 +317,8 @@ struct logbuffer_card_read_reply {
 /* ---- opening, and calls on the record alone */
 
 /* Zeroes the log, three terms, and fills the record of an empty one: limit 0, connected, not closed. Term length: a power of two from
- * 65,536 to 2^30. Mtu: a multiple of 32 from 64 to 65,504. Initial id from -2147483646 up. Answers 0, or refuses 2 and writes nothing, not to
+ * 65,536 to 2^30. Mtu: a multiple of 32 from 64 to 65,504. Initial id: any; after 2147483647 comes
+ * -2147483648. Answers 0, or refuses 2 and writes nothing, not to
  * the record either. */
 int32_t logbuffer_open(struct logbuffer_record *rec, uint8_t *log, size_t log_length, int32_t term_length, int32_t mtu_length,
                        int32_t initial_term_id, int32_t session_id, int32_t stream_id);

@@ -45,7 +45,7 @@ impl Builder {
         self
     }
 
-    /// The first term's id, from -2147483646 up; 0 if not said.
+    /// The first term's id, any number; 0 if not said. After 2147483647 comes -2147483648.
     pub fn initial_term_id(mut self, initial_term_id: i32) -> Builder {
         self.initial_term_id = initial_term_id;
         self

@@ -67,11 +67,12 @@ pub fn position_bits_to_shift(term_length: u32) -> u32 {
     sys::position_bits_to_shift(term_length)
 }
 
-/// The position of an offset in a term: (term id - initial term id) × 2^bits + offset. Refuses more than 30 bits with
+/// The position of an offset in a term: its count × 2^bits + offset, the count being the term id less the initial one, wrapped. Refuses more than 30 bits with
 /// [`Error::IllegalArgument`].
 ///
 /// ```
 /// assert_eq!(logbuffer::descriptor::compute_position(9, 64, 16, 7), Ok(131_136));
+/// assert_eq!(logbuffer::descriptor::compute_position(i32::MIN, 64, 16, i32::MAX), Ok(65_600));
 /// ```
 pub fn compute_position(term_id: i32, offset: u32, bits: u32, initial_term_id: i32) -> Result<i64, Error> {
     let reply = sys::compute_position(term_id, offset, bits, initial_term_id);

@@ -27,7 +27,7 @@ impl World {
     fn new(seed: u64) -> World {
         let mut random = Random(seed);
         let mtu_length = [64, 96, 1_408, 65_504][random.below(4)];
-        let initial_term_id = [0, 7, -2_147_483_646, 2_147_483_600][random.below(4)];
+        let initial_term_id = [0, 7, i32::MIN, 2_147_483_646][random.below(4)];
         let log = Log::builder().term_length(TERM).mtu_length(mtu_length).initial_term_id(initial_term_id).session_id(11);
         World { log: log.open().unwrap(), random, written: Vec::new(), last: 0, drops: seed % 4 == 0 }
     }

@@ -33,8 +33,9 @@ fn illegal_record_2_at_opening() {
     for mtu_length in [0, 32, 97, 65_536, -64] {
         assert_eq!(Log::open(TERM, mtu_length, 7, 11, 22).err(), Some(Error::IllegalRecord));
     }
-    assert_eq!(Log::open(TERM, 96, -2_147_483_647, 11, 22).err(), Some(Error::IllegalRecord));
-    assert!(Log::open(TERM, 96, -2_147_483_646, 11, 22).is_ok());
+    for initial_term_id in [i32::MIN, -1, i32::MAX] {
+        assert!(Log::open(TERM, 96, initial_term_id, 11, 22).is_ok());
+    }
     assert_eq!(Log::builder().publication_limit(-1).open().err(), Some(Error::IllegalRecord));
 }
 
@@ -162,13 +163,30 @@ fn tail_overflow_11() {
 
 #[test]
 fn last_term_12() {
+    let mut log = made(|record, _| {
+        record.mtu_length = 65_504;
+        record.active_term_count = i32::MAX;
+        record.publication_limit = 1 << 62;
+        record.tails[1] = raw_tail(i64::from(7i32.wrapping_add(i32::MAX)), 32_768);
+    })
+    .unwrap();
+    assert_eq!(log.try_claim(65_472).err(), Some(Error::LastTerm));
+    assert_eq!(log.record().tails[1] & 0xffff_ffff, 32_768 + 65_504); // the tail stays moved
+}
+
+/// The largest term id is not the last: the season goes on at the lowest, and replays like any other.
+#[test]
+fn no_last_term_at_the_largest_id() {
     let mut log = Log::open(TERM, 96, i32::MAX, 11, 22).unwrap();
     log.set_publication_limit(1 << 40).unwrap();
     while log.position().unwrap() < i64::from(TERM) {
         log.offer(b"").unwrap();
     }
-    assert_eq!(log.offer(b""), Err(Error::LastTerm));
-    assert_eq!(log.record().tails[0] & 0xffff_ffff, i64::from(TERM) + 32); // the tail stays moved
+    assert_eq!(log.offer(b"over"), Err(Error::AdminAction));
+    assert_eq!(log.offer(b"over"), Ok(i64::from(TERM) + 64));
+    assert_eq!(log.record().tails[1] >> 32, i64::from(i32::MIN));
+    let last = log.replay().last().unwrap().unwrap();
+    assert_eq!(last, b"over");
 }
 
 #[test]
