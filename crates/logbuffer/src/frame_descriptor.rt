@@ -7,12 +7,14 @@ ghost use lib.ListN.{length, drop, getD};
 ghost use Rattle.model.specs.Bytes.{word, u16 as halfOf, u32 as wordOf};
 ghost use lib.Dec.{eqb};
 ghost use Rattle.model.specs.FrameDescriptor.{frameLength, isFinished, isWriting, lengthAt, frameAt, unsoundFrame, flagsAt, ends};
+ghost use Rattle.model.specs.DataFrameHeader.{headerAt};
 ghost use Rattle.model.specs.TermReader.{lengthCall};
 use crate::argument;
 use crate::cast;
 use crate::data_frame_header::FLAGS_FIELD_OFFSET;
 use crate::data_frame_header::HDR_TYPE_PAD;
 use crate::data_frame_header::HEADER_LENGTH;
+use crate::data_frame_header::TERM_ID_FIELD_OFFSET;
 use crate::data_frame_header::TYPE_FIELD_OFFSET;
 use crate::field;
 use model::Error;
@@ -104,7 +106,7 @@ fn frame_type(log: &[u8], at: usize) -> usize
 }
 
 // The length at any index, by its sign.
-pub(crate) fn length_at(log: &[u8], at: usize) -> FrameLength
+pub fn length_at(log: &[u8], at: usize) -> FrameLength
     ensures { λ r. ⌜ r ≡ lengthAt (drop at (now (log .entry))) ⌝ }
 {
     frame_length(cast::to_i32(length_word(log, at)))
@@ -204,4 +206,20 @@ pub fn flags_at(log: &[u8], at: usize) -> usize
     ensures { λ r. ⌜ r ≡ flagsAt (drop at (now (log .entry))) ⌝ }
 {
     byte_behind(log, at, FLAGS_FIELD_OFFSET)
+}
+
+// The 32 bits of the term id in the header at an index; bytes past the log's end count as 0.
+pub fn term_id_at(log: &[u8], at: usize) -> usize
+    ensures { λ r. ⌜ r ≡ headerAt (drop at (now (log .entry))) .id ⌝ }
+{
+    let n = log.len();
+    if n >= HEADER_LENGTH {
+        if at <= n - HEADER_LENGTH {
+            return field::word4(log, at + TERM_ID_FIELD_OFFSET);
+        }
+    }
+    byte_behind(log, at, 20)
+        + 256 * byte_behind(log, at, 21)
+        + 65536 * byte_behind(log, at, 22)
+        + 16777216 * byte_behind(log, at, 23)
 }

@@ -1,0 +1,156 @@
+-- Worked cases at the edges. Most are on a stream of short terms, since a step asks for no sound record; the last two are calls on a log of the least size.
+use mathlib.Core.Path.{_≡_, refl}
+use mathlib.Core.Bool.{true, false}
+use mathlib.Core.List.{List, [], _∷_, _++_}
+use Prim.Native.Nat.{ℕ}
+use lib.Count.{ones, onesIn}
+use lib.IntN.{pos, negsuc}
+use lib.ListN.{replicate}
+use Rattle.model.specs.declared.LogRecord.{LogRecord}
+use Rattle.model.specs.declared.Error.the-variants.{FrameTooShort, FramePastTerm}
+use Rattle.model.specs.declared.Frame.the-variants.{Padding, Data}
+use Rattle.model.specs.declared.Verdict.the-variants.{Pass, Refuse}
+use Rattle.model.specs.Bytes.{le4, u16, u32}
+use Rattle.model.specs.FrameDescriptor.{frameLength, frameAt, negated, unsoundFrame}
+use Rattle.model.specs.LogBufferDescriptor.{readingOf, soundRecord, sound}
+use Rattle.model.proofs.Cases.{recordAt}
+use Rattle.tally.specs.declared.step.Stop.the-variants.{Reached, Writing, Free, OtherTerm, PastSecond, UnsoundFrame}
+use Rattle.tally.specs.declared.Tallied.the-variants.{Tally, Refused}
+use Rattle.tally.specs.Walk.{Stream, streamOf, Passed, seen, ownId, met, walked, between, endOf, why}
+use Rattle.tally.specs.Span.{goodSpan, spanRows, firstFrame}
+use Rattle.tally.specs.Tally.{sum, sumsOf, tallyVerdict, tallyOf}
+
+-- ---- row 1: in order, at most three terms apart, exactly
+
+equal : goodSpan (pos 65536) (pos 8) (pos 8) ≡ true
+unfolding goodSpan
+equal = refl
+
+back : goodSpan (pos 65536) (pos 8) (pos 7) ≡ false
+unfolding goodSpan
+back = refl
+
+three-terms : goodSpan (pos 65536) (pos 32) (pos 196640) ≡ true
+unfolding goodSpan
+three-terms = refl
+
+three-and-one : goodSpan (pos 65536) (negsuc 0) (pos 196608) ≡ false
+unfolding goodSpan
+three-and-one = refl
+
+-- the difference of the least and the largest number is past 64 bits, and is exact
+farthest : goodSpan (pos 2147483647) (negsuc 9223372036854775807) (pos 9223372036854775807) ≡ false
+unfolding goodSpan
+farthest = refl
+
+-- no two numbers are at most three terms apart by a term length below zero; by one of zero only equal ones are
+below-zero : goodSpan (negsuc 0) (pos 8) (pos 8) ≡ false
+unfolding goodSpan
+below-zero = refl
+
+zero-term : goodSpan (pos 0) (pos 8) (pos 8) ≡ true
+unfolding goodSpan
+zero-term = refl
+
+-- ---- a stream of terms of 128 bytes
+
+-- a header with a length, a type and a term id, as far as the walk looks, and so many bytes of 0 behind the id
+abbrev frame : ℕ → ℕ → ℕ → ℕ → List ℕ
+frame length type id rest = le4 length ++ (0 ∷ 192 ∷ type ∷ 0 ∷ (replicate 12 0 ++ (le4 id ++ replicate rest 0)))
+
+-- In term 7 a message of 8 bytes and an aborted claim of 8; in term 8 an open claim of 10; in term 9 nothing.
+abbrev short : Stream
+short = record { term = 128; initial = 7; log = frame 40 1 7 40 ++ (frame 40 0 7 40 ++ (frame (negated 42) 1 8 104 ++ replicate 128 0)) }
+
+two : List Passed
+two = record { at = 0; frame = Data 40 } ∷ record { at = 64; frame = Padding 40 } ∷ []
+
+walks : between short 0 384 ≡ two
+unfolding met seen ownId frameAt frameLength u16 u32 le4 walked two
+walks = refl
+
+-- the slack is no body, and the aborted claim is padding, slack and all
+two-sums : sumsOf two ≡ record { body = 8; headers = 32; slack = 24; padding = 64 }
+unfolding sum two
+two-sums = refl
+
+two-end : endOf 0 two ≡ 128
+unfolding endOf two
+two-end = refl
+
+-- why it ended there, and where else it would end
+open-claim : why short 384 128 ≡ Writing 42
+unfolding why seen ownId frameAt frameLength u16 u32 le4
+open-claim = refl
+
+reached : why short 128 128 ≡ Reached
+unfolding why
+reached = refl
+
+free : why short 384 256 ≡ Free
+unfolding why seen ownId frameAt frameLength u16 u32 le4
+free = refl
+
+-- the aborted claim ends at 128
+one : List Passed
+one = record { at = 0; frame = Data 40 } ∷ []
+
+stops-before : between short 0 127 ≡ one
+unfolding met seen ownId frameAt frameLength u16 u32 le4 walked one
+stops-before = refl
+
+past-second : why short 127 64 ≡ PastSecond
+unfolding why seen ownId frameAt frameLength u16 u32 le4
+past-second = refl
+
+-- a whole log further the same frames are those of another term
+other-term : between short 384 512 ≡ []
+unfolding met seen ownId frameAt frameLength u16 u32 le4 walked
+other-term = refl
+
+other-id : why short 512 384 ≡ OtherTerm
+unfolding why seen ownId frameAt frameLength u16 u32 le4
+other-id = refl
+
+-- Ids wrap: behind the term of id -1 comes that of id 0.
+abbrev wrapping : Stream
+wrapping = record { term = 64; initial = 4294967295; log = replicate 64 0 ++ frame 64 1 0 104 }
+
+wraps : ownId wrapping 64 ≡ true
+unfolding ownId u32 le4
+wraps = refl
+
+-- ---- unsound frames: before the id and the second position, and only the first of a walk refuses
+
+abbrev unsound : Stream
+unsound = record { term = 128; initial = 7; log = frame 32 1 7 8 ++ (frame 5 1 8 40 ++ (frame 129 1 7 40 ++ replicate 256 0)) }
+
+first-refuses : firstFrame unsound 32 64 ≡ Refuse (FrameTooShort 32)
+unfolding firstFrame met seen ownId frameAt frameLength unsoundFrame u16 u32 le4
+first-refuses = refl
+
+past-term : firstFrame unsound 96 128 ≡ Refuse (FramePastTerm 96)
+unfolding firstFrame met seen ownId frameAt frameLength unsoundFrame u16 u32 le4
+past-term = refl
+
+equal-look-at-none : firstFrame unsound 32 32 ≡ Pass
+unfolding firstFrame met seen ownId frameAt frameLength unsoundFrame u16 u32 le4
+equal-look-at-none = refl
+
+later-stops : (firstFrame unsound 0 128 ≡ Pass) × (why unsound 128 32 ≡ UnsoundFrame)
+unfolding firstFrame why met seen ownId frameAt frameLength unsoundFrame u16 u32 le4
+later-stops = (refl, refl)
+
+-- ---- calls: term 65,536, mtu 96, initial id 7
+
+abbrev rec : LogRecord
+rec = recordAt (replicate 3 (pos 0)) (pos 7) 96 0 0 false
+
+walks-two : tallyOf rec (frame 40 1 7 40 ++ frame 40 0 7 196520) (pos 0) (pos 65536) ≡ Tally (record { body = 8; headers = 32; slack = 24; padding = 64 }) (pos 128) Free
+unfolding tallyOf tallyVerdict streamOf spanRows goodSpan firstFrame readingOf soundRecord sound ones onesIn met seen ownId frameAt frameLength u16 u32 le4 walked sum endOf why
+walks-two = refl
+
+-- length 5 with another term's id
+first-unsound : tallyOf rec (frame 5 1 8 196584) (pos 0) (pos 32) ≡ Refused (FrameTooShort 0)
+unfolding tallyOf tallyVerdict streamOf spanRows goodSpan firstFrame readingOf soundRecord sound ones onesIn met seen ownId frameAt frameLength unsoundFrame u16 u32 le4 walked sum endOf why
+first-unsound = refl
