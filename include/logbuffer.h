@@ -1,5 +1,5 @@
 /* The log buffer for C: an excavation's log as Aeron lays it out, each function proved equal to a definition in crates/model/specs, for
- * find cards in crates/card/specs, for finished terms on the shelf in crates/shelf/specs.
+ * find cards in crates/card/specs, for finished terms on the shelf in crates/shelf/specs, for the tally in crates/tally/specs.
  *
  *   rt staticlib capi                                             builds target/staticlib/libcapi.a (x86-64)
  *   cc -I include program.c target/staticlib/libcapi.a            links it; it needs nothing else
@@ -12,13 +12,13 @@
  * - `code` is 0, or the number of the refusal below. Where it is not 0 the other values of a reply are 0, and what was lent by a pointer
  *   is as it was, every byte of it, unless the refusal's line or the call's says otherwise. Only `rule` of an offer or a claim always stands.
  * - With 22 and 23 a reply tells the place of the frame, its offset in its term: in `offset` of a read, a scan, a gap scan and a block, in `outcome`
- *   of an availability scan, in `fragments` of a poll, in `position` of a peek, in `start` of the assembler and a replay, in `messages` of a batch
+ *   of an availability scan, in `fragments` of a poll, in `position` of a peek and a tally, in `start` of the assembler and a replay, in `messages` of a batch
  *   and of a count.
  *
  * Refusals, by number (docs/ERRORS.md says what to do about each)
  *    1  an argument is out of its range               10  message longer than payload limit and message limit
  *    2  the record or the log breaks its ranges       11  tail offset and need together over 2147483647
- *    3  the image's position is out of its range      12  tripped in the last term (tail and padding stay)
+ *    3  a reader's position is out of its range       12  tripped in the last term (tail and padding stay)
  *    4  claim longer than the payload limit           13  appender: the tail has another term id (the tail has moved)
  *    5  the publication is closed                     14  the header does not show the open claim
  *    6  tripped and rotated: call again (tail,        15  new position before the current one or past the term's end
@@ -133,6 +133,24 @@ enum { LOGBUFFER_CARD_MAX_LENGTH = 270 };
 
 /* The bytes that a finished term on the shelf has more than the term: its count of frames. */
 enum { LOGBUFFER_SHELF_COUNT_LENGTH = 4 };
+
+/* Where a log's bytes went: bodies, headers and slack of data frames; padding frames at their aligned length, aborted claims among them. */
+struct logbuffer_sums {
+    size_t body;
+    size_t headers; /* 32 for each data frame */
+    size_t slack;
+    size_t padding;
+};
+
+/* Why a tally ended where it did. */
+enum {
+    LOGBUFFER_STOP_REACHED = 0,     /* it came to the second position */
+    LOGBUFFER_STOP_WRITING = 1,     /* at a frame being written: a claim that is still open, or an offer that broke off */
+    LOGBUFFER_STOP_FREE = 2,        /* at a free place: nothing is written there yet */
+    LOGBUFFER_STOP_OTHER_TERM = 3,  /* at a frame of another term: an older one, or the reader has been overtaken */
+    LOGBUFFER_STOP_PAST_SECOND = 4, /* at a frame that would pass the second position, which is then no frame's boundary */
+    LOGBUFFER_STOP_UNSOUND = 5      /* at an unsound frame: a call from there refuses 22 or 23 and tells its place */
+};
 
 /* Where a message lies. */
 enum { LOGBUFFER_NOTHING = 0, LOGBUFFER_IN_LOG = 1, LOGBUFFER_IN_BUFFER = 2 };
@@ -312,6 +330,15 @@ struct logbuffer_card_read_reply {
     struct logbuffer_card card;
     size_t note_start;
     size_t note_length;
+};
+
+/* position is where the walk ended; writing is the size of a frame being written there, 32 more than its body, and else 0. */
+struct logbuffer_tally_reply {
+    int32_t code;
+    int32_t stop;
+    int64_t position;
+    size_t writing;
+    struct logbuffer_sums sums;
 };
 
 /* ---- opening, and calls on the record alone */
@@ -526,6 +553,14 @@ int32_t logbuffer_shelve(const struct logbuffer_record *rec, const uint8_t *log,
  * alone), 26 (a shelf of another length than the term's and 4, headers that are too many, too few or have no length that a frame can
  * have), and leaves out as it was. */
 int32_t logbuffer_unshelve(const struct logbuffer_record *rec, const uint8_t *shelf, size_t shelf_length, uint8_t *out, size_t out_length);
+
+/* ---- where a log's bytes went */
+
+/* Walks the frames from one position up to another, both boundaries of frames, and adds up where their bytes went. The walk ends at the second position, or
+ * before it at the first frame being written, free place, frame without its position's term id, frame that would pass the second position or
+ * unsound frame; the four sums are the distance walked. Equal positions look at no frame. Refuses 1 (positions not in order, or more than three terms
+ * apart), 2, 3 (either position), 22, 23 (the first frame). */
+struct logbuffer_tally_reply logbuffer_tally(const struct logbuffer_record *rec, const uint8_t *log, size_t log_length, int64_t from, int64_t to);
 
 #ifdef __cplusplus
 }

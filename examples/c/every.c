@@ -280,6 +280,35 @@ static void shelves(void) {
     SAY("unshelve", "code", logbuffer_unshelve(&rec, shelf, sizeof shelf, back, sizeof back - 1));
 }
 
+static void say_tally(struct logbuffer_tally_reply t) {
+    SAY("tally", "code stop position writing body headers slack padding", t.code, t.stop, t.position, t.writing, t.sums.body, t.sums.headers,
+        t.sums.slack, t.sums.padding);
+}
+
+/* A message, an aborted claim, a message in fragments, an open claim: from 0 to the term's end, to the aborted claim's end and into it, and from behind the
+ * open claim on; frames of another term; a length of 5 behind a frame and at the start; positions not in order and not on a boundary. */
+static void tallies(void) {
+    static const uint8_t message[100] = {7};
+    struct logbuffer_record rec;
+    logbuffer_open(&rec, second_log, sizeof second_log, TERM, 96, 7, 33, 44);
+    logbuffer_set_publication_limit(&rec, 2 * TERM);
+    logbuffer_offer(&rec, second_log, sizeof second_log, message, 5, 0);
+    struct logbuffer_claim_reply c = logbuffer_try_claim(&rec, second_log, sizeof second_log, 33);
+    logbuffer_abort(&rec, second_log, sizeof second_log, c.claim);
+    logbuffer_offer(&rec, second_log, sizeof second_log, message, 100, 0);
+    logbuffer_try_claim(&rec, second_log, sizeof second_log, 10);
+    say_tally(logbuffer_tally(&rec, second_log, sizeof second_log, 0, TERM));
+    say_tally(logbuffer_tally(&rec, second_log, sizeof second_log, 0, 160));
+    say_tally(logbuffer_tally(&rec, second_log, sizeof second_log, 0, 128));
+    say_tally(logbuffer_tally(&rec, second_log, sizeof second_log, 416, TERM));
+    say_tally(logbuffer_tally(&rec, second_log, sizeof second_log, 3 * TERM, 4 * TERM));
+    second_log[64] = 5;
+    say_tally(logbuffer_tally(&rec, second_log, sizeof second_log, 0, TERM));
+    say_tally(logbuffer_tally(&rec, second_log, sizeof second_log, 64, TERM));
+    say_tally(logbuffer_tally(&rec, second_log, sizeof second_log, 64, 32));
+    say_tally(logbuffer_tally(&rec, second_log, sizeof second_log, 0, 40));
+}
+
 int main(void) {
     numbers();
     struct logbuffer_record rec = written(), second = appended();
@@ -290,5 +319,6 @@ int main(void) {
     replays(rec);
     cards();
     shelves();
+    tallies();
     return 0;
 }

@@ -13,6 +13,7 @@ fn values_have_the_sizes_of_c() {
     assert_eq!(size_of::<Assembler>(), 200);
     assert_eq!(size_of::<Replay>(), 216);
     assert_eq!(size_of::<Card>(), 20);
+    assert_eq!(size_of::<Sums>(), 32);
 }
 
 #[test]
@@ -60,6 +61,7 @@ fn replies_have_the_sizes_of_c() {
     assert_eq!(size_of::<CountReply>(), 24);
     assert_eq!(size_of::<CardWriteReply>(), 16);
     assert_eq!(size_of::<CardReadReply>(), 40);
+    assert_eq!(size_of::<TallyReply>(), 56);
 }
 
 #[test]
@@ -79,4 +81,6 @@ fn fields_of_replies_have_the_offsets_of_c() {
     assert_eq!([offset_of!(NextReply, code), offset_of!(NextReply, place), offset_of!(NextReply, start)], [0, 4, 8]);
     assert_eq!([offset_of!(BatchReply, code), offset_of!(BatchReply, messages)], [0, 8]);
     assert_eq!([offset_of!(CardReadReply, card), offset_of!(CardReadReply, note_start)], [4, 24]);
+    assert_eq!([offset_of!(TallyReply, stop), offset_of!(TallyReply, position), offset_of!(TallyReply, sums)], [4, 8, 24]);
+    assert_eq!([offset_of!(Sums, headers), offset_of!(Sums, slack), offset_of!(Sums, padding)], [8, 16, 24]);
 }

@@ -24,6 +24,7 @@
 //!   [`Batch`] at a time.
 //! - [`Card`]: a find card, a message body of one format.
 //! - [`Log::shelve`], [`Record::unshelve`]: a finished term with all its headers together, and back.
+//! - [`Log::tally`]: where the bytes between two positions went, as a [`Tally`] that prints as a table.
 //! - [`Error`]: the refusals, with cause and remedy. [`Rule`]: which check decided an offer or a claim, with a line of advice. Refused by
 //!   [`Rule::TermRotated`] it is to be made again.
 //!
@@ -49,6 +50,7 @@ mod scan;
 mod shelf;
 #[allow(unsafe_code)]
 mod sys;
+mod tally;
 
 #[cfg(test)]
 mod layout;
@@ -64,3 +66,4 @@ pub use replay::{Batch, Count, Replay};
 pub use rule::Rule;
 pub use scan::{Availability, FrameLength, GapScan};
 pub use sys::{Header, Record};
+pub use tally::{Stop, Tally};

@@ -104,6 +104,15 @@ pub struct Card {
     pub weight: u32,
 }
 
+#[repr(C)]
+#[derive(Clone, Copy, Debug, PartialEq, Eq)]
+pub struct Sums {
+    pub body: usize,
+    pub headers: usize,
+    pub slack: usize,
+    pub padding: usize,
+}
+
 pub const IN_LOG: i32 = 1;
 pub const IN_BUFFER: i32 = 2;
 
@@ -144,6 +153,7 @@ replies! {
     CountReply { code: i32, messages: usize, bytes: usize }
     CardWriteReply { code: i32, length: usize }
     CardReadReply { code: i32, card: Card, note_start: usize, note_length: usize }
+    TallyReply { code: i32, stop: i32, position: i64, writing: usize, sums: Sums }
 }
 
 /// Functions of the face that take no slice.
@@ -269,6 +279,7 @@ mod face {
             rec: &Record, log: In, log_length: usize, partition: i32, out: Out, out_length: usize,
         ) -> i32;
         pub fn logbuffer_unshelve(rec: &Record, shelf: In, shelf_length: usize, out: Out, out_length: usize) -> i32;
+        pub fn logbuffer_tally(rec: &Record, log: In, log_length: usize, from: i64, to: i64) -> TallyReply;
     }
 }
 
@@ -550,4 +561,9 @@ pub fn shelve(rec: &Record, log: &[u8], partition: i32, out: &mut [u8]) -> i32 {
 pub fn unshelve(rec: &Record, shelf: &[u8], out: &mut [u8]) -> i32 {
     // SAFETY: pointers and lengths are those of the slices.
     unsafe { face::logbuffer_unshelve(rec, shelf.as_ptr(), shelf.len(), out.as_mut_ptr(), out.len()) }
+}
+
+pub fn tally(rec: &Record, log: &[u8], from: i64, to: i64) -> TallyReply {
+    // SAFETY: pointers and lengths are those of the slices.
+    unsafe { face::logbuffer_tally(rec, log.as_ptr(), log.len(), from, to) }
 }

@@ -3,3 +3,4 @@ pub mod Words
 pub mod Theorems
 pub mod Replies
 pub mod Cards
+pub mod Tallies

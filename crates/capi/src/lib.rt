@@ -7,5 +7,6 @@ mod reading;
 mod replays;
 mod replies;
 mod shelves;
+mod tallies;
 mod words;
 mod writing;

@@ -82,7 +82,7 @@ talliedBy s from to (Refuse e) = Refused e
 unfoldable pub tallyOf : LogRecord → List ℕ → ℤ → ℤ → Tallied
 tallyOf r log from to = talliedBy (streamOf r log) (long from) (long to) (tallyVerdict r log from to)
 
--- ---- the numbers of an answer: the four sums, the position, the reason's number, and the size of a frame being written
+-- ---- the numbers of an answer: the position where the walk ended, why by number, the size of a frame being written, and the four sums
 
 abbrev pub stopNumber : Stop → ℕ
 stopNumber Reached = 0
@@ -102,5 +102,5 @@ writingSize UnsoundFrame = 0
 
 abbrev pub tallyTold : Tallied → Told
 tallyTold (Tally s end stop) =
-    answered (pos (s .body) ∷ pos (s .headers) ∷ pos (s .slack) ∷ pos (s .padding) ∷ end ∷ pos (stopNumber stop) ∷ pos (writingSize stop) ∷ [])
+    answered (end ∷ pos (stopNumber stop) ∷ pos (writingSize stop) ∷ pos (s .body) ∷ pos (s .headers) ∷ pos (s .slack) ∷ pos (s .padding) ∷ [])
 tallyTold (Refused e) = refused e

@@ -1,0 +1,99 @@
+//! The tally: every reason for which a walk ends, over the end of a term and of the log, and the order of its refusals.
+
+mod common;
+
+use common::{log, made, put_frame, TERM};
+use logbuffer::{Error, Log, Place, Stop, Tally};
+
+const END: i64 = TERM as i64;
+
+fn tally(body: usize, headers: usize, slack: usize, padding: usize, end: i64, stop: Stop) -> Tally {
+    Tally { body, headers, slack, padding, end, stop }
+}
+
+/// A message of 5, an aborted claim of 33, a message of 100 in two frames, an open claim of 10.
+fn mixed() -> Log {
+    let mut log = log();
+    log.offer(&[1; 5]).unwrap();
+    log.try_claim(33).unwrap().abort().unwrap();
+    log.offer(&[2; 100]).unwrap();
+    let _open = log.try_claim(10).unwrap().into_open();
+    log
+}
+
+#[test]
+fn each_sum_has_its_own_meaning() {
+    let log = mixed();
+    assert_eq!(log.tally(0, END), Ok(tally(105, 96, 55, 96, 352, Stop::Writing(42))));
+    assert_eq!(log.tally(0, 352), Ok(tally(105, 96, 55, 96, 352, Stop::Reached)));
+    assert_eq!(log.tally(0, 160), Ok(tally(5, 32, 27, 96, 160, Stop::Reached)));
+    assert_eq!(log.tally(64, 160), Ok(tally(0, 0, 0, 96, 160, Stop::Reached)));
+    assert_eq!(log.tally(64, 128), Ok(tally(0, 0, 0, 0, 64, Stop::PastSecond)));
+    assert_eq!(log.tally(416, END), Ok(tally(0, 0, 0, 0, 416, Stop::Free)));
+    assert_eq!(log.tally(352, 352), Ok(tally(0, 0, 0, 0, 352, Stop::Reached)));
+}
+
+#[test]
+fn a_walk_goes_over_the_ends_of_terms_and_of_the_log() {
+    let mut log = log();
+    let (mut offered, mut messages) = (0, Vec::new());
+    while log.record().active_term_count < 4 {
+        match log.offer(&[3; 40]) {
+            Ok(position) => messages.push(position),
+            Err(error) => assert_eq!(error, Error::AdminAction),
+        }
+        offered += 1;
+    }
+    assert!(offered > messages.len());
+    let end = log.position().unwrap();
+    assert_eq!(end, 4 * END);
+    // 682 messages of 40 bytes fill a term but for 64 bytes, which are padding
+    let whole = tally(3 * 682 * 40, 3 * 682 * 32, 3 * 682 * 24, 3 * 64, end, Stop::Reached);
+    assert_eq!(log.tally(END, end), Ok(whole));
+    assert_eq!(log.tally(END, end + 32), Err(Error::IllegalArgument));
+    // the first term is overwritten
+    assert_eq!(log.tally(0, END), Ok(tally(0, 0, 0, 0, 0, Stop::OtherTerm)));
+    assert_eq!(log.tally(end, end + END), Ok(tally(0, 0, 0, 0, end, Stop::OtherTerm)));
+}
+
+#[test]
+fn an_unsound_frame_comes_before_its_id_and_refuses_only_first() {
+    let broken = |at: usize, length: i32| {
+        made(|_, bytes| {
+            put_frame(bytes, 0, 64, 0xc0, 11);
+            bytes[20] = 7;
+            put_frame(bytes, at, length, 0xc0, 11);
+        })
+        .unwrap()
+    };
+    let place = |offset| Place { partition: Some(0), offset };
+    assert_eq!(broken(64, 5).tally(0, END), Ok(tally(32, 32, 0, 0, 64, Stop::Unsound)));
+    assert_eq!(broken(64, 5).tally(64, 96), Err(Error::FrameTooShort(place(64))));
+    assert_eq!(broken(64, 70_000).tally(64, 96), Err(Error::FramePastTerm(place(64))));
+    assert_eq!(broken(64, 5).tally(64, 64), Ok(tally(0, 0, 0, 0, 64, Stop::Reached)));
+    assert_eq!(broken(64, 64).tally(64, 96), Ok(tally(0, 0, 0, 0, 64, Stop::OtherTerm)));
+}
+
+#[test]
+fn order_and_distance_come_first_and_then_the_positions() {
+    let log = log();
+    for (from, to) in [(32, 0), (8, 7), (0, 3 * END + 1), (i64::MIN, i64::MAX), (-1, 3 * END)] {
+        assert_eq!(log.tally(from, to), Err(Error::IllegalArgument), "{from} {to}");
+    }
+    let greatest = END << 31;
+    for (from, to) in [(8, 8), (0, 8), (-32, 0), (greatest, greatest + 32), (8, 8 + 3 * END), (i64::MIN, i64::MIN)] {
+        assert_eq!(log.tally(from, to), Err(Error::PositionOutOfRange), "{from} {to}");
+    }
+    assert_eq!(log.tally(greatest, greatest).unwrap().stop, Stop::Reached);
+    assert_eq!(log.tally(32, 32 + 3 * END).unwrap().stop, Stop::Free);
+}
+
+#[test]
+fn it_prints_as_a_table() {
+    let printed = mixed().tally(0, END).unwrap().to_string();
+    let rows: Vec<_> = printed.lines().collect();
+    assert_eq!(rows[0], "body                105");
+    assert_eq!(rows[4], "together            352");
+    assert_eq!(rows[5], "ended at position 352: a frame of 42 bytes being written");
+    assert!(rows[..5].iter().all(|row| row.len() == 23));
+}
