@@ -84,6 +84,15 @@ pub struct ScanReply {
 }
 
 #[repr(C)]
+pub struct TallyReply {
+    code: i32,
+    stop: i32,
+    position: i64,
+    writing: usize,
+    sums: [usize; 4],
+}
+
+#[repr(C)]
 pub struct GapReply {
     code: i32,
     is_gap: bool,
@@ -115,6 +124,7 @@ extern "C" {
     fn logbuffer_replay_count(rec: *const Record, log: *const u8, n: usize, buffer: *mut u8, b: usize, session: i32) -> CountReply;
     fn logbuffer_scan(rec: *const Record, log: *const u8, n: usize, partition: i32, offset: i32, limit: i32) -> ScanReply;
     fn logbuffer_scan_for_gap(rec: *const Record, log: *const u8, n: usize, partition: i32, id: i32, offset: i32, high: i32) -> GapReply;
+    fn logbuffer_tally(rec: *const Record, log: *const u8, n: usize, from: i64, to: i64) -> TallyReply;
     fn logbuffer_scan_for_availability(rec: *const Record, log: *const u8, n: usize, partition: i32, offset: i32, most: i32) -> AvailabilityReply;
 }
 
@@ -260,6 +270,13 @@ impl Log {
     pub fn scan(&self, limit: i32) -> usize {
         let reply = unsafe { logbuffer_scan(&self.record, self.bytes.as_ptr(), self.bytes.len(), 0, 0, limit) };
         reply.offset + reply.code as usize
+    }
+
+    /// All that the four sums add up to: where the walk came to, from 0.
+    pub fn tally(&self, to: i64) -> usize {
+        let reply = unsafe { logbuffer_tally(&self.record, self.bytes.as_ptr(), self.bytes.len(), 0, to) };
+        assert!(reply.code == 0 && reply.stop == 0);
+        reply.sums.iter().sum()
     }
 
     pub fn scan_for_gap(&self, high_mark: i32) -> usize {

@@ -1,5 +1,5 @@
 -- A position by the bits to shift: a term has at most 30 of them, so that all that is worked out of it fits; and the stream of a sound record.
-use mathlib.Core.Path.{_≡_, ap, ap₂, _∙_}
+use mathlib.Core.Path.{_≡_, sym, ap, ap₂, _∙_}
 use Prim.Native.Nat.{ℕ, _+_, _-_, _*_, _/_, _%_, _^_, _≤_, _<_, min}
 use mathlib.Core.Bool.{true}
 use mathlib.Core.List.{List}
@@ -8,7 +8,8 @@ use native.Mathlib.Nat.{mod-lt, mul-le-mul}
 use lib.Bits.{bitAnd, and-mask}
 use lib.Dec.{eqb}
 use lib.ListN.{drop}
-use lib.Pow.{pow-pos, pow-mono}
+use lib.Pow.{pow-pos, pow-mono, split}
+use lib.Pow.{high as pow-high, low as pow-low}
 use Rattle.model.specs.declared.LogRecord.{LogRecord}
 use Rattle.model.specs.Bytes.{word}
 use Rattle.model.specs.DataFrameHeader.{headerAt}
@@ -79,16 +80,56 @@ stream-is r log n bits i h e f =
     made : ℕ → ℕ → List ℕ → Stream
     made x y l = record { term = x; initial = y; log = l }
 
--- ---- what is read at a position's spot is what the walk sees there
+-- its numbers are small
+pub record Small (x : Spot) : Type 0 where
+  pub offset : x .offset < 1073741824
+  pub room : x .room ≤ 1073741824
+  pub index : x .index < 3221225472
 
--- an offset is below every term length
-pub offset-small : (bits p : ℕ) (x : Spot) → x ≡ spotOf (2 ^ min bits 30) p → x .offset < 1073741824
-offset-small bits p x e =
-    let o : x .offset ≡ p % 2 ^ min bits 30 = ap (λ (y : Spot). y .offset) e in
-    let b : p % 2 ^ min bits 30 < 2 ^ min bits 30 = mod-lt p (pow-pos (min bits 30)) in
+pub spot-small : (bits p : ℕ) (x : Spot) → x ≡ spotOf (2 ^ min bits 30) p → Small x
+spot-small bits p x e =
+    let t = 2 ^ min bits 30 in
+    let o : x .offset ≡ p % t = ap (λ (y : Spot). y .offset) e in
+    let i : x .index ≡ p / t % 3 * t + p % t = ap (λ (y : Spot). y .index) e in
+    let r : x .room ≡ t - p % t = ap (λ (y : Spot). y .room) e in
+    let b : p % t < t = mod-lt p (pow-pos (min bits 30)) in
     let m : min bits 30 ≤ 30 = omega arith in
-    let h : 2 ^ min bits 30 ≤ 1073741824 = pow-mono m in
-    omega arith
+    let h : t ≤ 1073741824 = pow-mono m in
+    let c : p / t % 3 ≤ 2 = omega arith in
+    let q : p / t % 3 * t ≤ 2147483648 = mul-le-mul c h in
+    record { offset = omega arith; room = omega arith; index = omega arith }
+
+-- ---- a spot further on in the same term
+
+module _ (k p n : ℕ) (h : p % 2 ^ k + n < 2 ^ k) where
+  sum-is : p + n ≡ p / 2 ^ k * 2 ^ k + (p % 2 ^ k + n)
+  sum-is = omega (arith, split p k)
+
+  same-count : (p + n) / 2 ^ k ≡ p / 2 ^ k
+  same-count = ap (λ (x : ℕ). x / 2 ^ k) sum-is ∙ pow-high (p / 2 ^ k) k h
+
+  more-offset : (p + n) % 2 ^ k ≡ p % 2 ^ k + n
+  more-offset = ap (λ (x : ℕ). x % 2 ^ k) sum-is ∙ pow-low (p / 2 ^ k) k h
+
+-- what the code works out of a spot, if less than the room behind it is passed
+abbrev pub passed : Spot → ℕ → Spot
+passed at n = record { count = at .count; offset = at .offset + n; index = at .index + n; room = at .room - n }
+
+pub same-term : (k p n : ℕ) (at : Spot) → at ≡ spotOf (2 ^ k) p → n < at .room → passed at n ≡ spotOf (2 ^ k) (p + n)
+same-term k p n at e h =
+    let t = 2 ^ k in
+    let r : at .room ≡ t - p % t = ap (λ (x : Spot). x .room) e in
+    let l : p % t + n < t = omega arith in
+    let c : (p + n) / t ≡ p / t = same-count k p n l in
+    let o : (p + n) % t ≡ p % t + n = more-offset k p n l in
+    ap (λ (x : Spot). passed x n) e
+    ∙ spotted (p / t) (p % t + n) (p / t % 3 * t + p % t + n) (t - p % t - n) (sym c) (sym o) (rw (c, o) (omega arith)) (rw o (omega arith))
+  where
+    spotted : (a b c d : ℕ) {a' b' c' d' : ℕ} → a ≡ a' → b ≡ b' → c ≡ c' → d ≡ d'
+        → _≡_ {A = Spot} (record { count = a; offset = b; index = c; room = d }) (record { count = a'; offset = b'; index = c'; room = d' })
+    spotted a b c d p q r s = cc
+
+-- ---- what is read at a position's spot is what the walk sees there
 
 module _ (bits i : ℕ) (log : List ℕ) (p : ℕ) (x : Spot) (e : x ≡ spotOf (2 ^ min bits 30) p) where
   pub sees : frameAt (drop (x .index) log) (x .room) ≡ seen (streamBy bits i log) p

@@ -50,7 +50,7 @@ fn cut(bits: u32) -> u32
     if bits < 30 { bits } else { 30 }
 }
 
-fn locate(bits: u32, p: usize) -> Spot
+pub(crate) fn locate(bits: u32, p: usize) -> Spot
     ensures { λ r. ⌜ r ≡ spotOf (2 ^ min bits 30) p ⌝ }
 {
     let shift = cut(bits);
@@ -63,6 +63,22 @@ fn locate(bits: u32, p: usize) -> Spot
         index: count % 3 * term + offset,
         room: term - offset,
     }
+}
+
+// The spot of the position that lies n bytes on. In the same term it is found by sums alone, so that a walk does not wait for a division.
+pub(crate) fn onward(bits: u32, p: usize, at: Spot, n: usize) -> Spot
+    requires { ⌜ (at ≡ spotOf (2 ^ min bits 30) p) × (p + n < 18446744073709551616) ⌝ }
+    ensures { λ r. ⌜ r ≡ spotOf (2 ^ min bits 30) (p + n) ⌝ }
+{
+    if n < at.room {
+        return Spot {
+            count: at.count,
+            offset: at.offset + n,
+            index: at.index + n,
+            room: at.room - n,
+        };
+    }
+    locate(bits, p + n)
 }
 
 // What a frame takes of the stream.
@@ -86,8 +102,9 @@ fn is_own(log: &[u8], index: usize, initial: i32, count: usize) -> bool
     frame_descriptor::term_id_at(log, index) == id
 }
 
-// What a walk up to `to` meets at p.
-pub fn meet(bits: u32, initial: i32, log: &[u8], to: usize, p: usize) -> Met
+// What a walk up to `to` meets at p, which lies at a spot.
+pub(crate) fn meet_at(bits: u32, initial: i32, log: &[u8], to: usize, p: usize, at: Spot) -> Met
+    requires { ⌜ at ≡ spotOf (2 ^ min bits 30) p ⌝ }
     ensures { λ r. ⌜ r ≡ metOf (streamBy bits (word initial) (now (log .entry))) to p ⌝ }
 {
     let nothing = Met {
@@ -97,7 +114,6 @@ pub fn meet(bits: u32, initial: i32, log: &[u8], to: usize, p: usize) -> Met
     if p >= to {
         return nothing;
     }
-    let at = locate(bits, p);
     let frame = frame_descriptor::frame_at(log, at.index, at.room);
     let n = size(frame);
     if n == 0 {
@@ -116,6 +132,13 @@ pub fn meet(bits: u32, initial: i32, log: &[u8], to: usize, p: usize) -> Met
         frame: frame,
         size: n,
     }
+}
+
+// What a walk up to `to` meets at p.
+pub fn meet(bits: u32, initial: i32, log: &[u8], to: usize, p: usize) -> Met
+    ensures { λ r. ⌜ r ≡ metOf (streamBy bits (word initial) (now (log .entry))) to p ⌝ }
+{
+    meet_at(bits, initial, log, to, p, locate(bits, p))
 }
 
 // Rows 22 and 23, of the first frame of a walk.

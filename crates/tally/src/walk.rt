@@ -64,13 +64,15 @@ pub(crate) fn between(bits: u32, initial: i32, log: &[u8], from: usize, to: usiz
         padding: 0,
     };
     let mut p = from;
+    let mut at = step::locate(bits, from);
     loop {
-        let met = step::meet(bits, initial, log, to, p);
+        let met = step::meet_at(bits, initial, log, to, p, at);
         let n = met.size;
         if n == 0 {
             break;
         }
         sums = plus(sums, share(met));
+        at = step::onward(bits, p, at, n);
         p += n;
     }
     Walked { sums: sums, end: p }

@@ -8,7 +8,7 @@ use Rattle.model.specs.FrameDescriptor.{isUnsound, unsoundFrame}
 use Rattle.tally.specs.declared.step.Met.{Met}
 use Rattle.tally.specs.declared.step.Spot.{Spot}
 use Rattle.tally.specs.Walk.{Stream, streamBy, met, metOf}
-use Rattle.tally.proofs.Spots.{offset-small}
+use Rattle.tally.proofs.Spots.{spot-small}
 use Rattle.tally.proofs.Reasons.{not-unsound, first-sound, first-unsound}
 use Rattle.tally.proofs.step.first_frame.Statement.{statement}
 use Rattle.tally.proofs.step.first_frame.Tie as tie
@@ -46,6 +46,6 @@ first-frame-spec =
     (search needs)
     returns
     (search needs)
-    (λ c. omega (arith, offset-small _ _ _ (c .before .locate .ensures)))
+    (λ c. omega (arith, spot-small _ _ _ (c .before .locate .ensures) .offset))
     (search needs)
     returns-2)
