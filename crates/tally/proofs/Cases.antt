@@ -16,7 +16,7 @@ use Rattle.model.specs.LogBufferDescriptor.{readingOf, soundRecord, sound}
 use Rattle.model.proofs.Cases.{recordAt}
 use Rattle.tally.specs.declared.step.Stop.the-variants.{Reached, Writing, Free, OtherTerm, PastSecond, UnsoundFrame}
 use Rattle.tally.specs.declared.Tallied.the-variants.{Tally, Refused}
-use Rattle.tally.specs.Walk.{Stream, streamOf, Passed, seen, ownId, met, walked, between, endOf, why}
+use Rattle.tally.specs.Walk.{Stream, streamOf, Passed, frameIn, ownId, met, walked, between, endOf, why}
 use Rattle.tally.specs.Span.{goodSpan, spanRows, firstFrame}
 use Rattle.tally.specs.Tally.{sum, sumsOf, tallyVerdict, tallyOf}
 
@@ -66,7 +66,7 @@ two : List Passed
 two = record { at = 0; frame = Data 40 } ∷ record { at = 64; frame = Padding 40 } ∷ []
 
 walks : between short 0 384 ≡ two
-unfolding met seen ownId frameAt frameLength u16 u32 le4 walked two
+unfolding met frameIn ownId frameAt frameLength u16 u32 le4 walked two
 walks = refl
 
 -- the slack is no body, and the aborted claim is padding, slack and all
@@ -80,7 +80,7 @@ two-end = refl
 
 -- why it ended there, and where else it would end
 open-claim : why short 384 128 ≡ Writing 42
-unfolding why seen ownId frameAt frameLength u16 u32 le4
+unfolding why frameIn ownId frameAt frameLength u16 u32 le4
 open-claim = refl
 
 reached : why short 128 128 ≡ Reached
@@ -88,7 +88,7 @@ unfolding why
 reached = refl
 
 free : why short 384 256 ≡ Free
-unfolding why seen ownId frameAt frameLength u16 u32 le4
+unfolding why frameIn ownId frameAt frameLength u16 u32 le4
 free = refl
 
 -- the aborted claim ends at 128
@@ -96,20 +96,20 @@ one : List Passed
 one = record { at = 0; frame = Data 40 } ∷ []
 
 stops-before : between short 0 127 ≡ one
-unfolding met seen ownId frameAt frameLength u16 u32 le4 walked one
+unfolding met frameIn ownId frameAt frameLength u16 u32 le4 walked one
 stops-before = refl
 
 past-second : why short 127 64 ≡ PastSecond
-unfolding why seen ownId frameAt frameLength u16 u32 le4
+unfolding why frameIn ownId frameAt frameLength u16 u32 le4
 past-second = refl
 
 -- a whole log further the same frames are those of another term
 other-term : between short 384 512 ≡ []
-unfolding met seen ownId frameAt frameLength u16 u32 le4 walked
+unfolding met frameIn ownId frameAt frameLength u16 u32 le4 walked
 other-term = refl
 
 other-id : why short 512 384 ≡ OtherTerm
-unfolding why seen ownId frameAt frameLength u16 u32 le4
+unfolding why frameIn ownId frameAt frameLength u16 u32 le4
 other-id = refl
 
 -- Ids wrap: behind the term of id -1 comes that of id 0.
@@ -125,20 +125,20 @@ wraps = refl
 abbrev unsound : Stream
 unsound = record { term = 128; initial = 7; log = frame 32 1 7 8 ++ (frame 5 1 8 40 ++ (frame 129 1 7 40 ++ replicate 256 0)) }
 
-first-refuses : firstFrame unsound 32 64 ≡ Refuse (FrameTooShort 32)
-unfolding firstFrame met seen ownId frameAt frameLength unsoundFrame u16 u32 le4
+first-refuses : firstFrame 128 (unsound .log) 32 64 ≡ Refuse (FrameTooShort 32)
+unfolding firstFrame met frameIn ownId frameAt frameLength unsoundFrame u16 u32 le4
 first-refuses = refl
 
-past-term : firstFrame unsound 96 128 ≡ Refuse (FramePastTerm 96)
-unfolding firstFrame met seen ownId frameAt frameLength unsoundFrame u16 u32 le4
+past-term : firstFrame 128 (unsound .log) 96 128 ≡ Refuse (FramePastTerm 96)
+unfolding firstFrame met frameIn ownId frameAt frameLength unsoundFrame u16 u32 le4
 past-term = refl
 
-equal-look-at-none : firstFrame unsound 32 32 ≡ Pass
-unfolding firstFrame met seen ownId frameAt frameLength unsoundFrame u16 u32 le4
+equal-look-at-none : firstFrame 128 (unsound .log) 32 32 ≡ Pass
+unfolding firstFrame met frameIn ownId frameAt frameLength unsoundFrame u16 u32 le4
 equal-look-at-none = refl
 
-later-stops : (firstFrame unsound 0 128 ≡ Pass) × (why unsound 128 32 ≡ UnsoundFrame)
-unfolding firstFrame why met seen ownId frameAt frameLength unsoundFrame u16 u32 le4
+later-stops : (firstFrame 128 (unsound .log) 0 128 ≡ Pass) × (why unsound 128 32 ≡ UnsoundFrame)
+unfolding firstFrame why met frameIn ownId frameAt frameLength unsoundFrame u16 u32 le4
 later-stops = (refl, refl)
 
 -- ---- calls: term 65,536, mtu 96, initial id 7
@@ -147,10 +147,10 @@ abbrev rec : LogRecord
 rec = recordAt (replicate 3 (pos 0)) (pos 7) 96 0 0 false
 
 walks-two : tallyOf rec (frame 40 1 7 40 ++ frame 40 0 7 196520) (pos 0) (pos 65536) ≡ Tally (record { body = 8; headers = 32; slack = 24; padding = 64 }) (pos 128) Free
-unfolding tallyOf tallyVerdict streamOf spanRows goodSpan firstFrame readingOf soundRecord sound ones onesIn met seen ownId frameAt frameLength u16 u32 le4 walked sum endOf why
+unfolding tallyOf tallyVerdict streamOf spanRows goodSpan firstFrame readingOf soundRecord sound ones onesIn met frameIn ownId frameAt frameLength u16 u32 le4 walked sum endOf why
 walks-two = refl
 
 -- length 5 with another term's id
 first-unsound : tallyOf rec (frame 5 1 8 196584) (pos 0) (pos 32) ≡ Refused (FrameTooShort 0)
-unfolding tallyOf tallyVerdict streamOf spanRows goodSpan firstFrame readingOf soundRecord sound ones onesIn met seen ownId frameAt frameLength unsoundFrame u16 u32 le4 walked sum endOf why
+unfolding tallyOf tallyVerdict streamOf spanRows goodSpan firstFrame readingOf soundRecord sound ones onesIn met frameIn ownId frameAt frameLength unsoundFrame u16 u32 le4 walked sum endOf why
 first-unsound = refl

@@ -1,15 +1,14 @@
 -- Why a walk ended, and the refusal of its first frame, by what was read at the place.
 use mathlib.Core.Path.{_≡_, refl, sym, ap, _∙_}
-use mathlib.Core.Bool.{Bool, true, false, cond, _&&_, _||_}
-use Prim.Native.Nat.{ℕ, _+_, _*_, _%_}
+use mathlib.Core.Bool.{Bool, false}
+use Prim.Native.Nat.{ℕ, _*_, _%_, _≤_, _<_}
 use mathlib.Core.Logic.{⊎-elim}
-use mathlib.Core.List.{[], _∷_}
+use mathlib.Core.List.{List, [], _∷_}
 use native.Mathlib.Omega.{arith}
-use borrow.Author.Tests.{eq-eqb, ne-eqb}
+use borrow.Author.Tests.{lt-ltb, le-ltb, eq-eqb, ne-eqb}
 use types.Run.{OneOf}
 use denote.Enum.Declared.{tagOf}
 use Rattle.model.proofs.Frame.{the-type}
-use lib.Dec.{leb, ltb}
 use Rattle.model.specs.declared.FrameLength.{FrameLength}
 use Rattle.model.specs.declared.Frame.{Frame}
 use Rattle.model.specs.declared.Frame.the-variants.{Absent, Unsound, Padding, Data}
@@ -18,7 +17,7 @@ use Rattle.model.specs.FrameDescriptor.{lengthAt, isUnsound, unsoundFrame}
 use Rattle.model.specs.LogBufferDescriptor.{partitionOf}
 use Rattle.model.proofs.FrameLaws.{unsound-refusal}
 use Rattle.tally.specs.declared.step.Stop.the-variants.{Reached}
-use Rattle.tally.specs.Walk.{Stream, bytesAt, seen, ownId, size, met, whyBy, why}
+use Rattle.tally.specs.Walk.{Stream, bytesAt, frameIn, seen, ownId, whyBy, why}
 use Rattle.tally.specs.Span.{firstFrame}
 
 -- a frame by a match that has left the unsound ones behind
@@ -37,21 +36,15 @@ module _ (s : Stream) (to p : ℕ) where
   unfolding why
   why-by l u o n el eu eo = rw (ne-eqb p to n, el, eu, eo)
 
-module _ (s : Stream) (from to : ℕ) where
-  pub first-sound : isUnsound (met s to from) ≡ false → Pass ≡ firstFrame s from to
+module _ (term : ℕ) (log : List ℕ) (from to : ℕ) where
+  pub first-none : to ≤ from → Pass ≡ firstFrame term log from to
   unfolding firstFrame
-  first-sound h = rw h
+  first-none h = rw (le-ltb from to h)
 
-  -- only a frame that is seen is met
-  seen-unsound : (n : ℕ) → met s to from ≡ Unsound n → seen s from ≡ Unsound n
-  unfolding met
-  seen-unsound n e = go (ltb from to && (isUnsound (seen s from) || (ownId s from && leb (from + size (seen s from)) to))) e
-    where
-      go : (b : Bool) → cond b (seen s from) Absent ≡ Unsound n → seen s from ≡ Unsound n
-      go true q = q
-      go false q = let z : _≡_ {A = Frame} Absent (Unsound n) = q in cc
+  pub first-sound : from < to → isUnsound (frameIn term log from) ≡ false → Pass ≡ firstFrame term log from to
+  unfolding firstFrame
+  first-sound h e = rw (lt-ltb from to h, e)
 
-  pub first-unsound : (n : ℕ) → met s to from ≡ Unsound n → Refuse (unsoundFrame n (from % s .term)) ≡ firstFrame s from to
-  unfolding firstFrame seen
-  first-unsound n e =
-      rw e (ap Refuse (unsound-refusal (s .log) (partitionOf from (s .term) * s .term) (s .term) (from % s .term) n (seen-unsound n e)))
+  pub first-unsound : (n : ℕ) → from < to → frameIn term log from ≡ Unsound n → Refuse (unsoundFrame n (from % term)) ≡ firstFrame term log from to
+  unfolding firstFrame frameIn
+  first-unsound n h e = rw (lt-ltb from to h, e) (ap Refuse (unsound-refusal log (partitionOf from term * term) term (from % term) n e))

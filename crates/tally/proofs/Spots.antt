@@ -18,7 +18,7 @@ use Rattle.model.specs.LogBufferDescriptor.{reading, readingOf, bitsToShift, so
 use Rattle.model.proofs.Power.{power, shift-high}
 use Rattle.model.proofs.Sound.{sound-true}
 use Rattle.tally.specs.declared.step.Spot.{Spot}
-use Rattle.tally.specs.Walk.{Stream, streamOf, streamBy, bytesAt, seen, ownId}
+use Rattle.tally.specs.Walk.{Stream, streamOf, streamBy, bytesAt, frameIn, seen, ownId}
 use Rattle.tally.specs.Within.{spotOf}
 
 -- the term that some bits give
@@ -64,18 +64,20 @@ module _ (shift bits : ℕ) (e : shift ≡ min bits 30) where
       counted n = let t = 2 ^ min bits 30 in record { count = p / 2 ^ n; offset = p % t; index = p / 2 ^ n % 3 * t + p % t; room = t - p % t }
 
 -- the stream of a record that is sound, by the bits of its term length
-pub stream-is : (r : LogRecord) (log : List ℕ) (n bits i : ℕ) → sound (reading r) n ≡ true → bits ≡ bitsToShift (word (r .«term_length»)) → i ≡ word (r .«initial_term_id»)
-    → streamBy bits i log ≡ streamOf r log
-unfolding streamBy streamOf readingOf
-stream-is r log n bits i h e f =
+pub term-is : (r : LogRecord) (n bits : ℕ) → sound (reading r) n ≡ true → bits ≡ bitsToShift (word (r .«term_length»)) → 2 ^ min bits 30 ≡ reading r .term
+unfolding readingOf
+term-is r n bits h e =
     let t = word (r .«term_length») in
     let k = sound-true (reading r) n h in
     let high : t ≤ 1073741824 = k .term-high in
     let q : 2 ^ bitsToShift t ≡ t = power 32 t (omega (arith, high)) (k .one-bit) in
     let b : bitsToShift t ≤ 30 = shift-high (bitsToShift t) t q high in
     let m : min bits 30 ≡ bitsToShift t = omega (arith, e, b) in
-    let w : 2 ^ min bits 30 ≡ t = ap (λ (x : ℕ). 2 ^ x) m ∙ q in
-    ap₂ (λ (x y : ℕ). made x y log) w f
+    ap (λ (x : ℕ). 2 ^ x) m ∙ q
+
+pub stream-is : (r : LogRecord) (log : List ℕ) (bits i : ℕ) → 2 ^ min bits 30 ≡ reading r .term → i ≡ word (r .«initial_term_id») → streamBy bits i log ≡ streamOf r log
+unfolding streamBy streamOf
+stream-is r log bits i e f = ap₂ (λ (x y : ℕ). made x y log) e f
   where
     made : ℕ → ℕ → List ℕ → Stream
     made x y l = record { term = x; initial = y; log = l }
@@ -132,9 +134,13 @@ same-term k p n at e h =
 -- ---- what is read at a position's spot is what the walk sees there
 
 module _ (bits i : ℕ) (log : List ℕ) (p : ℕ) (x : Spot) (e : x ≡ spotOf (2 ^ min bits 30) p) where
+  pub frames : frameAt (drop (x .index) log) (x .room) ≡ frameIn (2 ^ min bits 30) log p
+  unfolding frameIn
+  frames = ap (λ (y : Spot). frameAt (drop (y .index) log) (y .room)) e
+
   pub sees : frameAt (drop (x .index) log) (x .room) ≡ seen (streamBy bits i log) p
-  unfolding seen streamBy
-  sees = ap (λ (y : Spot). frameAt (drop (y .index) log) (y .room)) e
+  unfolding streamBy
+  sees = frames
 
   pub owns : eqb (headerAt (drop (x .index) log) .id) ((i + x .count) % 4294967296) ≡ ownId (streamBy bits i log) p
   unfolding ownId streamBy

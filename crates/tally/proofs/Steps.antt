@@ -11,7 +11,7 @@ use Rattle.model.specs.declared.Frame.the-variants.{Absent, Unsound, Padding, D
 use Rattle.model.specs.FrameDescriptor.{align, isUnsound}
 use Rattle.model.proofs.FrameLaws.{Lies, lies, isFrame, lengthOf}
 use Rattle.model.proofs.Both.{and-true, both-true, test}
-use Rattle.tally.specs.Walk.{Stream, seen, ownId, size, met, Passed, walked}
+use Rattle.tally.specs.Walk.{Stream, frameIn, seen, ownId, size, met, Passed, walked}
 
 -- a frame that is passed is a padding or a data frame
 pub is-frame : (x : Frame) → (size x ≡ 0 → ⊥) → isFrame x ≡ true
@@ -61,9 +61,19 @@ kept-not (Padding n) false b e f = refl
 kept-not (Data n) true b e f = rw e
 kept-not (Data n) false b e f = refl
 
+kept-unsound : (x : Frame) (l b : Bool) → isUnsound (kept x l b) ≡ (l && isUnsound x)
+kept-unsound x false b = refl
+kept-unsound Absent true true = refl
+kept-unsound Absent true false = refl
+kept-unsound (Unsound n) true b = refl
+kept-unsound (Padding n) true true = refl
+kept-unsound (Padding n) true false = refl
+kept-unsound (Data n) true true = refl
+kept-unsound (Data n) true false = refl
+
 module _ (s : Stream) (p : ℕ) where
   pub seen-lies : isFrame (seen s p) ≡ true → Lies (lengthOf (seen s p)) (s .term - p % s .term)
-  unfolding seen
+  unfolding frameIn
   seen-lies f = lies _ _ (seen s p) refl f
 
   pub seen-small : lengthOf (seen s p) < 2147483648
@@ -134,6 +144,11 @@ module _ (s : Stream) (p : ℕ) where
   pub met-past : (to : ℕ) → isFrame (seen s p) ≡ true → ownId s p ≡ true → to < p + size (seen s p) → Absent ≡ met s to p
   unfolding met
   met-past to f o h = kept-not (seen s p) (ltb p to) _ (rw (o, lt-leb (p + size (seen s p)) to h)) f
+
+  -- it meets an unsound frame wherever it looks at one
+  pub met-unsound : (to : ℕ) → isUnsound (met s to p) ≡ (ltb p to && isUnsound (seen s p))
+  unfolding met
+  met-unsound to = kept-unsound (seen s p) (ltb p to) (ownId s p && leb (p + size (seen s p)) to)
 
   pub no-fuel : (to : ℕ) → walked zero s to p ≡ []
   unfolding walked

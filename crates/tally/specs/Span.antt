@@ -3,8 +3,8 @@ use Prim.Native.Nat.{ℕ, _*_, _%_}
 use mathlib.Core.Bool.{Bool, cond, _&&_}
 use mathlib.Core.List.{List}
 use lib.IntN.{ℤ, pos, _-ℤ_, _*ℤ_}
+use lib.Dec.{ltb}
 use lib.Signed.{leZ}
-use lib.ListN.{length}
 use Rattle.model.specs.declared.LogRecord.{LogRecord}
 use Rattle.model.specs.declared.Error.the-variants.{PositionOutOfRange}
 use Rattle.model.specs.declared.Verdict.{Verdict}
@@ -13,7 +13,7 @@ use Rattle.model.specs.Bytes.{long}
 use Rattle.model.specs.FrameDescriptor.{isUnsound, unsoundFrameAt}
 use Rattle.model.specs.LogBufferDescriptor.{partitionOf, reading, sound, firstRows, frameRow}
 use Rattle.model.specs.Image.{goodPosition}
-use Rattle.tally.specs.Walk.{Stream, met}
+use Rattle.tally.specs.Walk.{frameIn}
 
 -- row 1: in order, and at most three terms apart, by the term length that the record holds, sound or not
 unfoldable pub goodSpan : ℤ → ℤ → ℤ → Bool
@@ -25,7 +25,7 @@ spanRows r n from to rest =
     firstRows (goodSpan (r .«term_length») from to) (sound (reading r) n)
     (cond (goodPosition (reading r) (long from) && goodPosition (reading r) (long to)) rest (Refuse PositionOutOfRange))
 
--- 22 or 23: the first frame of the whole walk is unsound. Its place is its offset in its term.
-unfoldable pub firstFrame : Stream → ℕ → ℕ → Verdict
-firstFrame s from to =
-    frameRow (isUnsound (met s to from)) (unsoundFrameAt (s .log) (partitionOf from (s .term) * s .term) (from % s .term))
+-- 22 or 23: the first frame of the whole walk is looked at and is unsound. Its place is its offset in its term.
+unfoldable pub firstFrame : ℕ → List ℕ → ℕ → ℕ → Verdict
+firstFrame term log from to =
+    frameRow (ltb from to && isUnsound (frameIn term log from)) (unsoundFrameAt log (partitionOf from term * term) (from % term))

@@ -12,6 +12,7 @@ use Rattle.model.specs.declared.Frame.the-variants.{Absent, Unsound, Padding, D
 use Rattle.model.specs.Answers.{Told, answered, refused}
 use Rattle.model.specs.Bytes.{long}
 use Rattle.model.specs.FrameDescriptor.{align}
+use Rattle.model.specs.LogBufferDescriptor.{reading}
 use Rattle.tally.specs.declared.step.Stop.{Stop}
 use Rattle.tally.specs.declared.step.Stop.the-variants.{Reached, Writing, Free, OtherTerm, PastSecond, UnsoundFrame}
 use Rattle.tally.specs.declared.Sums.{Sums}
@@ -72,7 +73,7 @@ total s = s .body + s .headers + s .slack + s .padding
 -- ---- tally: record, log, two positions
 
 unfoldable pub tallyVerdict : LogRecord → List ℕ → ℤ → ℤ → Verdict
-tallyVerdict r log from to = spanRows r (length log) from to (firstFrame (streamOf r log) (long from) (long to))
+tallyVerdict r log from to = spanRows r (length log) from to (firstFrame (reading r .term) log (long from) (long to))
 
 -- the sums over the frames passed, where the walk from a position up to another ended, and why
 abbrev pub talliedBy : Stream → ℕ → ℕ → Verdict → Tallied

@@ -42,8 +42,11 @@ abbrev pub bytesAt : Stream → ℕ → List ℕ
 bytesAt s p = drop (placeAt (s .term) p) (s .log)
 
 -- the frame there, as every reader sees it
-unfoldable pub seen : Stream → ℕ → Frame
-seen s p = frameAt (bytesAt s p) (s .term - p % s .term)
+unfoldable pub frameIn : ℕ → List ℕ → ℕ → Frame
+frameIn term log p = frameAt (drop (placeAt term p) log) (term - p % term)
+
+abbrev pub seen : Stream → ℕ → Frame
+seen s p = frameIn (s .term) (s .log) p
 
 -- it has the id of its position's term, where ids wrap
 unfoldable pub ownId : Stream → ℕ → Bool

@@ -41,7 +41,7 @@ pub fn tally(rec: LogRecord, log: &[u8], from: i64, to: i64) -> Tallied
             let initial = rec.initial_term_id;
             let start = cast::long(from);
             let end = cast::long(to);
-            match step::first_frame(bits, initial, log, start, end) {
+            match step::first_frame(bits, log, start, end) {
                 Verdict::Refuse(e) => Tallied::Refused(e),
                 Verdict::Pass => {
                     let w = walk::between(bits, initial, log, start, end);

@@ -142,15 +142,17 @@ pub fn meet(bits: u32, initial: i32, log: &[u8], to: usize, p: usize) -> Met
 }
 
 // Rows 22 and 23, of the first frame of a walk.
-pub fn first_frame(bits: u32, initial: i32, log: &[u8], from: usize, to: usize) -> Verdict
-    ensures { λ r. ⌜ r ≡ firstFrame (streamBy bits (word initial) (now (log .entry))) from to ⌝ }
+pub fn first_frame(bits: u32, log: &[u8], from: usize, to: usize) -> Verdict
+    ensures { λ r. ⌜ r ≡ firstFrame (2 ^ min bits 30) (now (log .entry)) from to ⌝ }
 {
-    let met = meet(bits, initial, log, to, from);
-    let frame = met.frame;
+    if from >= to {
+        return Verdict::Pass;
+    }
+    let at = locate(bits, from);
+    let frame = frame_descriptor::frame_at(log, at.index, at.room);
     let Frame::Unsound(n) = frame else {
         return Verdict::Pass;
     };
-    let at = locate(bits, from);
     Verdict::Refuse(frame_descriptor::unsound_frame(n, at.offset as u32))
 }
 

@@ -1,6 +1,6 @@
 -- The rows, the first frame, the walk, and why it ended: the answer by `tally-by`.
 use mathlib.Core.Path.{_≡_, refl, sym, ap, _∙_}
-use Prim.Native.Nat.{ℕ, _-_, _≤_, _<_}
+use Prim.Native.Nat.{ℕ, _-_, _^_, _≤_, _<_, min}
 use native.Mathlib.Omega.{arith}
 use borrow.Author.Needs.{needs}
 use lib.ListN.{length}
@@ -11,7 +11,7 @@ use mir.Val.{SFits, toZ}
 use Rattle.model.specs.declared.Verdict.{Verdict}
 use Rattle.model.specs.declared.Verdict.the-variants.{Pass, Refuse}
 use Rattle.model.specs.Bytes.{word, long}
-use Rattle.model.specs.LogBufferDescriptor.{bitsToShift}
+use Rattle.model.specs.LogBufferDescriptor.{reading, bitsToShift}
 use Rattle.logbuffer.proofs.Signed.{long-by}
 use Rattle.tally.specs.declared.step.Stop.{Stop}
 use Rattle.tally.specs.declared.walk.Walked.{Walked}
@@ -21,7 +21,7 @@ use Rattle.tally.specs.Span.{spanRows, firstFrame}
 use Rattle.tally.specs.Tally.{talliedBy, tallyOf}
 use Rattle.tally.specs.Within.{walkOf}
 use Rattle.tally.proofs.Adding.{end-within}
-use Rattle.tally.proofs.Spots.{stream-is}
+use Rattle.tally.proofs.Spots.{term-is, stream-is}
 use Rattle.tally.proofs.Spans.{after, Spanned, span-pass}
 use Rattle.tally.proofs.Answering.{tally-by}
 use Rattle.tally.proofs.tally.Statement.{statement}
@@ -56,15 +56,23 @@ passed c = sym (c .before .before .before .before .before .before .enum-told .gi
 spanned : (c : tie.After-long2) → let a = st c .args in Spanned (a .rec) (length (a .log .now)) (a .from) (a .to)
 spanned c = let a = st c .args in span-pass (a .rec) (length (a .log .now)) (a .from) (a .to) (st c .fits .from) (st c .fits .to) (passed c)
 
-streams : (c : tie.After-long2) → stream c ≡ streamOf (st c .args .rec) (st c .args .log .now)
-streams c =
+abbrev term : tie.After-long2 → ℕ
+term c = 2 ^ min (c .before .before .before .position-bits-to-shift .result) 30
+
+terms : (c : tie.After-long2) → term c ≡ reading (st c .args .rec) .term
+terms c =
     let b = c .before .before .before in
     let a = st c .args in
     let w : b .before .word .result ≡ word (a .rec .«term_length») = b .before .word .ensures .0 ∙ search needs in
-    stream-is (a .rec) (a .log .now) (length (a .log .now)) (b .position-bits-to-shift .result) _ (spanned c .sound) (b .position-bits-to-shift .ensures ∙ ap bitsToShift w) refl
+    term-is (a .rec) (length (a .log .now)) (b .position-bits-to-shift .result) (spanned c .sound) (b .position-bits-to-shift .ensures ∙ ap bitsToShift w)
 
-first : (c : tie.After-first-frame) → let l = c .before in c .first-frame .result ≡ firstFrame (stream l) (start l) (l .long2 .result)
-first c = c .first-frame .ensures ∙ search needs
+streams : (c : tie.After-long2) → stream c ≡ streamOf (st c .args .rec) (st c .args .log .now)
+streams c =
+    let a = st c .args in
+    stream-is (a .rec) (a .log .now) (c .before .before .before .position-bits-to-shift .result) (word (a .rec .«initial_term_id»)) (terms c) refl
+
+first : (c : tie.After-first-frame) → let l = c .before in c .first-frame .result ≡ firstFrame (term l) (st l .args .log .now) (start l) (l .long2 .result)
+first c = c .first-frame .ensures
 
 -- the answer, by the two verdicts
 answer : (c : tie.After-first-frame) (x y : Verdict) → let l = c .before in let a = st l .args in judged l .rows .result ≡ x → c .first-frame .result ≡ y
@@ -72,13 +80,13 @@ answer : (c : tie.After-first-frame) (x y : Verdict) → let l = c .before in le
 answer c x y ex ey =
     let l = c .before in
     let a = st l .args in
-    tally-by (a .rec) (a .log .now) (a .from) (a .to) (stream l) (start l) (l .long2 .result) (streams l) (start-is l) (end-is l) x y (sym ex ∙ rows (judged l)) (sym ey ∙ first c)
+    tally-by (a .rec) (a .log .now) (a .from) (a .to) (stream l) (term l) (start l) (l .long2 .result) (streams l) (terms l) (start-is l) (end-is l) x y (sym ex ∙ rows (judged l)) (sym ey ∙ first c)
 
 returns : tie.Need-returns
 returns c =
     let p = c .before .before .before in
     let a = p .before .before .args in
-    tally-by (a .rec) (a .log .now) (a .from) (a .to) (streamOf (a .rec) (a .log .now)) _ _ refl refl refl (Refuse (c .before .e .given .0 .0)) _ (sym (c .before .e .given .1) ∙ rows p) refl
+    tally-by (a .rec) (a .log .now) (a .from) (a .to) (streamOf (a .rec) (a .log .now)) _ _ _ refl refl refl refl (Refuse (c .before .e .given .0 .0)) _ (sym (c .before .e .given .1) ∙ rows p) refl
 
 returns-2 : tie.Need-returns-2
 returns-2 c = let f = c .before .before .before in answer f Pass _ (f .before .before .before .before .before .before .before .enum-told .given .1) (c .before .e2 .given .1)
