@@ -80,8 +80,8 @@ refusals! {
         "the record or the log breaks its ranges"
         "the record is not one that the last call answered, or the slice is not three terms long: go back to the last good record"
     3 PositionOutOfRange
-        "the image's position is negative, over the greatest, or not a multiple of 32"
-        "make a new image at a position that a reader answered"
+        "the image's position, or one of a tally, is negative, over the greatest, or not a multiple of 32"
+        "make a new image at a position that a reader answered; tally between such positions"
     4 ExceedsMaxPayloadLength
         "claim longer than the payload limit, mtu - 32"
         "offer the message instead, which cuts it into fragments"
