@@ -286,6 +286,10 @@ module _ (log : List ℕ) (term mtu initial session stream : ℤ) (fresh : openO
     pub usual : AllUsual (answers w₀ calls)
     usual = ran .usual
 
+    -- the log that they leave holds their history, and each answered position is an end in it
+    pub kept : ((ks : List Claim) × Inv (shape w₀) (left w₀ calls) (history w₀ calls) ks) × Ends (shape w₀) [] (answers w₀ calls)
+    kept = ((later [] (answers w₀ calls), ran .inv), ran .ends)
+
 -- ---- a log that the invariant holds of replays to its history
 
 replay-own : (r : LogRecord) (log : List ℕ) (h : List Extent) (ks : List Claim) → Holds (shapeOf (reading r)) (reading r) log h ks → reached (reading r) < 3 * reading r .term

@@ -1,4 +1,4 @@
--- Laws about a step, the walk and its sums, and the rows; the theorems of specs/Theorems.antt, in Adding; worked cases.
+-- Laws about a step, the walk and its sums, and the rows; the theorems of specs/Theorems.antt, in Adding, and of specs/Histories.antt, in Histories; worked cases.
 pub mod Steps
 pub mod Spots
 pub mod Adding
@@ -6,4 +6,6 @@ pub mod Turning
 pub mod Spans
 pub mod Reasons
 pub mod Answering
+pub mod Boundaries
+pub mod Histories
 pub mod Cases
