@@ -36,7 +36,7 @@ pub end-more : (p : ℕ) (f : Passed) (fs : List Passed) → endOf p (f ∷ fs) 
 unfolding endOf
 end-more p f fs = refl
 
-adding : (fuel : ℕ) (s : Stream) (to p : ℕ) → p + total (sumsOf (walked fuel s to p)) ≡ endOf p (walked fuel s to p)
+pub adding : (fuel : ℕ) (s : Stream) (to p : ℕ) → p + total (sumsOf (walked fuel s to p)) ≡ endOf p (walked fuel s to p)
 unfolding walked sum endOf
 adding zero s to p = omega arith
 adding (suc fuel) s to p =

@@ -1,4 +1,4 @@
--- Worked cases at the edges. Most are on a stream of short terms, since a step asks for no sound record; the last two are calls on a log of the least size.
+-- Worked cases at the edges. Most are on a stream of short terms, since a step asks for no sound record; the last are calls on a log of the least size.
 use mathlib.Core.Path.{_≡_, refl}
 use mathlib.Core.Bool.{true, false}
 use mathlib.Core.List.{List, [], _∷_, _++_}
@@ -7,7 +7,7 @@ use lib.Count.{ones, onesIn}
 use lib.IntN.{pos, negsuc}
 use lib.ListN.{replicate}
 use Rattle.model.specs.declared.LogRecord.{LogRecord}
-use Rattle.model.specs.declared.Error.the-variants.{FrameTooShort, FramePastTerm}
+use Rattle.model.specs.declared.Error.the-variants.{IllegalArgument, PositionOutOfRange, FrameTooShort, FramePastTerm}
 use Rattle.model.specs.declared.Frame.the-variants.{Padding, Data}
 use Rattle.model.specs.declared.Verdict.the-variants.{Pass, Refuse}
 use Rattle.model.specs.Bytes.{le4, u16, u32}
@@ -15,10 +15,12 @@ use Rattle.model.specs.FrameDescriptor.{frameLength, frameAt, negated, unsoundF
 use Rattle.model.specs.LogBufferDescriptor.{readingOf, soundRecord, sound}
 use Rattle.model.proofs.Cases.{recordAt}
 use Rattle.tally.specs.declared.step.Stop.the-variants.{Reached, Writing, Free, OtherTerm, PastSecond, UnsoundFrame}
+use Rattle.tally.specs.declared.Sums.{Sums}
 use Rattle.tally.specs.declared.Tallied.the-variants.{Tally, Refused}
 use Rattle.tally.specs.Walk.{Stream, streamOf, Passed, frameIn, ownId, met, walked, between, endOf, why}
 use Rattle.tally.specs.Span.{goodSpan, spanRows, firstFrame}
 use Rattle.tally.specs.Tally.{sum, sumsOf, tallyVerdict, tallyOf}
+use Rattle.tally.specs.Partitions.{termIn, part, reaches, allReach, byParts, inside, byStream, partitioned, partitionedEnd, inThree, partitionVerdict}
 
 -- ---- row 1: in order, at most three terms apart, exactly
 
@@ -141,6 +143,55 @@ later-stops : (firstFrame 128 (unsound .log) 0 128 ≡ Pass) × (why unsound 128
 unfolding firstFrame why met frameIn ownId frameAt frameLength unsoundFrame u16 u32 le4
 later-stops = (refl, refl)
 
+-- ---- in partition order: which term lies where
+
+-- three whole terms lie in three; as many bytes from inside a term lie in four
+in-three : inThree 65536 0 196608 ≡ true
+in-three = refl
+
+in-four : inThree 65536 32 196640 ≡ false
+in-four = refl
+
+-- from inside term 4, which lies in partition 1: partition 0 has term 6, partition 2 has term 5
+terms : (termIn 65536 262176 0 ≡ 6) × ((termIn 65536 262176 1 ≡ 4) × (termIn 65536 262176 2 ≡ 5))
+terms = (refl, (refl, refl))
+
+none : Sums
+none = record { body = 0; headers = 0; slack = 0; padding = 0 }
+
+-- Terms of 64 bytes, each a frame. From term 1 on, partition 0 holds term 3, the last of the three.
+abbrev round : Stream
+round = record { term = 64; initial = 7; log = frame 40 1 10 40 ++ (frame 64 0 8 40 ++ frame 64 1 9 40) }
+
+goes-round : partitioned round 64 256 ≡ record {
+  p0 = record { body = 8; headers = 32; slack = 24; padding = 0 };
+  p1 = record { body = 0; headers = 0; slack = 0; padding = 64 };
+  p2 = record { body = 32; headers = 32; slack = 0; padding = 0 };
+}
+unfolding partitioned allReach reaches byParts part sum met frameIn ownId frameAt frameLength u16 u32 le4 walked endOf
+goes-round = refl
+
+round-end : partitionedEnd round 64 256 ≡ 256
+unfolding partitionedEnd allReach reaches part met frameIn ownId frameAt frameLength u16 u32 le4 walked endOf
+round-end = refl
+
+-- A part begins where the walk does: of the two frames in partition 0 the second alone lies between.
+from-inside : partitioned short 64 128 ≡ record { p0 = record { body = 0; headers = 0; slack = 0; padding = 64 }; p1 = none; p2 = none }
+unfolding partitioned allReach reaches byParts part sum met frameIn ownId frameAt frameLength u16 u32 le4 walked endOf none
+from-inside = refl
+
+-- A message in partition 0, an open claim in partition 1, a message in partition 2, which the stream order does not come to.
+abbrev stopping : Stream
+stopping = record { term = 64; initial = 7; log = frame 64 1 7 40 ++ (frame (negated 64) 1 8 40 ++ frame 64 1 9 40) }
+
+stops-short : partitioned stopping 0 192 ≡ record { p0 = record { body = 32; headers = 32; slack = 0; padding = 0 }; p1 = none; p2 = none }
+unfolding partitioned allReach reaches byStream inside part sum met frameIn ownId frameAt frameLength u16 u32 le4 walked endOf none
+stops-short = refl
+
+short-end : partitionedEnd stopping 0 192 ≡ 64
+unfolding partitionedEnd allReach reaches part met frameIn ownId frameAt frameLength u16 u32 le4 walked endOf
+short-end = refl
+
 -- ---- calls: term 65,536, mtu 96, initial id 7
 
 abbrev rec : LogRecord
@@ -154,3 +205,9 @@ walks-two = refl
 first-unsound : tallyOf rec (frame 5 1 8 196584) (pos 0) (pos 32) ≡ Refused (FrameTooShort 0)
 unfolding tallyOf tallyVerdict streamOf spanRows goodSpan firstFrame readingOf soundRecord sound ones onesIn met frameIn ownId frameAt frameLength unsoundFrame u16 u32 le4 walked sum endOf why
 first-unsound = refl
+
+-- three terms from inside a term: 1, but 3 comes before
+four-terms : (partitionVerdict rec (replicate 196608 0) (pos 32) (pos 196640) ≡ Refuse IllegalArgument)
+    × (partitionVerdict rec (replicate 196608 0) (pos 8) (pos 196616) ≡ Refuse PositionOutOfRange)
+unfolding partitionVerdict spanRows goodSpan readingOf soundRecord sound ones onesIn
+four-terms = (refl, refl)

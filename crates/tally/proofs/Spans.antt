@@ -138,3 +138,11 @@ module _ (r : LogRecord) (n : ℕ) (from to : ℤ) where
         high = b;
         small = small;
       }
+
+  -- what follows them passes only where they do
+  pub span-order : (rest : Verdict) → SFits w64 from → SFits w64 to → spanRows r n from to rest ≡ Pass → long from ≤ long to
+  span-order rest f g h = go (spanRows r n from to Pass) refl
+    where
+      go : (x : Verdict) → spanRows r n from to Pass ≡ x → long from ≤ long to
+      go Pass e = span-pass f g (sym e) .order
+      go (Refuse w) e = absurd (let q = span-after (Refuse w) rest (sym e) ∙ h in let z : _≡_ {A = ℕ} 0 1 = cc in omega arith)

@@ -4,7 +4,7 @@ use Prim.Native.Nat.{ℕ, _+_, _-_, _*_, _/_, _%_, _^_, _≤_, _<_, min}
 use mathlib.Core.Bool.{true}
 use mathlib.Core.List.{List}
 use native.Mathlib.Omega.{arith}
-use native.Mathlib.Nat.{mod-lt, mul-le-mul}
+use native.Mathlib.Nat.{mod-lt, mul-le-mul, div-le-self}
 use lib.Bits.{bitAnd, and-mask}
 use lib.Dec.{eqb}
 use lib.ListN.{drop}
@@ -100,6 +100,23 @@ spot-small bits p x e =
     let c : p / t % 3 ≤ 2 = omega arith in
     let q : p / t % 3 * t ≤ 2147483648 = mul-le-mul c h in
     record { offset = omega arith; room = omega arith; index = omega arith }
+
+-- ---- the term that a spot lies in
+
+pub record Lying (t p : ℕ) (x : Spot) : Type 0 where
+  pub term : x .offset + x .room ≡ t
+  pub count : x .count ≡ p / t
+  pub low : p / t ≤ p
+  pub short : t ≤ 1073741824
+
+pub lying : (bits p : ℕ) (x : Spot) → x ≡ spotOf (2 ^ min bits 30) p → Lying (2 ^ min bits 30) p x
+lying bits p x e =
+    let t = 2 ^ min bits 30 in
+    let o : x .offset ≡ p % t = ap (λ (y : Spot). y .offset) e in
+    let r : x .room ≡ t - p % t = ap (λ (y : Spot). y .room) e in
+    let b : p % t < t = mod-lt p (pow-pos (min bits 30)) in
+    let m : min bits 30 ≤ 30 = omega arith in
+    record { term = omega arith; count = ap (λ (y : Spot). y .count) e; low = div-le-self p t; short = pow-mono m }
 
 -- ---- a spot further on in the same term
 

@@ -1,9 +1,13 @@
 -- What the functions inside this crate answer each other.
-use Prim.Native.Nat.{ℕ, _-_, _/_, _%_}
+use Prim.Native.Nat.{ℕ, _-_, _/_, _%_, _≤_}
 use Rattle.tally.specs.declared.step.Spot.{Spot}
 use Rattle.tally.specs.declared.walk.Walked.{Walked}
+use Rattle.tally.specs.declared.partition.Part.{Part}
+use Rattle.tally.specs.declared.partition.Parts.{Parts}
+use Rattle.tally.specs.declared.partition.Parted.{Parted}
 use Rattle.tally.specs.Walk.{Stream, placeAt, between, endOf, why}
 use Rattle.tally.specs.Tally.{sumsOf}
+use Rattle.tally.specs.Partitions.{termIn, part, reaches, allReach, byParts, partitioned, partitionedEnd}
 
 -- where a position lies: its term's count, its offset there, its index in the log, and the bytes to its term's end
 abbrev pub spotOf : ℕ → ℕ → Spot
@@ -12,3 +16,17 @@ spotOf term p = record { count = p / term; offset = p % term; index = placeAt te
 -- a walk by its numbers
 abbrev pub walkOf : Stream → ℕ → ℕ → Walked
 walkOf s from to = record { sums = sumsOf (between s from to); end = endOf from (between s from to) }
+
+-- two positions in order, of any log
+abbrev pub Ordered : ℕ → ℕ → Type 0
+Ordered from to = (from ≤ to) × (to ≤ 2305843009213693952)
+
+-- the part in partition k, all three, and the answer of them
+abbrev pub partOf : Stream → ℕ → ℕ → ℕ → Part
+partOf s from to k = record { sums = sumsOf (part s from to (termIn (s .term) from k)); whole = reaches s from to (termIn (s .term) from k) }
+
+abbrev pub partsOf : Stream → ℕ → ℕ → Parts
+partsOf s from to = record { sums = byParts s from to; whole = allReach s from to }
+
+abbrev pub partedOf : Stream → ℕ → ℕ → Parted
+partedOf s from to = record { sums = partitioned s from to; end = partitionedEnd s from to }

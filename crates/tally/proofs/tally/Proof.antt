@@ -1,6 +1,6 @@
 -- The rows, the first frame, the walk, and why it ended: the answer by `tally-by`.
-use mathlib.Core.Path.{_≡_, refl, sym, ap, _∙_}
-use Prim.Native.Nat.{ℕ, _-_, _^_, _≤_, _<_, min}
+use mathlib.Core.Path.{_≡_, sym, ap, _∙_}
+use Prim.Native.Nat.{ℕ, _-_, _≤_, _<_}
 use native.Mathlib.Omega.{arith}
 use borrow.Author.Needs.{needs}
 use lib.ListN.{length}
@@ -9,21 +9,18 @@ use mir.Facts.{toZ-pos, toZ-ofZ}
 use mir.Syntax.{w32, w64}
 use mir.Val.{SFits, toZ}
 use Rattle.model.specs.declared.Verdict.{Verdict}
-use Rattle.model.specs.declared.Verdict.the-variants.{Pass, Refuse}
+use Rattle.model.specs.declared.Verdict.the-variants.{Pass}
 use Rattle.model.specs.Bytes.{word, long}
-use Rattle.model.specs.LogBufferDescriptor.{reading, bitsToShift}
 use Rattle.logbuffer.proofs.Signed.{long-by}
 use Rattle.tally.specs.declared.step.Stop.{Stop}
 use Rattle.tally.specs.declared.walk.Walked.{Walked}
 use Rattle.tally.specs.declared.Tallied.the-variants.{Tally}
-use Rattle.tally.specs.Walk.{Stream, streamOf, streamBy, why}
-use Rattle.tally.specs.Span.{spanRows, firstFrame}
+use Rattle.tally.specs.Walk.{Stream, streamBy, why}
+use Rattle.tally.specs.Span.{spanRows}
 use Rattle.tally.specs.Tally.{talliedBy, tallyOf}
 use Rattle.tally.specs.Within.{walkOf}
 use Rattle.tally.proofs.Adding.{end-within}
-use Rattle.tally.proofs.Spots.{term-is, stream-is}
-use Rattle.tally.proofs.Spans.{after, Spanned, span-pass}
-use Rattle.tally.proofs.Answering.{tally-by}
+use Rattle.tally.proofs.Answering.{Taken, taken, tally-refused, tally-by}
 use Rattle.tally.proofs.tally.Statement.{statement}
 use Rattle.tally.proofs.tally.Tie as tie
 
@@ -37,63 +34,45 @@ judged c = c .before .before .before .before .before .before .before .before
 abbrev st : tie.After-long2 → tie.Start
 st c = judged c .before .before
 
+-- what was read: the bits to shift, and the two positions
+abbrev bits : tie.After-long2 → ℕ
+bits c = c .before .before .before .position-bits-to-shift .result
+
 abbrev start : tie.After-long2 → ℕ
 start c = c .before .long .result
 
 abbrev stream : tie.After-long2 → Stream
-stream c = streamBy (c .before .before .before .position-bits-to-shift .result) (word (st c .args .rec .«initial_term_id»)) (st c .args .log .now)
+stream c = streamBy (bits c) (word (st c .args .rec .«initial_term_id»)) (st c .args .log .now)
 
-start-is : (c : tie.After-long2) → start c ≡ long (st c .args .from)
-start-is c = let s = st c in long-by (s .args .from) (c .before .long .ensures .0) (s .fits .from)
-
-end-is : (c : tie.After-long2) → c .long2 .result ≡ long (st c .args .to)
-end-is c = let s = st c in long-by (s .args .to) (c .long2 .ensures .0) (s .fits .to)
-
--- what is known behind the rows
-passed : (c : tie.After-long2) → let a = st c .args in Pass ≡ spanRows (a .rec) (length (a .log .now)) (a .from) (a .to) Pass
-passed c = sym (c .before .before .before .before .before .before .enum-told .given .1) ∙ rows (judged c)
-
-spanned : (c : tie.After-long2) → let a = st c .args in Spanned (a .rec) (length (a .log .now)) (a .from) (a .to)
-spanned c = let a = st c .args in span-pass (a .rec) (length (a .log .now)) (a .from) (a .to) (st c .fits .from) (st c .fits .to) (passed c)
-
-abbrev term : tie.After-long2 → ℕ
-term c = 2 ^ min (c .before .before .before .position-bits-to-shift .result) 30
-
-terms : (c : tie.After-long2) → term c ≡ reading (st c .args .rec) .term
-terms c =
+take : (c : tie.After-long2) → let a = st c .args in Taken (a .rec) (a .log .now) (a .from) (a .to) (bits c) (start c) (c .long2 .result)
+take c =
+    let s = st c in
+    let a = s .args in
     let b = c .before .before .before in
-    let a = st c .args in
-    let w : b .before .word .result ≡ word (a .rec .«term_length») = b .before .word .ensures .0 ∙ search needs in
-    term-is (a .rec) (length (a .log .now)) (b .position-bits-to-shift .result) (spanned c .sound) (b .position-bits-to-shift .ensures ∙ ap bitsToShift w)
+    taken (a .rec) (a .log .now) (a .from) (a .to) (s .fits .from) (s .fits .to) (sym (b .before .before .before .enum-told .given .1) ∙ rows (judged c)) _ _ _ _
+    (b .before .word .ensures .0 ∙ search needs) (b .position-bits-to-shift .ensures)
+    (long-by (a .from) (c .before .long .ensures .0) (s .fits .from)) (long-by (a .to) (c .long2 .ensures .0) (s .fits .to))
 
-streams : (c : tie.After-long2) → stream c ≡ streamOf (st c .args .rec) (st c .args .log .now)
-streams c =
-    let a = st c .args in
-    stream-is (a .rec) (a .log .now) (c .before .before .before .position-bits-to-shift .result) (word (a .rec .«initial_term_id»)) (terms c) refl
+-- the first term's id is one of 32 bits
+first-id : (c : tie.After-long2) → SFits w32 (st c .args .rec .«initial_term_id»)
+first-id c = search needs
 
-first : (c : tie.After-first-frame) → let l = c .before in c .first-frame .result ≡ firstFrame (term l) (st l .args .log .now) (start l) (l .long2 .result)
-first c = c .first-frame .ensures
-
--- the answer, by the two verdicts
-answer : (c : tie.After-first-frame) (x y : Verdict) → let l = c .before in let a = st l .args in judged l .rows .result ≡ x → c .first-frame .result ≡ y
-    → talliedBy (stream l) (start l) (l .long2 .result) (after x y) ≡ tallyOf (a .rec) (a .log .now) (a .from) (a .to)
-answer c x y ex ey =
+-- the answer, by the first frame's verdict
+answer : (c : tie.After-first-frame) (y : Verdict) → let l = c .before in let a = st l .args in c .first-frame .result ≡ y
+    → talliedBy (stream l) (start l) (l .long2 .result) y ≡ tallyOf (a .rec) (a .log .now) (a .from) (a .to)
+answer c y e =
     let l = c .before in
     let a = st l .args in
-    tally-by (a .rec) (a .log .now) (a .from) (a .to) (stream l) (term l) (start l) (l .long2 .result) (streams l) (terms l) (start-is l) (end-is l) x y (sym ex ∙ rows (judged l)) (sym ey ∙ first c)
+    tally-by (a .rec) (a .log .now) (a .from) (a .to) (bits l) (start l) (l .long2 .result) (take l) y (sym e ∙ c .first-frame .ensures)
 
 returns : tie.Need-returns
 returns c =
     let p = c .before .before .before in
     let a = p .before .before .args in
-    tally-by (a .rec) (a .log .now) (a .from) (a .to) (streamOf (a .rec) (a .log .now)) _ _ _ refl refl refl refl (Refuse (c .before .e .given .0 .0)) _ (sym (c .before .e .given .1) ∙ rows p) refl
+    tally-refused (a .rec) (a .log .now) (a .from) (a .to) _ (sym (c .before .e .given .1) ∙ rows p)
 
 returns-2 : tie.Need-returns-2
-returns-2 c = let f = c .before .before .before in answer f Pass _ (f .before .before .before .before .before .before .before .enum-told .given .1) (c .before .e2 .given .1)
-
--- the first term's id is one of 32 bits
-first-id : (c : tie.After-long2) → SFits w32 (st c .args .rec .«initial_term_id»)
-first-id c = search needs
+returns-2 c = answer (c .before .before .before) _ (c .before .e2 .given .1)
 
 -- the walk, and that its end is a position
 walk : (c : tie.After-between) → let l = c .before .before .before .before in c .between .result ≡ walkOf (stream l) (start l) (l .long2 .result)
@@ -102,11 +81,9 @@ walk c = c .between .ensures ∙ search needs
 ended : (c : tie.After-between) → c .between .result .end < 9223372036854775808
 ended c =
     let l = c .before .before .before .before in
-    let k = spanned l in
-    let o : start l ≤ l .long2 .result = omega (arith, k .order, start-is l, end-is l) in
-    let e = end-within (l .long2 .result - start l) (stream l) (l .long2 .result) (start l) o in
-    let q = ap (λ (x : Walked). x .end) (walk c) in
-    omega (arith, e, q, k .small, end-is l)
+    let o = take l .ordered in
+    let e = end-within (l .long2 .result - start l) (stream l) (l .long2 .result) (start l) (o .0) in
+    omega (arith, e, ap (λ (x : Walked). x .end) (walk c), o .1)
 
 returns-3 : tie.Need-returns-3
 returns-3 c =
@@ -116,11 +93,11 @@ returns-3 c =
     let s = stream l in
     let n = l .long2 .result in
     let r : y .why .result ≡ why s n (w .between .result .end) =
-    y .why .ensures ∙ ap (λ (z : ℤ). why (streamBy (l .before .before .before .position-bits-to-shift .result) (word z) (st l .args .log .now)) n (w .between .result .end)) (toZ-ofZ (first-id l)) in
+    y .why .ensures ∙ ap (λ (z : ℤ). why (streamBy (bits l) (word z) (st l .args .log .now)) n (w .between .result .end)) (toZ-ofZ (first-id l)) in
     ap (λ (x : Stop). Tally (w .between .result .sums) (toZ w64 (w .between .result .end)) x) r
     ∙ ap (λ (x : ℤ). Tally (w .between .result .sums) x (why s n (w .between .result .end))) (toZ-pos w64 (ended w))
     ∙ ap (λ (x : Walked). Tally (x .sums) (pos (x .end)) (why s n (x .end))) (walk w)
-    ∙ answer (w .before .before .before) Pass Pass (l .before .before .before .before .before .before .enum-told .given .1) (w .before .enum-told2 .given .1)
+    ∙ answer (w .before .before .before) Pass (w .before .enum-told2 .given .1)
 
 pub tally-spec : {M : Type 1} → statement M
 tally-spec =
