@@ -142,6 +142,13 @@ struct logbuffer_sums {
     size_t padding;
 };
 
+/* The sums of each partition. */
+struct logbuffer_partitions {
+    struct logbuffer_sums p0;
+    struct logbuffer_sums p1;
+    struct logbuffer_sums p2;
+};
+
 /* Why a tally ended where it did. */
 enum {
     LOGBUFFER_STOP_REACHED = 0,     /* it came to the second position */
@@ -339,6 +346,16 @@ struct logbuffer_tally_reply {
     int64_t position;
     size_t writing;
     struct logbuffer_sums sums;
+};
+
+/* As a tally's; the sums are those of the partitions added up. */
+struct logbuffer_partition_tally_reply {
+    int32_t code;
+    int32_t stop;
+    int64_t position;
+    size_t writing;
+    struct logbuffer_sums sums;
+    struct logbuffer_partitions partitions;
 };
 
 /* ---- opening, and calls on the record alone */
@@ -561,6 +578,12 @@ int32_t logbuffer_unshelve(const struct logbuffer_record *rec, const uint8_t *sh
  * unsound frame; the four sums are the distance walked. Equal positions look at no frame. Refuses 1 (positions not in order, or more than three terms
  * apart), 2, 3 (either position), 22, 23 (the first frame). */
 struct logbuffer_tally_reply logbuffer_tally(const struct logbuffer_record *rec, const uint8_t *log, size_t log_length, int64_t from, int64_t to);
+
+/* The same, walking partitions 0, 1, 2 as they lie, with the sums of each: zeros where it has no part. Where the walk ends, why, all four sums and the refusals are
+ * those of logbuffer_tally, and each partition's sums are over the frames that it passed there. Refuses 1 (as above), 2, 3, then 1 (the bytes between
+ * lie in more than three terms), 22, 23. */
+struct logbuffer_partition_tally_reply logbuffer_tally_by_partition(const struct logbuffer_record *rec, const uint8_t *log, size_t log_length, int64_t from,
+                                                                    int64_t to);
 
 #ifdef __cplusplus
 }

@@ -285,6 +285,18 @@ static void say_tally(struct logbuffer_tally_reply t) {
         t.sums.slack, t.sums.padding);
 }
 
+static void say_partition(const char *name, struct logbuffer_sums s) {
+    SAY(name, "body headers slack padding", s.body, s.headers, s.slack, s.padding);
+}
+
+static void say_partitions(struct logbuffer_partition_tally_reply t) {
+    SAY("tally by partition", "code stop position writing body headers slack padding", t.code, t.stop, t.position, t.writing, t.sums.body,
+        t.sums.headers, t.sums.slack, t.sums.padding);
+    say_partition("  0", t.partitions.p0);
+    say_partition("  1", t.partitions.p1);
+    say_partition("  2", t.partitions.p2);
+}
+
 /* A message, an aborted claim, a message in fragments, an open claim: from 0 to the term's end, to the aborted claim's end and into it, and from behind the
  * open claim on; frames of another term; a length of 5 behind a frame and at the start; positions not in order and not on a boundary. */
 static void tallies(void) {
@@ -309,6 +321,26 @@ static void tallies(void) {
     say_tally(logbuffer_tally(&rec, second_log, sizeof second_log, 0, 40));
 }
 
+/* Offers of 40 bytes until the fifth term has begun, 682 to a term and then padding. From behind the first message of the second term, which lies in partition 1, to before
+ * the padding of the fourth, which lies in partition 0; from the last message of a term to the first of the next. Then a frame being written first in partition 2, past which the walk
+ * does not come; bytes in four terms; positions not on a boundary; a length of 5 first. */
+static void partitions(void) {
+    static const uint8_t message[40] = {7};
+    struct logbuffer_record rec;
+    logbuffer_open(&rec, second_log, sizeof second_log, TERM, 96, 7, 33, 44);
+    logbuffer_set_publication_limit(&rec, 8 * TERM);
+    while (rec.active_term_count < 4)
+        logbuffer_offer(&rec, second_log, sizeof second_log, message, sizeof message, 0);
+    say_partitions(logbuffer_tally_by_partition(&rec, second_log, sizeof second_log, TERM + 96, 4 * TERM - 64));
+    say_partitions(logbuffer_tally_by_partition(&rec, second_log, sizeof second_log, 2 * TERM - 64 - 96, 2 * TERM + 96));
+    memset(second_log + 2 * TERM, 255, 4);
+    say_partitions(logbuffer_tally_by_partition(&rec, second_log, sizeof second_log, TERM, 4 * TERM));
+    say_partitions(logbuffer_tally_by_partition(&rec, second_log, sizeof second_log, TERM + 32, 4 * TERM + 32));
+    say_partitions(logbuffer_tally_by_partition(&rec, second_log, sizeof second_log, TERM + 8, 4 * TERM + 8));
+    second_log[TERM + 96] = 5;
+    say_partitions(logbuffer_tally_by_partition(&rec, second_log, sizeof second_log, TERM + 96, 2 * TERM));
+}
+
 int main(void) {
     numbers();
     struct logbuffer_record rec = written(), second = appended();
@@ -320,5 +352,6 @@ int main(void) {
     cards();
     shelves();
     tallies();
+    partitions();
     return 0;
 }

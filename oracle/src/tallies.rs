@@ -1,11 +1,12 @@
-//! The tally of the port, through include/logbuffer.h, held against a second reading of "R-1. Season tally" of document 02.
+//! Both tallies of the port, through include/logbuffer.h, held against a second reading of "R-1. Season tally" and "R-12. Tally in partition order" of
+//! document 02.
 //!
 //!   tallies [--logs N] [--seed S]
 //!
 //! Makes N logs (1,000): frames of any length, data and padding, with the id of the term that a position gives, then up to a place where they break
 //! off: free, being written, of another term, unsound, or the end. Some are random bytes. From each it asks 40 tallies between boundaries of frames and other
-//! numbers, in order and not, near and far, up to the greatest position and past every end of 64 bits, with sound and broken records and logs.
-//! Compared: number, place, the four sums, where the walk ended and why. Prints what was met and `0 differences`, or the first difference, and
+//! numbers, in order and not, near and far, up to the greatest position and past every end of 64 bits, with sound and broken records and logs, in stream order
+//! and in partition order. Compared: number, place, the four sums, those of each partition, where the walk ended and why. Prints what was met and `0 differences`, or the first difference, and
 //! then ends with 1.
 
 use std::collections::BTreeMap;
@@ -36,12 +37,25 @@ struct Reply {
     sums: [usize; 4],
 }
 
-extern "C" {
-    fn logbuffer_tally(rec: *const Record, log: *const u8, n: usize, from: i64, to: i64) -> Reply;
+#[repr(C)]
+#[derive(Clone, Copy, Debug, Default, PartialEq, Eq)]
+struct PartitionReply {
+    all: Reply,
+    partitions: [[usize; 4]; 3],
 }
 
-fn port(rec: &Record, log: &[u8], from: i64, to: i64) -> Reply {
-    unsafe { logbuffer_tally(rec, log.as_ptr(), log.len(), from, to) }
+extern "C" {
+    fn logbuffer_tally(rec: *const Record, log: *const u8, n: usize, from: i64, to: i64) -> Reply;
+    fn logbuffer_tally_by_partition(rec: *const Record, log: *const u8, n: usize, from: i64, to: i64) -> PartitionReply;
+}
+
+fn port(rec: &Record, log: &[u8], from: i64, to: i64) -> (Reply, PartitionReply) {
+    unsafe {
+        (
+            logbuffer_tally(rec, log.as_ptr(), log.len(), from, to),
+            logbuffer_tally_by_partition(rec, log.as_ptr(), log.len(), from, to),
+        )
+    }
 }
 
 /// 01's ranges of a record and its log, as document 02 amends them, read a second time; the tail is the active partition's.
@@ -80,27 +94,15 @@ fn stands(term: &[u8], offset: usize) -> Stands {
     }
 }
 
-/// 02 read a second time.
-fn by_02(rec: &Record, log: &[u8], from: i64, to: i64) -> Reply {
-    let refused = |code: i32, position: i64| Reply { code, position, ..Reply::default() };
-    let length = i128::from(rec.term_length);
-    if from > to || i128::from(to) - i128::from(from) > 3 * length {
-        return refused(1, 0);
-    }
-    if !is_sound(rec, log) {
-        return refused(2, 0);
-    }
-    let greatest = i64::from(rec.term_length) << 31;
-    if [from, to].iter().any(|p| *p < 0 || *p > greatest || p % 32 != 0) {
-        return refused(3, 0);
-    }
-    let (term_length, mut at, mut sums) = (length as i64, from, [0; 4]);
+/// The walk in stream order, which tells of each frame that it passes.
+fn walk(rec: &Record, log: &[u8], from: i64, to: i64, mut passed: impl FnMut(i64, [usize; 4])) -> Reply {
+    let (term_length, mut at, mut sums) = (i64::from(rec.term_length), from, [0; 4]);
     while at < to {
         let (count, offset) = (at / term_length, (at % term_length) as usize);
         let term = &log[(count % 3 * term_length) as usize..][..term_length as usize];
         let ended = |stop: i32, writing: usize| Reply { code: 0, stop, position: at, writing, sums };
         match stands(term, offset) {
-            Stands::Unsound(code) if at == from => return refused(code, offset as i64),
+            Stands::Unsound(code) if at == from => return Reply { code, position: offset as i64, ..Reply::default() },
             Stands::Unsound(_) => return ended(5, 0),
             Stands::Free => return ended(2, 0),
             Stands::Writing(size) => return ended(1, size),
@@ -112,19 +114,48 @@ fn by_02(rec: &Record, log: &[u8], from: i64, to: i64) -> Reply {
                 if at + aligned as i64 > to {
                     return ended(4, 0);
                 }
-                match is_padding {
-                    true => sums[3] += aligned,
-                    false => {
-                        sums[0] += length - 32;
-                        sums[1] += 32;
-                        sums[2] += aligned - length;
-                    }
-                }
+                let share = match is_padding {
+                    true => [0, 0, 0, aligned],
+                    false => [length - 32, 32, aligned - length, 0],
+                };
+                add(&mut sums, share);
+                passed(at, share);
                 at += aligned as i64;
             }
         }
     }
     Reply { code: 0, stop: 0, position: at, writing: 0, sums }
+}
+
+fn add(sums: &mut [usize; 4], share: [usize; 4]) {
+    sums.iter_mut().zip(share).for_each(|(sum, more)| *sum += more);
+}
+
+/// 02 read a second time. In partition order it is read by its last sentence, which tells every answer by the frames that the stream order passed.
+fn by_02(rec: &Record, log: &[u8], from: i64, to: i64) -> (Reply, PartitionReply) {
+    let refused = |code: i32| {
+        let reply = Reply { code, ..Reply::default() };
+        (reply, PartitionReply { all: reply, ..PartitionReply::default() })
+    };
+    let length = i128::from(rec.term_length);
+    if from > to || i128::from(to) - i128::from(from) > 3 * length {
+        return refused(1);
+    }
+    if !is_sound(rec, log) {
+        return refused(2);
+    }
+    let greatest = i64::from(rec.term_length) << 31;
+    if [from, to].iter().any(|p| *p < 0 || *p > greatest || p % 32 != 0) {
+        return refused(3);
+    }
+    let term_length = i64::from(rec.term_length);
+    let mut partitions = [[0; 4]; 3];
+    let all = walk(rec, log, from, to, |at, share| add(&mut partitions[(at / term_length % 3) as usize], share));
+    // the term of the last byte between
+    if from < to && (to - 1) / term_length - from / term_length > 2 {
+        return (all, refused(1).1);
+    }
+    (all, PartitionReply { all, partitions })
 }
 
 struct Random(u64);
@@ -248,11 +279,15 @@ fn log(random: &mut Random, met: &mut BTreeMap<String, u64>) -> Result<(), Strin
         if answer != should {
             return Err(format!("tally from {from} to {to}, {rec:?}, log of {}: {answer:?}, by 02 {should:?}", lent.len()));
         }
-        *met.entry(match answer.code {
-            0 => format!("answered, stop {}{}", answer.stop, if answer.position == from { ", nothing passed" } else { "" }),
-            code => format!("refused {code}"),
-        })
-        .or_default() += 1;
+        let (stream, parts) = answer;
+        let many = parts.partitions.iter().filter(|sums| **sums != [0; 4]).count();
+        for (order, reply) in [(String::from("stream"), stream), (format!("partitions, frames in {many}"), parts.all)] {
+            *met.entry(match reply.code {
+                0 => format!("{order}: answered, stop {}{}", reply.stop, if reply.position == from { ", nothing passed" } else { "" }),
+                code => format!("{}: refused {code}", order.split(',').next().unwrap_or_default()),
+            })
+            .or_default() += 1;
+        }
     }
     Ok(())
 }
@@ -276,5 +311,5 @@ fn main() {
         }
     }
     met.iter().for_each(|(what, n)| println!("{what}: {n}"));
-    println!("{} tallies of {logs} logs from seed {seed}, 0 differences", 40 * logs);
+    println!("{} tallies in each order of {logs} logs from seed {seed}, 0 differences", 40 * logs);
 }

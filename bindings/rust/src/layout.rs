@@ -14,6 +14,7 @@ fn values_have_the_sizes_of_c() {
     assert_eq!(size_of::<Replay>(), 216);
     assert_eq!(size_of::<Card>(), 20);
     assert_eq!(size_of::<Sums>(), 32);
+    assert_eq!(size_of::<Partitions>(), 96);
 }
 
 #[test]
@@ -62,6 +63,7 @@ fn replies_have_the_sizes_of_c() {
     assert_eq!(size_of::<CardWriteReply>(), 16);
     assert_eq!(size_of::<CardReadReply>(), 40);
     assert_eq!(size_of::<TallyReply>(), 56);
+    assert_eq!(size_of::<PartitionTallyReply>(), 152);
 }
 
 #[test]
@@ -82,5 +84,7 @@ fn fields_of_replies_have_the_offsets_of_c() {
     assert_eq!([offset_of!(BatchReply, code), offset_of!(BatchReply, messages)], [0, 8]);
     assert_eq!([offset_of!(CardReadReply, card), offset_of!(CardReadReply, note_start)], [4, 24]);
     assert_eq!([offset_of!(TallyReply, stop), offset_of!(TallyReply, position), offset_of!(TallyReply, sums)], [4, 8, 24]);
+    assert_eq!([offset_of!(PartitionTallyReply, sums), offset_of!(PartitionTallyReply, partitions)], [24, 56]);
     assert_eq!([offset_of!(Sums, headers), offset_of!(Sums, slack), offset_of!(Sums, padding)], [8, 16, 24]);
+    assert_eq!([offset_of!(Partitions, p1), offset_of!(Partitions, p2)], [32, 64]);
 }

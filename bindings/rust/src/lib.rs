@@ -24,7 +24,8 @@
 //!   [`Batch`] at a time.
 //! - [`Card`]: a find card, a message body of one format.
 //! - [`Log::shelve`], [`Record::unshelve`]: a finished term with all its headers together, and back.
-//! - [`Log::tally`]: where the bytes between two positions went, as a [`Tally`] that prints as a table.
+//! - [`Log::tally`]: where the bytes between two positions went, as a [`Tally`] that prints as a table. [`Log::tally_by_partition`]: the same
+//!   as the partitions lie, with the sums of each.
 //! - [`Error`]: the refusals, with cause and remedy. [`Rule`]: which check decided an offer or a claim, with a line of advice. Refused by
 //!   [`Rule::TermRotated`] it is to be made again.
 //!
@@ -65,5 +66,5 @@ pub use poller::{Action, Block, Fragment, Fragments, Poller};
 pub use replay::{Batch, Count, Replay};
 pub use rule::Rule;
 pub use scan::{Availability, FrameLength, GapScan};
-pub use sys::{Header, Record};
-pub use tally::{Stop, Tally};
+pub use sys::{Header, Record, Sums};
+pub use tally::{PartitionTally, Stop, Tally};

@@ -104,13 +104,26 @@ pub struct Card {
     pub weight: u32,
 }
 
+/// Where bytes went.
+#[repr(C)]
+#[derive(Clone, Copy, Debug, Default, PartialEq, Eq, Hash)]
+pub struct Sums {
+    /// Body bytes of data frames.
+    pub body: usize,
+    /// 32 for each data frame.
+    pub headers: usize,
+    /// The bytes between the ends of data frames and the next multiples of 32.
+    pub slack: usize,
+    /// Padding frames at their aligned length, aborted claims among them.
+    pub padding: usize,
+}
+
 #[repr(C)]
 #[derive(Clone, Copy, Debug, PartialEq, Eq)]
-pub struct Sums {
-    pub body: usize,
-    pub headers: usize,
-    pub slack: usize,
-    pub padding: usize,
+pub struct Partitions {
+    pub p0: Sums,
+    pub p1: Sums,
+    pub p2: Sums,
 }
 
 pub const IN_LOG: i32 = 1;
@@ -154,6 +167,7 @@ replies! {
     CardWriteReply { code: i32, length: usize }
     CardReadReply { code: i32, card: Card, note_start: usize, note_length: usize }
     TallyReply { code: i32, stop: i32, position: i64, writing: usize, sums: Sums }
+    PartitionTallyReply { code: i32, stop: i32, position: i64, writing: usize, sums: Sums, partitions: Partitions }
 }
 
 /// Functions of the face that take no slice.
@@ -280,6 +294,9 @@ mod face {
         ) -> i32;
         pub fn logbuffer_unshelve(rec: &Record, shelf: In, shelf_length: usize, out: Out, out_length: usize) -> i32;
         pub fn logbuffer_tally(rec: &Record, log: In, log_length: usize, from: i64, to: i64) -> TallyReply;
+        pub fn logbuffer_tally_by_partition(
+            rec: &Record, log: In, log_length: usize, from: i64, to: i64,
+        ) -> PartitionTallyReply;
     }
 }
 
@@ -566,4 +583,9 @@ pub fn unshelve(rec: &Record, shelf: &[u8], out: &mut [u8]) -> i32 {
 pub fn tally(rec: &Record, log: &[u8], from: i64, to: i64) -> TallyReply {
     // SAFETY: pointers and lengths are those of the slices.
     unsafe { face::logbuffer_tally(rec, log.as_ptr(), log.len(), from, to) }
+}
+
+pub fn tally_by_partition(rec: &Record, log: &[u8], from: i64, to: i64) -> PartitionTallyReply {
+    // SAFETY: pointers and lengths are those of the slices.
+    unsafe { face::logbuffer_tally_by_partition(rec, log.as_ptr(), log.len(), from, to) }
 }

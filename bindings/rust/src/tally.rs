@@ -1,7 +1,7 @@
 //! Where a log's bytes went between two positions. Read log.rs for the rest of a log's calls.
 
 use crate::sys;
-use crate::{Error, Log};
+use crate::{Error, Log, Sums};
 use std::fmt;
 
 /// Why a tally ended where it did.
@@ -19,6 +19,20 @@ pub enum Stop {
     PastSecond,
     /// The frame there is unsound; a call from its position refuses it and tells its place.
     Unsound,
+}
+
+impl Stop {
+    /// By the number that a reply has, and the size of a frame being written.
+    fn of(number: i32, writing: usize) -> Stop {
+        match number {
+            1 => Stop::Writing(writing),
+            2 => Stop::Free,
+            3 => Stop::OtherTerm,
+            4 => Stop::PastSecond,
+            5 => Stop::Unsound,
+            _ => Stop::Reached,
+        }
+    }
 }
 
 impl fmt::Display for Stop {
@@ -100,6 +114,45 @@ impl fmt::Display for Tally {
     }
 }
 
+/// Where the bytes between two positions went, as the partitions lie: the sums of each, and the tally of the stream order.
+///
+/// It prints as a table:
+///
+/// ```
+/// let mut log = logbuffer::Log::builder().open()?;
+/// log.offer(b"coin")?;
+/// log.try_claim(10)?.abort()?;
+/// assert_eq!(
+///     log.tally_by_partition(0, 128)?.to_string(),
+///     "partition          body      headers        slack      padding\n\
+///      0                     4           32           28           64\n\
+///      1                     0            0            0            0\n\
+///      2                     0            0            0            0\n\
+///      together              4           32           28           64\n\
+///      ended at position 128: the second position"
+/// );
+/// # Ok::<(), logbuffer::Error>(())
+/// ```
+#[derive(Clone, Copy, Debug, PartialEq, Eq, Hash)]
+pub struct PartitionTally {
+    /// The sums of partitions 0, 1 and 2, over the frames that the walk passed there.
+    pub partitions: [Sums; 3],
+    /// All of them added up, where the walk ended, and why: what [`Log::tally`] answers.
+    pub whole: Tally,
+}
+
+impl fmt::Display for PartitionTally {
+    fn fmt(&self, f: &mut fmt::Formatter<'_>) -> fmt::Result {
+        let Tally { body, headers, slack, padding, end, stop } = self.whole;
+        let rows = ["0", "1", "2", "together"].into_iter().zip(self.partitions.into_iter().chain([Sums { body, headers, slack, padding }]));
+        writeln!(f, "{:<10}{:>13}{:>13}{:>13}{:>13}", "partition", "body", "headers", "slack", "padding")?;
+        for (name, Sums { body, headers, slack, padding }) in rows {
+            writeln!(f, "{name:<10}{body:>13}{headers:>13}{slack:>13}{padding:>13}")?;
+        }
+        write!(f, "ended at position {end}: {stop}")
+    }
+}
+
 impl Log {
     /// Where the bytes between two positions went, both boundaries of frames, as 0 and every position that was answered are. The walk ends at
     /// the second, or before it for one of the reasons of [`Stop`]. Refuses positions that are not in order or more than three terms apart with
@@ -121,17 +174,40 @@ impl Log {
     /// ```
     pub fn tally(&self, from: i64, to: i64) -> Result<Tally, Error> {
         let reply = sys::tally(&self.record, &self.bytes, from, to);
+        self.check_walk(reply.code, from, reply.position)?;
+        let Sums { body, headers, slack, padding } = reply.sums;
+        Ok(Tally { body, headers, slack, padding, end: reply.position, stop: Stop::of(reply.stop, reply.writing) })
+    }
+
+    /// The tally as the partitions lie, with the sums of each: none where a partition has no part of the bytes between. Where the walk ends, why, all
+    /// four sums and the refusals are those of [`Log::tally`]; and, after [`Error::PositionOutOfRange`], [`Error::IllegalArgument`] where the
+    /// bytes between lie in more than three terms.
+    ///
+    /// ```
+    /// use logbuffer::{Error, Log};
+    ///
+    /// let mut log = Log::builder().open()?;
+    /// let first = log.offer(b"coin")?;
+    /// let second = log.offer(&[7; 32])?;
+    /// let tally = log.tally_by_partition(first, second)?;
+    /// assert_eq!((tally.partitions[0].body, tally.partitions[1].body), (32, 0));
+    /// assert_eq!(tally.whole, log.tally(first, second)?);
+    /// let three_terms = 3 * i64::from(log.record().term_length);
+    /// assert_eq!(log.tally_by_partition(64, 64 + three_terms), Err(Error::IllegalArgument));
+    /// # Ok::<(), Error>(())
+    /// ```
+    pub fn tally_by_partition(&self, from: i64, to: i64) -> Result<PartitionTally, Error> {
+        let reply = sys::tally_by_partition(&self.record, &self.bytes, from, to);
+        self.check_walk(reply.code, from, reply.position)?;
+        let Sums { body, headers, slack, padding } = reply.sums;
+        let sys::Partitions { p0, p1, p2 } = reply.partitions;
+        let whole = Tally { body, headers, slack, padding, end: reply.position, stop: Stop::of(reply.stop, reply.writing) };
+        Ok(PartitionTally { partitions: [p0, p1, p2], whole })
+    }
+
+    /// The refusal of a walk from a position; a frame's place is in that position's partition.
+    fn check_walk(&self, code: i32, from: i64, offset: i64) -> Result<(), Error> {
         let partition = from.checked_div(self.record.term_length.into()).map(|count| (count % 3) as i32);
-        Error::check_frame(reply.code, partition, reply.position as usize)?;
-        let stop = match reply.stop {
-            1 => Stop::Writing(reply.writing),
-            2 => Stop::Free,
-            3 => Stop::OtherTerm,
-            4 => Stop::PastSecond,
-            5 => Stop::Unsound,
-            _ => Stop::Reached,
-        };
-        let sys::Sums { body, headers, slack, padding } = reply.sums;
-        Ok(Tally { body, headers, slack, padding, end: reply.position, stop })
+        Error::check_frame(code, partition, offset as usize)
     }
 }

@@ -1,9 +1,9 @@
-//! The tally: every reason for which a walk ends, over the end of a term and of the log, and the order of its refusals.
+//! The tally: every reason for which a walk ends, over the end of a term and of the log, and the order of its refusals. The same as the partitions lie.
 
 mod common;
 
 use common::{log, made, put_frame, TERM};
-use logbuffer::{Error, Log, Place, Stop, Tally};
+use logbuffer::{Error, Log, Place, Stop, Sums, Tally};
 
 const END: i64 = TERM as i64;
 
@@ -31,6 +31,65 @@ fn each_sum_has_its_own_meaning() {
     assert_eq!(log.tally(64, 128), Ok(tally(0, 0, 0, 0, 64, Stop::PastSecond)));
     assert_eq!(log.tally(416, END), Ok(tally(0, 0, 0, 0, 416, Stop::Free)));
     assert_eq!(log.tally(352, 352), Ok(tally(0, 0, 0, 0, 352, Stop::Reached)));
+}
+
+/// Messages of 40 bytes, 682 to a term and then 64 of padding, until a count of terms is full.
+fn filled(terms: i32) -> Log {
+    let mut log = log();
+    while log.record().active_term_count < terms {
+        let _ = log.offer(&[3; 40]);
+    }
+    log
+}
+
+fn sums(messages: usize, padding: usize) -> Sums {
+    Sums { body: 40 * messages, headers: 32 * messages, slack: 24 * messages, padding }
+}
+
+#[test]
+fn each_partition_has_the_sums_of_its_part_for_every_starting_term() {
+    for terms in 3..9 {
+        let log = filled(terms);
+        let end = i64::from(terms) * END;
+        let (from, to) = (end - 3 * END + 96, end - 64);
+        let answer = log.tally_by_partition(from, to).unwrap();
+        assert_eq!(Ok(answer.whole), log.tally(from, to));
+        assert_eq!((answer.whole.end, answer.whole.stop), (to, Stop::Reached));
+        let mut should = [sums(682, 64); 3];
+        should[terms as usize % 3] = sums(681, 64);
+        should[(terms as usize + 2) % 3] = sums(682, 0);
+        assert_eq!(answer.partitions, should, "{terms}");
+    }
+}
+
+#[test]
+fn a_part_that_stops_short_stops_those_that_follow_it_in_the_stream() {
+    let mut log = filled(4);
+    let open = log.try_claim(10).unwrap().into_open();
+    // the claim is in partition 1, of the term that comes after those in partitions 2 and 0
+    let answer = log.tally_by_partition(2 * END, 5 * END).unwrap();
+    assert_eq!(Ok(answer.whole), log.tally(2 * END, 5 * END));
+    assert_eq!((answer.whole.end, answer.whole.stop), (4 * END, Stop::Writing(42)));
+    assert_eq!(answer.partitions, [sums(682, 64), sums(0, 0), sums(682, 64)]);
+    // from it on there is nothing, though partitions 2 and 0 hold older frames
+    let answer = log.tally_by_partition(4 * END, 7 * END).unwrap();
+    assert_eq!((answer.partitions, answer.whole.end), ([Sums::default(); 3], 4 * END));
+    drop(open);
+}
+
+#[test]
+fn bytes_in_four_terms_come_after_row_3_and_before_the_frame() {
+    let log = log();
+    for (from, to) in [(32, 32 + 3 * END), (END - 32, 4 * END - 32), (32, 0), (0, 3 * END + 1), (i64::MIN, i64::MAX)] {
+        assert_eq!(log.tally_by_partition(from, to), Err(Error::IllegalArgument), "{from} {to}");
+    }
+    for (from, to) in [(8, 8 + 3 * END), (8, 8), (-32, 0)] {
+        assert_eq!(log.tally_by_partition(from, to), Err(Error::PositionOutOfRange), "{from} {to}");
+    }
+    assert_eq!(log.tally_by_partition(0, 3 * END).unwrap().whole.stop, Stop::Free);
+    let broken = made(|_, bytes| put_frame(bytes, 64, 5, 0xc0, 11)).unwrap();
+    assert_eq!(broken.tally_by_partition(64, 64 + 3 * END), Err(Error::IllegalArgument));
+    assert_eq!(broken.tally_by_partition(64, 3 * END), Err(Error::FrameTooShort(Place { partition: Some(0), offset: 64 })));
 }
 
 #[test]
@@ -96,4 +155,11 @@ fn it_prints_as_a_table() {
     assert_eq!(rows[4], "together            352");
     assert_eq!(rows[5], "ended at position 352: a frame of 42 bytes being written");
     assert!(rows[..5].iter().all(|row| row.len() == 23));
+
+    let printed = mixed().tally_by_partition(0, END).unwrap().to_string();
+    let rows: Vec<_> = printed.lines().collect();
+    assert_eq!(rows[1], "0                   105           96           55           96");
+    assert_eq!(rows[4].replace("together", "0       "), rows[1]);
+    assert_eq!(rows[5], "ended at position 352: a frame of 42 bytes being written");
+    assert!(rows[..5].iter().all(|row| row.len() == 62));
 }

@@ -1,13 +1,17 @@
-// The tally under its C name: the refusal's number, 0 where nothing was refused; where the walk ended, and why by number; the four sums.
+// Both tallies under their C names: the refusal's number, 0 where nothing was refused; where the walk ended, and why by number; the four sums, and those
+// of each partition.
 ghost use mathlib.Core.Path.{_≡_};
 ghost use mathlib.Core.List.{[]};
 ghost use lib.IntN.{pos};
 ghost use Rattle.model.specs.Answers.{answered};
 ghost use Rattle.tally.specs.Tally.{stopNumber, writingSize, tallyOf};
-ghost use Rattle.capi.specs.Tallies.{sumsAt, tallyReply};
+ghost use Rattle.tally.specs.Partitions.{partitionTallyOf};
+ghost use Rattle.capi.specs.Tallies.{sumsAt, partitionsAt, tallyReply, partitionTallyReply};
 ghost use Rattle.capi.specs.Words.{recordIn};
 use crate::words;
 use logbuffer::errors;
+use tally::PartitionTallied;
+use tally::Partitions;
 use tally::Sums;
 use tally::Tallied;
 use tally::step::Stop;
@@ -19,6 +23,16 @@ pub struct TallyReply {
     pub position: i64,
     pub writing: usize,
     pub sums: Sums,
+}
+
+#[repr(C)]
+pub struct PartitionTallyReply {
+    pub code: i32,
+    pub stop: i32,
+    pub position: i64,
+    pub writing: usize,
+    pub sums: Sums,
+    pub partitions: Partitions,
 }
 
 fn stop_number(stop: Stop) -> i32
@@ -50,7 +64,7 @@ fn writing_size(stop: Stop) -> usize
 
 // The sums of a refused call.
 fn no_sums() -> Sums
-    ensures { λ r. ⌜ r ≡ sumsAt (answered []) ⌝ }
+    ensures { λ r. ⌜ r ≡ sumsAt 0 (answered []) ⌝ }
 {
     Sums {
         body: 0,
@@ -81,9 +95,54 @@ fn tallied(answer: Tallied) -> TallyReply
     }
 }
 
+fn no_partitions() -> Partitions
+    ensures { λ r. ⌜ r ≡ partitionsAt (answered []) ⌝ }
+{
+    Partitions {
+        p0: no_sums(),
+        p1: no_sums(),
+        p2: no_sums(),
+    }
+}
+
+fn tallied_by_partition(answer: PartitionTallied) -> PartitionTallyReply
+    ensures { λ r. ⌜ r ≡ partitionTallyReply answer ⌝ }
+{
+    match answer {
+        PartitionTallied::Tally(partitions, sums, end, stop) => PartitionTallyReply {
+            code: 0,
+            stop: stop_number(stop),
+            position: end,
+            writing: writing_size(stop),
+            sums: sums,
+            partitions: partitions,
+        },
+        PartitionTallied::Refused(e) => PartitionTallyReply {
+            code: errors::number(e),
+            stop: 0,
+            position: errors::place(e) as i64,
+            writing: 0,
+            sums: no_sums(),
+            partitions: no_partitions(),
+        },
+    }
+}
+
 #[no_mangle]
 pub extern "C" fn logbuffer_tally(rec: &[i64; 10], log: &[u8], from: i64, to: i64) -> TallyReply
     ensures { λ r. ⌜ r ≡ tallyReply (tallyOf (recordIn (now (rec .entry))) (now (log .entry)) from to) ⌝ }
 {
     tallied(tally::tally(words::record_in(rec), log, from, to))
+}
+
+#[no_mangle]
+pub extern "C" fn logbuffer_tally_by_partition(
+    rec: &[i64; 10],
+    log: &[u8],
+    from: i64,
+    to: i64,
+) -> PartitionTallyReply
+    ensures { λ r. ⌜ r ≡ partitionTallyReply (partitionTallyOf (recordIn (now (rec .entry))) (now (log .entry)) from to) ⌝ }
+{
+    tallied_by_partition(tally::tally_by_partition(words::record_in(rec), log, from, to))
 }
