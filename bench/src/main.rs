@@ -174,6 +174,7 @@ fn scans(count: usize) {
     let end = 96 * count as i32;
     row("scan, a frame", count, || term_scan::scan(&log.term(0), 0, end), || ours.scan(end));
     row("tally, beside a scan, a frame", count, || term_scan::scan(&log.term(0), 0, end), || ours.tally(end.into()));
+    row("tally by partition, beside a scan, a frame", count, || term_scan::scan(&log.term(0), 0, end), || ours.tally_by_partition(end.into()));
     let available = || term_scan::scan_for_availability(&log.term(0), 0, end);
     row("scan_for_availability, a frame", count, available, || ours.scan_for_availability(end));
     let gap = || term_scan::scan_for_gap(&log.term(0), 7, 0, TERM, |_, _, _, _| {});

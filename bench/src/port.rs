@@ -93,6 +93,12 @@ pub struct TallyReply {
 }
 
 #[repr(C)]
+struct PartitionTallyReply {
+    all: TallyReply,
+    partitions: [[usize; 4]; 3],
+}
+
+#[repr(C)]
 pub struct GapReply {
     code: i32,
     is_gap: bool,
@@ -125,6 +131,7 @@ extern "C" {
     fn logbuffer_scan(rec: *const Record, log: *const u8, n: usize, partition: i32, offset: i32, limit: i32) -> ScanReply;
     fn logbuffer_scan_for_gap(rec: *const Record, log: *const u8, n: usize, partition: i32, id: i32, offset: i32, high: i32) -> GapReply;
     fn logbuffer_tally(rec: *const Record, log: *const u8, n: usize, from: i64, to: i64) -> TallyReply;
+    fn logbuffer_tally_by_partition(rec: *const Record, log: *const u8, n: usize, from: i64, to: i64) -> PartitionTallyReply;
     fn logbuffer_scan_for_availability(rec: *const Record, log: *const u8, n: usize, partition: i32, offset: i32, most: i32) -> AvailabilityReply;
 }
 
@@ -277,6 +284,12 @@ impl Log {
         let reply = unsafe { logbuffer_tally(&self.record, self.bytes.as_ptr(), self.bytes.len(), 0, to) };
         assert!(reply.code == 0 && reply.stop == 0);
         reply.sums.iter().sum()
+    }
+
+    pub fn tally_by_partition(&self, to: i64) -> usize {
+        let reply = unsafe { logbuffer_tally_by_partition(&self.record, self.bytes.as_ptr(), self.bytes.len(), 0, to) };
+        assert!(reply.all.code == 0 && reply.all.stop == 0 && reply.partitions[0] == reply.all.sums);
+        reply.all.sums.iter().sum()
     }
 
     pub fn scan_for_gap(&self, high_mark: i32) -> usize {
