@@ -55,9 +55,19 @@ pub fn writer(name: u8, verb: &[u8]) {
     put(verb);
 }
 
+// Ten find numbers for every 32 bytes of the log: a request's block begins here, and no two blocks overlap.
+fn block(position: usize) -> usize {
+    if position < 32 {
+        return 0;
+    }
+    (position - 32) / 32 * 10
+}
+
 pub fn accepted(position: i64) {
     put(b": accepted, next position ");
     number(cast::long(position));
+    put(b", finds from ");
+    number(block(cast::long(position)));
     put(b"\n");
 }
 

@@ -248,7 +248,7 @@ module _ (log : List ℕ) (term mtu initial session stream : ℤ) (fresh : openO
       nothing : reading r₀ .count * reading r₀ .term ≡ 0
       nothing = ap (λ (n : ℕ). n * reading r₀ .term) count-is ∙ omega arith
 
-  tails-open : Tails (w₀ .record·)
+  pub tails-open : Tails (w₀ .record·)
   tails-open = subst Tails (sym record-is) tails₀
 
   inv-open : Inv (shape w₀) w₀ [] []
@@ -259,7 +259,7 @@ module _ (log : List ℕ) (term mtu initial session stream : ℤ) (fresh : openO
             (subst (λ (r : LogRecord). Holds (shapeOf (reading r)) (reading r) (zeros (length log)) [] []) (sym record-is) holds₀);
       }
 
-  reached-open : reached (reading (w₀ .record·)) ≡ 0
+  pub reached-open : reached (reading (w₀ .record·)) ≡ 0
   reached-open = ap (λ (r : LogRecord). reached (reading r)) record-is ∙ omega (arith, nothing, offset-is)
     where
       nothing : reading r₀ .count * reading r₀ .term ≡ 0

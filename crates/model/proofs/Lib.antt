@@ -29,6 +29,7 @@ pub mod Calls
 pub mod Claims
 pub mod Demand
 pub mod Corollaries
+pub mod BlocksApart
 pub mod OneByteMore
 pub mod BadFrames
 -- what the code's contracts lean on

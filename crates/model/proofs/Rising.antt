@@ -139,7 +139,7 @@ module _ (r : LogRecord) (n needed : ℕ) (h : Tails r) (t : Through (reading r)
   moved-up : (a : Answer) → Reaches (reached v) (reached (reading moved)) a → Up r a moved
   moved-up a q = record { tails = moved-tails r h o small; above = omega (arith, reached-moved); reaches = q }
 
-  fits-up : 32 ≤ needed → o ≤ v .term → (reached (reading moved) ≡ place v + needed) × (reached v < reached (reading moved))
+  pub fits-up : 32 ≤ needed → o ≤ v .term → (reached (reading moved) ≡ place v + needed) × (reached v < reached (reading moved))
   fits-up s f = (omega (arith, reached-moved), omega (arith, reached-moved))
 
   -- rotated
@@ -254,7 +254,7 @@ lowered low low′ (claimed a) P l f q = go a q
     go (ClaimRefused e) q = f q
 lowered low low′ (outcome a) P l f q = f q
 
-rises-from : (low low′ : ℕ) (ts : List (Call × Answer)) → low′ ≤ low → Rising low ts → Rising low′ ts
+pub rises-from : (low low′ : ℕ) (ts : List (Call × Answer)) → low′ ≤ low → Rising low ts → Rising low′ ts
 unfolding Rising
 rises-from low low′ [] l r = tt
 rises-from low low′ (t ∷ ts) l r = lowered low low′ (t .1) (λ (n : ℕ). Rising n ts) l (λ q. rises-from low low′ ts l q) r

@@ -21,5 +21,6 @@ pub mod History
 pub mod Replay
 pub mod Demand
 pub mod Corollaries
+pub mod BlocksApart
 pub mod OneByteMore
 pub mod BadFrames
