@@ -4,7 +4,7 @@
 #
 #   inlined.sh [ARCHIVE]
 set -eu
-archive=${1:-$(cd "$(dirname "$0")" && pwd)/../target/staticlib/libcapi.a}
+archive=${1:-$(cd "$(dirname "$0")" && pwd)/../target/liblogbuffer.a}
 names=$(nm "$archive" | sed -n 's/^[0-9a-f]* [tT] //p')
 case "$names" in *logbuffer_offer*) ;; *) echo "inlined.sh: no functions in $archive"; exit 1 ;; esac
 for name in publication::offer publication::try_claim logbuffer::term_appender::append_one logbuffer::term_reader::read_on \

@@ -8,8 +8,8 @@ set -eu
 here=$(cd "$(dirname "$0")" && pwd)
 root=$here/..
 given=${1:-$root/../shared/docs/src}
-archive=${2:-$root/target/staticlib/libcapi.a}
-[ -f "$archive" ] || (cd "$root" && rt staticlib capi >/dev/null)
+archive=${2:-$root/target/liblogbuffer.a}
+[ -f "$archive" ] || (cd "$root" && ./archive >/dev/null)
 "$here/inlined.sh" "$archive" >/dev/null || { "$here/inlined.sh" "$archive"; exit 1; }
 "$root/oracle/build.sh" "$given" "$archive" >/dev/null
 out=$here/target

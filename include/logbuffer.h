@@ -1,14 +1,18 @@
 /* The log buffer for C: an excavation's log as Aeron lays it out, each function proved equal to a definition in crates/model/specs, for
  * find cards in crates/card/specs, for finished terms on the shelf in crates/shelf/specs, for the tally in crates/tally/specs.
  *
- *   rt staticlib capi                                             builds target/staticlib/libcapi.a (x86-64)
- *   cc -I include program.c target/staticlib/libcapi.a            links it; it needs nothing else
+ *   ./archive                                                     builds target/liblogbuffer.a (x86-64)
+ *   cc -I include program.c target/liblogbuffer.a                 links it; it needs nothing else
  *
  * How to call it
  * - Nothing is kept between calls: the record, an image, an assembler and a replay are structs of the caller's. A call takes one by a pointer
  *   and changes it in place; where the pointer is to const it only reads it. All memory is the caller's; nothing is allocated.
  * - A slice is a pointer and a count of elements. The pointer must be valid for so many elements, and nothing that is written, slice or struct,
  *   may overlap anything else of the same call. Nothing else is asked: any number and any bytes may be handed in; a bool is yes unless its byte is 0.
+ *   A pointer may be NULL where its count is 0.
+ * - Callers take turns: while a call writes a log, its record or another struct, no other call may use it. Calls that only read may run at the same time
+ *   on a log that nobody is writing, each with a struct of its own.
+ * - The record changes in place, so nobody goes on with an old one unless it was copied on purpose. A record kept elsewhere is good with the log as it was then.
  * - `code` is 0, or the number of the refusal below. Where it is not 0 the other values of a reply are 0, and what was lent by a pointer
  *   is as it was, every byte of it, unless the refusal's line or the call's says otherwise. Only `rule` of an offer or a claim always stands.
  * - With 22 and 23 a reply tells the place of the frame, its offset in its term: in `offset` of a read, a scan, a gap scan and a block, in `outcome`
@@ -54,9 +58,68 @@
 #include <stddef.h>
 #include <stdint.h>
 
+/* A reply has to be looked at: it says whether anything was done. */
+#if defined(__GNUC__) || defined(__clang__)
+#define LOGBUFFER_ANSWER __attribute__((warn_unused_result))
+#else
+#define LOGBUFFER_ANSWER
+#endif
+
 #ifdef __cplusplus
 extern "C" {
 #endif
+
+/* ---- numbers */
+
+/* The refusals. 17 is retired; 19, 20, 24 and 25 are not in use. */
+enum {
+    LOGBUFFER_DONE = 0,
+    LOGBUFFER_ILLEGAL_ARGUMENT = 1,
+    LOGBUFFER_ILLEGAL_RECORD = 2,
+    LOGBUFFER_POSITION_OUT_OF_RANGE = 3,
+    LOGBUFFER_EXCEEDS_MAX_PAYLOAD_LENGTH = 4,
+    LOGBUFFER_PUBLICATION_CLOSED = 5,
+    LOGBUFFER_ADMIN_ACTION = 6,
+    LOGBUFFER_MAX_POSITION_EXCEEDED = 7,
+    LOGBUFFER_BACK_PRESSURED = 8,
+    LOGBUFFER_NOT_CONNECTED = 9,
+    LOGBUFFER_EXCEEDS_MAX_MESSAGE_LENGTH = 10,
+    LOGBUFFER_TAIL_OVERFLOW = 11,
+    LOGBUFFER_LAST_TERM = 12,
+    LOGBUFFER_ACTION_POSSIBLY_DELAYED = 13,
+    LOGBUFFER_CLAIM_MISMATCH = 14,
+    LOGBUFFER_NEW_POSITION_OUT_OF_RANGE = 15,
+    LOGBUFFER_NEW_POSITION_NOT_ALIGNED = 16,
+    LOGBUFFER_ASSEMBLY_FULL = 18,
+    LOGBUFFER_BROKEN_CARD = 21,
+    LOGBUFFER_FRAME_TOO_SHORT = 22,
+    LOGBUFFER_FRAME_PAST_TERM = 23,
+    LOGBUFFER_NOT_FILLED = 26
+};
+
+/* Frames: a header of 32 bytes, each frame at a multiple of 32; the flags and types of a header. */
+enum {
+    LOGBUFFER_HEADER_LENGTH = 32,
+    LOGBUFFER_FRAME_ALIGNMENT = 32,
+    LOGBUFFER_BEGIN_FRAG = 0x80,
+    LOGBUFFER_END_FRAG = 0x40,
+    LOGBUFFER_UNFRAGMENTED = 0xc0,
+    LOGBUFFER_TYPE_PADDING = 0,
+    LOGBUFFER_TYPE_DATA = 1
+};
+
+/* The answers of a handler, one for each fragment. */
+enum { LOGBUFFER_ACTION_ABORT = 1, LOGBUFFER_ACTION_BREAK = 2, LOGBUFFER_ACTION_COMMIT = 3, LOGBUFFER_ACTION_CONTINUE = 4 };
+
+/* Ranges: of the term length, a power of two; of the mtu, a multiple of 32; how many partitions a log has, and sessions an assembler knows. */
+enum {
+    LOGBUFFER_TERM_MIN_LENGTH = 65536,
+    LOGBUFFER_TERM_MAX_LENGTH = 1073741824,
+    LOGBUFFER_MTU_MIN_LENGTH = 64,
+    LOGBUFFER_MTU_MAX_LENGTH = 65504,
+    LOGBUFFER_PARTITION_COUNT = 3,
+    LOGBUFFER_MAX_SESSIONS = 16
+};
 
 /* ---- values */
 
@@ -358,115 +421,123 @@ struct logbuffer_partition_tally_reply {
     struct logbuffer_partitions partitions;
 };
 
+/* ---- this face */
+
+/* Its version, which the function's name carries too: an archive of another version does not link. */
+#define LOGBUFFER_FACE_VERSION 1
+LOGBUFFER_ANSWER uint32_t logbuffer_face_1(void);
+
 /* ---- opening, and calls on the record alone */
 
 /* Zeroes the log, three terms, and fills the record of an empty one: limit 0, connected, not closed. Term length: a power of two from
  * 65,536 to 2^30. Mtu: a multiple of 32 from 64 to 65,504. Initial id: any; after 2147483647 comes
  * -2147483648. Answers 0, or refuses 2 and writes nothing, not to
  * the record either. */
-int32_t logbuffer_open(struct logbuffer_record *rec, uint8_t *log, size_t log_length, int32_t term_length, int32_t mtu_length,
+LOGBUFFER_ANSWER int32_t logbuffer_open(struct logbuffer_record *rec, uint8_t *log, size_t log_length, int32_t term_length, int32_t mtu_length,
                        int32_t initial_term_id, int32_t session_id, int32_t stream_id);
 
 /* Offers and claims that begin below this position are let through: from 0 to 2^62. Keep it at most two terms ahead of the slowest
  * reader, and raise it as readers move on: only the start is judged, so a message may end past the limit, and what comes to lie three terms
  * ahead of a reader overwrites, without a word, what it has not read. The answer is the number: 0, 2. */
-int32_t logbuffer_set_publication_limit(struct logbuffer_record *rec, int64_t limit);
+LOGBUFFER_ANSWER int32_t logbuffer_set_publication_limit(struct logbuffer_record *rec, int64_t limit);
 
 /* Offers, claims and the three numbers below then refuse 5. The answer is the number: 0, 2. */
-int32_t logbuffer_close(struct logbuffer_record *rec);
+LOGBUFFER_ANSWER int32_t logbuffer_close(struct logbuffer_record *rec);
 
 /* The next partition's tail becomes (term_id + 1, 0) if its id is term_id - 2, and the count rises by one if it is the one given.
  * The answer is the number: 0, 1, 2, 12. */
-int32_t logbuffer_rotate_log(struct logbuffer_record *rec, int32_t count, int32_t term_id);
+LOGBUFFER_ANSWER int32_t logbuffer_rotate_log(struct logbuffer_record *rec, int32_t count, int32_t term_id);
 
 /* The publisher's position; its limit; what is left up to the limit, below 0 where the position is past it. Each refuses 2, 5. */
-struct logbuffer_position_reply logbuffer_position(const struct logbuffer_record *rec);
-struct logbuffer_position_reply logbuffer_publication_limit(const struct logbuffer_record *rec);
-struct logbuffer_position_reply logbuffer_available_window(const struct logbuffer_record *rec);
+LOGBUFFER_ANSWER struct logbuffer_position_reply logbuffer_position(const struct logbuffer_record *rec);
+LOGBUFFER_ANSWER struct logbuffer_position_reply logbuffer_publication_limit(const struct logbuffer_record *rec);
+LOGBUFFER_ANSWER struct logbuffer_position_reply logbuffer_available_window(const struct logbuffer_record *rec);
 
 /* ---- numbers of tails and positions, which refuse nothing but where said */
 
 /* A value rounded up to a multiple of 32; whether it is a power of two. */
-size_t logbuffer_align(uint32_t value);
-bool logbuffer_is_power_of_two(uint32_t value);
+LOGBUFFER_ANSWER size_t logbuffer_align(uint32_t value);
+LOGBUFFER_ANSWER bool logbuffer_is_power_of_two(uint32_t value);
 
 /* Of a raw tail: its term id, and its offset cut to the term length. */
-int32_t logbuffer_term_id(int64_t raw_tail);
-size_t logbuffer_term_offset(int64_t raw_tail, size_t term_length);
+LOGBUFFER_ANSWER int32_t logbuffer_term_id(int64_t raw_tail);
+LOGBUFFER_ANSWER size_t logbuffer_term_offset(int64_t raw_tail, size_t term_length);
 
 /* The partition of a term count, and of a position, given the bits to shift: the trailing zeros of the term length. */
-size_t logbuffer_index_by_term_count(size_t count);
-size_t logbuffer_index_by_position(uint64_t position, uint32_t bits);
-uint32_t logbuffer_position_bits_to_shift(uint32_t term_length);
+LOGBUFFER_ANSWER size_t logbuffer_index_by_term_count(size_t count);
+LOGBUFFER_ANSWER size_t logbuffer_index_by_position(uint64_t position, uint32_t bits);
+LOGBUFFER_ANSWER uint32_t logbuffer_position_bits_to_shift(uint32_t term_length);
 
 /* (term_id - initial_term_id) * 2^bits + offset. Refuses 1: more than 30 bits. */
-struct logbuffer_position_reply logbuffer_compute_position(int32_t term_id, uint32_t offset, uint32_t bits, int32_t initial_term_id);
+LOGBUFFER_ANSWER struct logbuffer_position_reply logbuffer_compute_position(int32_t term_id, uint32_t offset, uint32_t bits, int32_t initial_term_id);
 
 /* ---- writing */
 
-/* Appends a message, in fragments where it is longer than the payload limit (mtu - 32), and answers the position after it. Refuses 1, 2,
+/* Appends a message of 0 to 2147483647 bytes, in fragments where it is longer than the payload limit (mtu - 32), and answers the position after it: at most an eighth
+ * of a term and 16 MiB, unless one frame holds it. Refuses 1, 2,
  * 5, 6, 7, 8, 9, 10, 11, 12. After 6 by LOGBUFFER_RULE_TERM_ROTATED call again: with the term full the log has been rotated. */
-struct logbuffer_offer_reply logbuffer_offer(struct logbuffer_record *rec, uint8_t *log, size_t log_length, const uint8_t *message,
+LOGBUFFER_ANSWER struct logbuffer_offer_reply logbuffer_offer(struct logbuffer_record *rec, uint8_t *log, size_t log_length, const uint8_t *message,
                                              size_t message_length, int64_t reserved_value);
 
-/* Claims a frame for a body of this length, up to the payload limit. Readers stop before it until it is committed or aborted. Refuses 1,
+/* Claims a frame for a body of this length, 0 up to the payload limit. Readers stop before it until it is committed or aborted. Refuses 1,
  * 2, 4, 5, 6, 7, 8, 9, 11, 12. On a closed publication a length over the payload limit refuses 5, not 4. */
-struct logbuffer_claim_reply logbuffer_try_claim(struct logbuffer_record *rec, uint8_t *log, size_t log_length, int32_t length);
+LOGBUFFER_ANSWER struct logbuffer_claim_reply logbuffer_try_claim(struct logbuffer_record *rec, uint8_t *log, size_t log_length, int32_t length);
 
 /* Where the body of an open claim lies in the log, to be written by the caller; and the number alone. Each refuses 1, 2, 14. */
-struct logbuffer_span_reply logbuffer_claim_body(const struct logbuffer_record *rec, const uint8_t *log, size_t log_length,
+LOGBUFFER_ANSWER struct logbuffer_span_reply logbuffer_claim_body(const struct logbuffer_record *rec, const uint8_t *log, size_t log_length,
                                                  struct logbuffer_claim claim);
-int32_t logbuffer_claim_body_number(const struct logbuffer_record *rec, const uint8_t *log, size_t log_length,
+LOGBUFFER_ANSWER int32_t logbuffer_claim_body_number(const struct logbuffer_record *rec, const uint8_t *log, size_t log_length,
                                     struct logbuffer_claim claim);
 
 /* Writes bytes over the body of an open claim, from its start on and as far as it goes. The answer is the number: 0, 1, 2, 14. */
-int32_t logbuffer_claim_write(const struct logbuffer_record *rec, uint8_t *log, size_t log_length, struct logbuffer_claim claim,
+LOGBUFFER_ANSWER int32_t logbuffer_claim_write(const struct logbuffer_record *rec, uint8_t *log, size_t log_length, struct logbuffer_claim claim,
                               const uint8_t *bytes, size_t bytes_length);
 
 /* Makes an open claim a message; or padding, which readers pass. The answer is the number: 0, 1, 2, 14. */
-int32_t logbuffer_commit(const struct logbuffer_record *rec, uint8_t *log, size_t log_length, struct logbuffer_claim claim);
-int32_t logbuffer_abort(const struct logbuffer_record *rec, uint8_t *log, size_t log_length, struct logbuffer_claim claim);
+LOGBUFFER_ANSWER int32_t logbuffer_commit(const struct logbuffer_record *rec, uint8_t *log, size_t log_length, struct logbuffer_claim claim);
+LOGBUFFER_ANSWER int32_t logbuffer_abort(const struct logbuffer_record *rec, uint8_t *log, size_t log_length, struct logbuffer_claim claim);
 
 /* The appenders under offer and claim, on a partition (0 to 2) and a term id of the caller's choice. Each refuses 1, 2, 11, 13. */
-struct logbuffer_append_reply logbuffer_append_unfragmented_message(struct logbuffer_record *rec, uint8_t *log, size_t log_length,
+LOGBUFFER_ANSWER struct logbuffer_append_reply logbuffer_append_unfragmented_message(struct logbuffer_record *rec, uint8_t *log, size_t log_length,
                                                                     int32_t partition, const uint8_t *message, size_t message_length,
                                                                     int64_t reserved_value, int32_t term_id);
-struct logbuffer_append_reply logbuffer_append_fragmented_message(struct logbuffer_record *rec, uint8_t *log, size_t log_length,
+LOGBUFFER_ANSWER struct logbuffer_append_reply logbuffer_append_fragmented_message(struct logbuffer_record *rec, uint8_t *log, size_t log_length,
                                                                   int32_t partition, const uint8_t *message, size_t message_length,
                                                                   int64_t reserved_value, int32_t payload_limit, int32_t term_id);
-struct logbuffer_append_claim_reply logbuffer_append_claim(struct logbuffer_record *rec, uint8_t *log, size_t log_length, int32_t partition,
+LOGBUFFER_ANSWER struct logbuffer_append_claim_reply logbuffer_append_claim(struct logbuffer_record *rec, uint8_t *log, size_t log_length, int32_t partition,
                                                            int32_t length, int32_t term_id);
 
 /* ---- frames of one term: partition 0 to 2, offset a multiple of 32 below the term length */
 
 /* The header at an offset. Refuses 1, 2. */
-struct logbuffer_header_reply logbuffer_header_fields(const struct logbuffer_record *rec, const uint8_t *log, size_t log_length,
+LOGBUFFER_ANSWER struct logbuffer_header_reply logbuffer_header_fields(const struct logbuffer_record *rec, const uint8_t *log, size_t log_length,
                                                       int32_t partition, int32_t offset);
 
 /* Whether the place at an offset is free, being written or finished, and how long the frame there is; sound or not. Where a reader stops, it
  * tells an empty place from a claim that nobody has finished: the publisher's side can commit or abort that one, and readers go on. Of a
  * position p the partition is p / term length % 3 and the offset p % term length; at or past the publisher's position a place may still
  * hold a frame of an older term. Refuses 1, 2. */
-struct logbuffer_frame_length_reply logbuffer_frame_length(const struct logbuffer_record *rec, const uint8_t *log, size_t log_length,
+LOGBUFFER_ANSWER struct logbuffer_frame_length_reply logbuffer_frame_length(const struct logbuffer_record *rec, const uint8_t *log, size_t log_length,
                                                            int32_t partition, int32_t offset);
 
-/* Hands out (offset, length) of each body as two numbers in entries, at most fragment_limit of them. Refuses 1, 2, 22, 23. */
-struct logbuffer_read_reply logbuffer_read(const struct logbuffer_record *rec, const uint8_t *log, size_t log_length, int32_t partition,
+/* Hands out (offset, length) of each body as two numbers in entries, at most fragment_limit of them; entries_length is at least 2 * fragment_limit, and a
+ * limit of 0 or less reads nothing. The offset may also be the term length, where nothing is left. Refuses 1, 2, 22, 23. */
+LOGBUFFER_ANSWER struct logbuffer_read_reply logbuffer_read(const struct logbuffer_record *rec, const uint8_t *log, size_t log_length, int32_t partition,
                                            int32_t offset, int32_t fragment_limit, int32_t *entries, size_t entries_length);
 
 /* Where an entry's body lies in the log; and the number alone. Any offset and length inside the term. Each refuses 1, 2. */
-struct logbuffer_span_reply logbuffer_view(const struct logbuffer_record *rec, const uint8_t *log, size_t log_length, int32_t partition,
+LOGBUFFER_ANSWER struct logbuffer_span_reply logbuffer_view(const struct logbuffer_record *rec, const uint8_t *log, size_t log_length, int32_t partition,
                                            int32_t offset, int32_t length);
-int32_t logbuffer_view_number(const struct logbuffer_record *rec, const uint8_t *log, size_t log_length, int32_t partition, int32_t offset,
+LOGBUFFER_ANSWER int32_t logbuffer_view_number(const struct logbuffer_record *rec, const uint8_t *log, size_t log_length, int32_t partition, int32_t offset,
                               int32_t length);
 
 /* The end of the finished frames up to a limit, of which padding is taken only as the first, and then alone and even where it ends past
  * the limit; the gap in them up to a high mark; the bytes available for sending, and the padding after them. Each refuses 1, 2, 22, 23. */
-struct logbuffer_scan_reply logbuffer_scan(const struct logbuffer_record *rec, const uint8_t *log, size_t log_length, int32_t partition,
+LOGBUFFER_ANSWER struct logbuffer_scan_reply logbuffer_scan(const struct logbuffer_record *rec, const uint8_t *log, size_t log_length, int32_t partition,
                                            int32_t offset, int32_t limit);
-struct logbuffer_gap_reply logbuffer_scan_for_gap(const struct logbuffer_record *rec, const uint8_t *log, size_t log_length,
+LOGBUFFER_ANSWER struct logbuffer_gap_reply logbuffer_scan_for_gap(const struct logbuffer_record *rec, const uint8_t *log, size_t log_length,
                                                   int32_t partition, int32_t term_id, int32_t offset, int32_t high_mark);
-struct logbuffer_availability_reply logbuffer_scan_for_availability(const struct logbuffer_record *rec, const uint8_t *log,
+LOGBUFFER_ANSWER struct logbuffer_availability_reply logbuffer_scan_for_availability(const struct logbuffer_record *rec, const uint8_t *log,
                                                                     size_t log_length, int32_t partition, int32_t offset, int32_t maximum);
 
 /* ---- images */
@@ -475,40 +546,42 @@ struct logbuffer_availability_reply logbuffer_scan_for_availability(const struct
 void logbuffer_image_new(struct logbuffer_image *image, int64_t position, int32_t session_id);
 
 /* Reads fragments up to the end of the term and moves past them; entries as in logbuffer_read, in the term of the position before the
- * call. Refuses 1, 2, 3, 22, 23. The second reads no frame that begins at or past a position. The third takes an answer for each fragment: 1
- * abort, 2 break, 3 commit, 4 continue. */
-struct logbuffer_poll_reply logbuffer_image_poll(struct logbuffer_image *image, const struct logbuffer_record *rec, const uint8_t *log,
+ * call. Refuses 1, 2, 3, 22, 23. The second reads no frame that begins at or past a position. The third takes an answer for each fragment,
+ * LOGBUFFER_ACTION_..: as many actions as the fragment limit or more, each of them 1 to 4. entries_length is at least 2 * fragment_limit; the entries lie in
+ * the partition of the position before the call, position / term length % 3. */
+LOGBUFFER_ANSWER struct logbuffer_poll_reply logbuffer_image_poll(struct logbuffer_image *image, const struct logbuffer_record *rec, const uint8_t *log,
                                                  size_t log_length, int32_t *entries, size_t entries_length, int32_t fragment_limit);
-struct logbuffer_poll_reply logbuffer_image_bounded_poll(struct logbuffer_image *image, const struct logbuffer_record *rec,
+LOGBUFFER_ANSWER struct logbuffer_poll_reply logbuffer_image_bounded_poll(struct logbuffer_image *image, const struct logbuffer_record *rec,
                                                          const uint8_t *log, size_t log_length, int32_t *entries, size_t entries_length,
                                                          int64_t limit_position, int32_t fragment_limit);
-struct logbuffer_poll_reply logbuffer_image_controlled_poll(struct logbuffer_image *image, const struct logbuffer_record *rec,
+LOGBUFFER_ANSWER struct logbuffer_poll_reply logbuffer_image_controlled_poll(struct logbuffer_image *image, const struct logbuffer_record *rec,
                                                             const uint8_t *log, size_t log_length, int32_t *entries, size_t entries_length,
                                                             const uint8_t *actions, size_t actions_length, int32_t fragment_limit);
 
-/* Reads from a start at or after the image's position without moving it, at most one fragment for each action, and answers the position
+/* Reads from a start at or after the image's position without moving it, at most one fragment for each action (each 1 to 4, entries_length at least 2 *
+ * actions_length), and answers the position
  * after the last whole message or padding, which counts also between the fragments of a message. Refuses 1, 2, 3, 15, 16, 22, 23. */
-struct logbuffer_peek_reply logbuffer_image_controlled_peek(const struct logbuffer_image *image, const struct logbuffer_record *rec,
+LOGBUFFER_ANSWER struct logbuffer_peek_reply logbuffer_image_controlled_peek(const struct logbuffer_image *image, const struct logbuffer_record *rec,
                                                             const uint8_t *log, size_t log_length, int32_t *entries, size_t entries_length,
                                                             const uint8_t *actions, size_t actions_length, int64_t start,
                                                             int64_t limit_position);
 
 /* Moves past whole frames of together at most limit bytes and answers where they lie. Padding is taken only as the first frame, and then
- * alone and even where it is longer than the limit. Refuses 2, 3, 22, 23. */
-struct logbuffer_block_reply logbuffer_image_block_poll(struct logbuffer_image *image, const struct logbuffer_record *rec,
+ * alone and even where it is longer than the limit: a caller who copies blocks into limit bytes has to look at the length first. Refuses 2, 3, 22, 23. */
+LOGBUFFER_ANSWER struct logbuffer_block_reply logbuffer_image_block_poll(struct logbuffer_image *image, const struct logbuffer_record *rec,
                                                         const uint8_t *log, size_t log_length, int32_t limit);
 
 /* Moves within the term. The answer is the number: 0, 2, 3, 15, 16. */
-int32_t logbuffer_image_set_position(struct logbuffer_image *image, const struct logbuffer_record *rec, const uint8_t *log,
+LOGBUFFER_ANSWER int32_t logbuffer_image_set_position(struct logbuffer_image *image, const struct logbuffer_record *rec, const uint8_t *log,
                                      size_t log_length, int64_t new_position);
 
 /* Whether the position is at or past the end of the stream. Refuses 2, 3. */
-struct logbuffer_end_of_stream_reply logbuffer_image_is_end_of_stream(const struct logbuffer_image *image,
+LOGBUFFER_ANSWER struct logbuffer_end_of_stream_reply logbuffer_image_is_end_of_stream(const struct logbuffer_image *image,
                                                                       const struct logbuffer_record *rec, const uint8_t *log,
                                                                       size_t log_length);
 
 /* Closes the image: it then reads nothing and stays. The answer is the number: 0, 2. */
-int32_t logbuffer_image_close(struct logbuffer_image *image, const struct logbuffer_record *rec, const uint8_t *log, size_t log_length);
+LOGBUFFER_ANSWER int32_t logbuffer_image_close(struct logbuffer_image *image, const struct logbuffer_record *rec, const uint8_t *log, size_t log_length);
 
 /* ---- messages put together again */
 
@@ -519,7 +592,7 @@ void logbuffer_assembler_new(struct logbuffer_assembler *assembler);
 /* Takes the frame at an offset of a partition. An unfragmented message lies in the log, one put together lies in the buffer, until the
  * next call. Refuses 1, 2, 22, 23, 18. After 18 for fragments longer than their part that session stays entered, emptied, and the rest of the
  * message is ignored; 18 for a 17th session changes nothing. */
-struct logbuffer_assembly_reply logbuffer_assembler_on_fragment(struct logbuffer_assembler *assembler, const struct logbuffer_record *rec,
+LOGBUFFER_ANSWER struct logbuffer_assembly_reply logbuffer_assembler_on_fragment(struct logbuffer_assembler *assembler, const struct logbuffer_record *rec,
                                                                 const uint8_t *log, size_t log_length, uint8_t *buffer,
                                                                 size_t buffer_length, int32_t partition, int32_t offset);
 
@@ -529,19 +602,19 @@ void logbuffer_replay_new(struct logbuffer_replay *replay, int32_t session_id);
 /* The next message; LOGBUFFER_NOTHING at the end, which is also before the first claim still open. Fragments are joined in the buffer, the
  * same from call to call. Refuses 1 (buffer over 2147483647), 2, 3, 22, 23 as a poll does, and 18 as the assembler does. What it read before
  * a frame that it refuses stays read; it then stands before that frame, and called again it refuses the same again. */
-struct logbuffer_next_reply logbuffer_replay_next(struct logbuffer_replay *replay, const struct logbuffer_record *rec, const uint8_t *log,
+LOGBUFFER_ANSWER struct logbuffer_next_reply logbuffer_replay_next(struct logbuffer_replay *replay, const struct logbuffer_record *rec, const uint8_t *log,
                                                   size_t log_length, uint8_t *buffer, size_t buffer_length);
 
 /* As many messages at once as there are and the lent numbers hold, four numbers for each: place, start and length as logbuffer_replay_next
  * answers them, and the position behind it. A message in the buffer is the last of its batch; read a batch before the next call. What
  * logbuffer_replay_next refuses ends a batch, and is answered by the next call; by this one where nothing was laid before it. Refuses as
  * logbuffer_replay_next, and 1 for numbers over 2147483647. Fewer than 4 numbers hold no message: then 0 are laid and nothing is read. */
-struct logbuffer_batch_reply logbuffer_replay_next_batch(struct logbuffer_replay *replay, const struct logbuffer_record *rec,
+LOGBUFFER_ANSWER struct logbuffer_batch_reply logbuffer_replay_next_batch(struct logbuffer_replay *replay, const struct logbuffer_record *rec,
                                                          const uint8_t *log, size_t log_length, uint8_t *buffer, size_t buffer_length,
                                                          size_t *numbers, size_t numbers_length);
 
 /* A whole replay: how many messages, and how many bytes they have together. Refuses as logbuffer_replay_next. */
-struct logbuffer_count_reply logbuffer_replay_count(const struct logbuffer_record *rec, const uint8_t *log, size_t log_length,
+LOGBUFFER_ANSWER struct logbuffer_count_reply logbuffer_replay_count(const struct logbuffer_record *rec, const uint8_t *log, size_t log_length,
                                                     uint8_t *buffer, size_t buffer_length, int32_t session_id);
 
 /* ---- find cards: message bodies that every reader understands alike */
@@ -549,11 +622,11 @@ struct logbuffer_count_reply logbuffer_replay_count(const struct logbuffer_recor
 /* Writes a card's only encoding at the start of out and answers its length, 5 to LOGBUFFER_CARD_MAX_LENGTH; what lies behind it in out
  * stays. The note, of 1 to 255 bytes, is not looked at where bit 5 is off. Refuses 1 (out shorter than the card, or a slice over
  * 2147483647), 21. A broken card is 21 whatever the length of out. */
-struct logbuffer_card_write_reply logbuffer_card_write(struct logbuffer_card card, const uint8_t *note, size_t note_length, uint8_t *out,
+LOGBUFFER_ANSWER struct logbuffer_card_write_reply logbuffer_card_write(struct logbuffer_card card, const uint8_t *note, size_t note_length, uint8_t *out,
                                                        size_t out_length);
 
 /* Reads a card: accepts just what logbuffer_card_write makes, to the last byte. Refuses 1 (a slice over 2147483647), 21. */
-struct logbuffer_card_read_reply logbuffer_card_read(const uint8_t *bytes, size_t bytes_length);
+LOGBUFFER_ANSWER struct logbuffer_card_read_reply logbuffer_card_read(const uint8_t *bytes, size_t bytes_length);
 
 /* ---- finished terms on the shelf: all headers of a term together, and back */
 
@@ -562,14 +635,14 @@ struct logbuffer_card_read_reply logbuffer_card_read(const uint8_t *bytes, size_
  * slack. Frames are judged by their length alone; padding is a frame. out has the term length and 4 bytes more. Answers 0, or refuses 1
  * (partition; length of out), 2, 26 (the frames do not reach the term's end: a free or unfinished frame, a length of 1 to 31, an end past
  * the term), and leaves out as it was. */
-int32_t logbuffer_shelve(const struct logbuffer_record *rec, const uint8_t *log, size_t log_length, int32_t partition, uint8_t *out,
+LOGBUFFER_ANSWER int32_t logbuffer_shelve(const struct logbuffer_record *rec, const uint8_t *log, size_t log_length, int32_t partition, uint8_t *out,
                          size_t out_length);
 
 /* Gives back every byte of the term that a shelf came from; no log is needed. out has the record's term length. Accepts just what
  * logbuffer_shelve makes of some term of that length. Answers 0, or refuses 1 (length of out; shelf over 2147483647), 2 (the record
  * alone), 26 (a shelf of another length than the term's and 4, headers that are too many, too few or have no length that a frame can
  * have), and leaves out as it was. */
-int32_t logbuffer_unshelve(const struct logbuffer_record *rec, const uint8_t *shelf, size_t shelf_length, uint8_t *out, size_t out_length);
+LOGBUFFER_ANSWER int32_t logbuffer_unshelve(const struct logbuffer_record *rec, const uint8_t *shelf, size_t shelf_length, uint8_t *out, size_t out_length);
 
 /* ---- where a log's bytes went */
 
@@ -577,13 +650,49 @@ int32_t logbuffer_unshelve(const struct logbuffer_record *rec, const uint8_t *sh
  * before it at the first frame being written, free place, frame without its position's term id, frame that would pass the second position or
  * unsound frame; the four sums are the distance walked. Equal positions look at no frame. Refuses 1 (positions not in order, or more than three terms
  * apart), 2, 3 (either position), 22, 23 (the first frame). */
-struct logbuffer_tally_reply logbuffer_tally(const struct logbuffer_record *rec, const uint8_t *log, size_t log_length, int64_t from, int64_t to);
+LOGBUFFER_ANSWER struct logbuffer_tally_reply logbuffer_tally(const struct logbuffer_record *rec, const uint8_t *log, size_t log_length, int64_t from, int64_t to);
 
 /* The same, walking partitions 0, 1, 2 as they lie, with the sums of each: zeros where it has no part. Where the walk ends, why, all four sums and the refusals are
  * those of logbuffer_tally, and each partition's sums are over the frames that it passed there. Refuses 1 (as above), 2, 3, then 1 (the bytes between
  * lie in more than three terms), 22, 23. */
-struct logbuffer_partition_tally_reply logbuffer_tally_by_partition(const struct logbuffer_record *rec, const uint8_t *log, size_t log_length, int64_t from,
+LOGBUFFER_ANSWER struct logbuffer_partition_tally_reply logbuffer_tally_by_partition(const struct logbuffer_record *rec, const uint8_t *log, size_t log_length, int64_t from,
                                                                     int64_t to);
+
+/* ---- in words; what to do about each stands in docs/ERRORS.md */
+
+/* What a refusal's number means; of any other number that it is none. */
+static inline const char *logbuffer_strerror(int32_t code) {
+    switch (code) {
+    case LOGBUFFER_DONE: return "done";
+    case LOGBUFFER_ILLEGAL_ARGUMENT: return "an argument is out of its range";
+    case LOGBUFFER_ILLEGAL_RECORD: return "the record or the log breaks its ranges";
+    case LOGBUFFER_POSITION_OUT_OF_RANGE: return "the image's position is negative, over the greatest, or not a multiple of 32";
+    case LOGBUFFER_EXCEEDS_MAX_PAYLOAD_LENGTH: return "claim longer than the payload limit, mtu - 32";
+    case LOGBUFFER_PUBLICATION_CLOSED: return "the publication is closed";
+    case LOGBUFFER_ADMIN_ACTION: return "the term was full and the log has been rotated, or count and term id differ: the reply's rule tells";
+    case LOGBUFFER_MAX_POSITION_EXCEEDED: return "the greatest position is reached";
+    case LOGBUFFER_BACK_PRESSURED: return "the publication limit is reached";
+    case LOGBUFFER_NOT_CONNECTED: return "the publication limit is reached and nobody is connected";
+    case LOGBUFFER_EXCEEDS_MAX_MESSAGE_LENGTH: return "message longer than the payload limit and than the message limit";
+    case LOGBUFFER_TAIL_OVERFLOW: return "tail offset and need together over 2147483647";
+    case LOGBUFFER_LAST_TERM: return "the term is full and there is no next one";
+    case LOGBUFFER_ACTION_POSSIBLY_DELAYED: return "the tail's term id is not the one given to the appender";
+    case LOGBUFFER_CLAIM_MISMATCH: return "the frame's header does not show this open claim";
+    case LOGBUFFER_NEW_POSITION_OUT_OF_RANGE: return "the new position is before the current one or past the term's end";
+    case LOGBUFFER_NEW_POSITION_NOT_ALIGNED: return "the new position is not a multiple of 32";
+    case LOGBUFFER_ASSEMBLY_FULL: return "begin frame of a 17th session, or fragments longer together than their part of the buffer";
+    case LOGBUFFER_BROKEN_CARD: return "a find card, or bytes, that break its format";
+    case LOGBUFFER_FRAME_TOO_SHORT: return "the first frame has a length of 1 to 31";
+    case LOGBUFFER_FRAME_PAST_TERM: return "the first frame runs past its term's end";
+    case LOGBUFFER_NOT_FILLED: return "frames that do not fill the term, or shelf bytes that no term of that length gives";
+    default: return "no refusal has this number";
+    }
+}
+
+/* What makes the linker look for the version. */
+#if defined(__GNUC__) || defined(__clang__)
+static uint32_t (*const logbuffer_face_linked)(void) __attribute__((used)) = logbuffer_face_1;
+#endif
 
 #ifdef __cplusplus
 }

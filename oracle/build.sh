@@ -3,7 +3,7 @@
 #
 #   build.sh [FOLDER [ARCHIVE]]   FOLDER holds the given sources (src/publication.rs and so on);
 #                                 default: ../shared/docs/src beside the project's root.
-#                                 ARCHIVE is the port for C; default: target/staticlib/libcapi.a of the project.
+#                                 ARCHIVE is the port for C; default: target/liblogbuffer.a of the project.
 #                                 Without it everything is built but compare.
 #   UNCHECKED=1 build.sh ..       leaves the sums out, for given files changed on purpose
 #
@@ -16,7 +16,7 @@
 set -eu
 here=$(cd "$(dirname "$0")" && pwd)
 given=${1:-$here/../../shared/docs/src}
-archive=${2:-$here/../target/staticlib/libcapi.a}
+archive=${2:-$here/../target/liblogbuffer.a}
 target=$here/target
 
 [ -f "$given/src/publication.rs" ] || { echo "build.sh: no given sources in $given" >&2; exit 1; }

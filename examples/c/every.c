@@ -2,6 +2,7 @@
  * field that stood in another place than in the archive would print something else. This is a test; log.c is the example to read. */
 #include <inttypes.h>
 #include <stdio.h>
+#include <stdlib.h>
 #include <string.h>
 
 #include "logbuffer.h"
@@ -11,6 +12,14 @@ enum { TERM = 65536 };
 static uint8_t log_bytes[3 * TERM], second_log[3 * TERM];
 static uint8_t buffer[16 * 8192];
 static int32_t entries[8];
+
+/* A call that the program goes on from: it has to be done. */
+static void must(int32_t code) {
+    if (code != LOGBUFFER_DONE) {
+        fprintf(stderr, "%s\n", logbuffer_strerror(code));
+        exit(1);
+    }
+}
 
 /* Prints a call, then each number after its name; the names are parted by blanks. */
 static void say(const char *call, const char *names, const int64_t *numbers) {
@@ -83,10 +92,10 @@ static struct logbuffer_record written(void) {
     SAY("commit", "code", logbuffer_commit(&rec, log_bytes, sizeof log_bytes, c.claim));
     SAY("claim_body_number", "code", logbuffer_claim_body_number(&rec, log_bytes, sizeof log_bytes, c.claim));
     c = logbuffer_try_claim(&rec, log_bytes, sizeof log_bytes, 7);
-    logbuffer_abort(&rec, log_bytes, sizeof log_bytes, c.claim);
+    must(logbuffer_abort(&rec, log_bytes, sizeof log_bytes, c.claim));
     uint8_t message[100];
     memset(message, 'x', sizeof message);
-    logbuffer_offer(&rec, log_bytes, sizeof log_bytes, message, sizeof message, 88);
+    must(logbuffer_offer(&rec, log_bytes, sizeof log_bytes, message, sizeof message, 88).code);
     return rec;
 }
 
@@ -107,7 +116,7 @@ static void positions(struct logbuffer_record rec) {
 /* A second log, of session 13 and stream 26, whose partitions 1 and 2 are written with term ids 18 and 19. */
 static struct logbuffer_record appended(void) {
     struct logbuffer_record rec;
-    logbuffer_open(&rec, second_log, sizeof second_log, TERM, 96, 20, 13, 26);
+    must(logbuffer_open(&rec, second_log, sizeof second_log, TERM, 96, 20, 13, 26));
     uint8_t message[100];
     memset(message, 'y', sizeof message);
     struct logbuffer_append_reply a =
@@ -264,8 +273,8 @@ static void shelves(void) {
     static uint8_t shelf[TERM + LOGBUFFER_SHELF_COUNT_LENGTH], back[TERM], message[64];
     memset(message, 9, sizeof message);
     struct logbuffer_record rec;
-    logbuffer_open(&rec, second_log, sizeof second_log, TERM, 96, 7, 33, 44);
-    logbuffer_set_publication_limit(&rec, 2 * TERM);
+    must(logbuffer_open(&rec, second_log, sizeof second_log, TERM, 96, 7, 33, 44));
+    must(logbuffer_set_publication_limit(&rec, 2 * TERM));
     int32_t code = 0;
     for (size_t k = 0; code == 0; k++) code = logbuffer_offer(&rec, second_log, sizeof second_log, message, 33 + k % 32, 0).code;
     SAY("shelve", "code", logbuffer_shelve(&rec, second_log, sizeof second_log, 0, shelf, sizeof shelf));
@@ -302,13 +311,13 @@ static void say_partitions(struct logbuffer_partition_tally_reply t) {
 static void tallies(void) {
     static const uint8_t message[100] = {7};
     struct logbuffer_record rec;
-    logbuffer_open(&rec, second_log, sizeof second_log, TERM, 96, 7, 33, 44);
-    logbuffer_set_publication_limit(&rec, 2 * TERM);
-    logbuffer_offer(&rec, second_log, sizeof second_log, message, 5, 0);
+    must(logbuffer_open(&rec, second_log, sizeof second_log, TERM, 96, 7, 33, 44));
+    must(logbuffer_set_publication_limit(&rec, 2 * TERM));
+    must(logbuffer_offer(&rec, second_log, sizeof second_log, message, 5, 0).code);
     struct logbuffer_claim_reply c = logbuffer_try_claim(&rec, second_log, sizeof second_log, 33);
-    logbuffer_abort(&rec, second_log, sizeof second_log, c.claim);
-    logbuffer_offer(&rec, second_log, sizeof second_log, message, 100, 0);
-    logbuffer_try_claim(&rec, second_log, sizeof second_log, 10);
+    must(logbuffer_abort(&rec, second_log, sizeof second_log, c.claim));
+    must(logbuffer_offer(&rec, second_log, sizeof second_log, message, 100, 0).code);
+    must(logbuffer_try_claim(&rec, second_log, sizeof second_log, 10).code);
     say_tally(logbuffer_tally(&rec, second_log, sizeof second_log, 0, TERM));
     say_tally(logbuffer_tally(&rec, second_log, sizeof second_log, 0, 160));
     say_tally(logbuffer_tally(&rec, second_log, sizeof second_log, 0, 128));
@@ -327,10 +336,12 @@ static void tallies(void) {
 static void partitions(void) {
     static const uint8_t message[40] = {7};
     struct logbuffer_record rec;
-    logbuffer_open(&rec, second_log, sizeof second_log, TERM, 96, 7, 33, 44);
-    logbuffer_set_publication_limit(&rec, 8 * TERM);
-    while (rec.active_term_count < 4)
-        logbuffer_offer(&rec, second_log, sizeof second_log, message, sizeof message, 0);
+    must(logbuffer_open(&rec, second_log, sizeof second_log, TERM, 96, 7, 33, 44));
+    must(logbuffer_set_publication_limit(&rec, 8 * TERM));
+    while (rec.active_term_count < 4) {
+        int32_t code = logbuffer_offer(&rec, second_log, sizeof second_log, message, sizeof message, 0).code;
+        must(code == LOGBUFFER_ADMIN_ACTION ? 0 : code);
+    }
     say_partitions(logbuffer_tally_by_partition(&rec, second_log, sizeof second_log, TERM + 96, 4 * TERM - 64));
     say_partitions(logbuffer_tally_by_partition(&rec, second_log, sizeof second_log, 2 * TERM - 64 - 96, 2 * TERM + 96));
     memset(second_log + 2 * TERM, 255, 4);
@@ -342,6 +353,7 @@ static void partitions(void) {
 }
 
 int main(void) {
+    printf("face: %" PRIu32 "\n", logbuffer_face_1());
     numbers();
     struct logbuffer_record rec = written(), second = appended();
     positions(rec);

@@ -2,6 +2,7 @@
  * include/logbuffer.h next. */
 #include <inttypes.h>
 #include <stdio.h>
+#include <stdlib.h>
 #include <string.h>
 
 #include "logbuffer.h"
@@ -11,17 +12,39 @@ enum { TERM = 65536 };
 static uint8_t log_bytes[3 * TERM];
 static uint8_t buffer[16 * (TERM / 8)]; /* a part holds the longest message: an eighth of a term */
 
+/* A call that the program goes on from: it has to be done. */
+static void must(int32_t code) {
+    if (code != LOGBUFFER_DONE) {
+        fprintf(stderr, "%s\n", logbuffer_strerror(code));
+        exit(1);
+    }
+}
+
 static void told(const char *call, int32_t code, int64_t position) {
     if (code == 0) {
         printf("%s: position %" PRId64 "\n", call, position);
     } else {
-        printf("%s: refused, %" PRId32 "\n", call, code);
+        printf("%s: refused, %" PRId32 ": %s\n", call, code, logbuffer_strerror(code));
     }
 }
 
 static void offer(struct logbuffer_record *rec, const char *call, const uint8_t *message, size_t length) {
     struct logbuffer_offer_reply o = logbuffer_offer(rec, log_bytes, sizeof log_bytes, message, length, 0);
     told(call, o.code, o.position);
+}
+
+/* A block of find numbers, ten for every 32 bytes of the log: it begins here, and no two requests' blocks overlap. */
+static int64_t block(int64_t position) {
+    return (position - 32) / 32 * 10;
+}
+
+/* An offer that asks for a block. */
+static void request(struct logbuffer_record *rec, const char *call, const char *text) {
+    struct logbuffer_offer_reply o = logbuffer_offer(rec, log_bytes, sizeof log_bytes, (const uint8_t *)text, strlen(text), 0);
+    told(call, o.code, o.position);
+    if (o.code == 0) {
+        printf("  finds %" PRId64 " to %" PRId64 "\n", block(o.position), block(o.position) + 9);
+    }
 }
 
 /* Claims room for a text, writes it in place, and commits or aborts it. */
@@ -66,8 +89,8 @@ int main(void) {
     printf("open: %" PRId32 "\n", logbuffer_open(&rec, log_bytes, sizeof log_bytes, TERM, 96, 7, 11, 22));
     offer(&rec, "offer before a limit is set", (const uint8_t *)"coin", 4);
     /* two terms ahead of the slowest reader, here at 0: include/logbuffer.h says why */
-    logbuffer_set_publication_limit(&rec, 2 * TERM);
-    offer(&rec, "offer of 4 bytes", (const uint8_t *)"coin", 4);
+    must(logbuffer_set_publication_limit(&rec, 2 * TERM));
+    request(&rec, "offer of 4 bytes", "coin");
     claim(&rec, "claim of 8 bytes", "potsherd", true);
     claim(&rec, "claim of 6 bytes", "fibula", false);
     uint8_t long_message[200];
@@ -78,7 +101,7 @@ int main(void) {
     offer(&rec, "offer behind it", (const uint8_t *)"pin", 3);
     replay(&rec);
     printf("abort: %" PRId32 "\n", logbuffer_abort(&rec, log_bytes, sizeof log_bytes, left.claim));
-    logbuffer_close(&rec);
+    must(logbuffer_close(&rec));
     offer(&rec, "offer after close", (const uint8_t *)"late", 4);
     replay(&rec);
     struct logbuffer_count_reply n = logbuffer_replay_count(&rec, log_bytes, sizeof log_bytes, buffer, sizeof buffer, 11);

@@ -3,11 +3,11 @@
 set -eu
 here=$(cd "$(dirname "$0")" && pwd)
 root=$here/../..
-[ -f "$root/target/staticlib/libcapi.a" ] || (cd "$root" && rt staticlib capi >/dev/null)
+[ -f "$root/target/liblogbuffer.a" ] || (cd "$root" && ./archive >/dev/null)
 out=$(mktemp -d)
 trap 'rm -rf "$out"' EXIT
 for program in log every; do
-    cc -std=c11 -Wall -Wextra -Werror -O2 -I "$root/include" "$here/$program.c" "$root/target/staticlib/libcapi.a" -o "$out/$program"
+    cc -std=c11 -Wall -Wextra -Werror -O2 -I "$root/include" "$here/$program.c" "$root/target/liblogbuffer.a" -o "$out/$program"
     "$out/$program" | tee "$out/printed"
     diff "$here/$program.txt" "$out/printed"
 done

@@ -11,6 +11,14 @@
 
 static sigjmp_buf out;
 
+/* A call that the program goes on from: it has to be done. */
+static void must(int32_t code) {
+    if (code != LOGBUFFER_DONE) {
+        fprintf(stderr, "%s\n", logbuffer_strerror(code));
+        exit(1);
+    }
+}
+
 static void on_fault(int signal) {
     (void)signal;
     siglongjmp(out, 1);
@@ -34,8 +42,8 @@ static void run(const char *name, uint8_t *page_end, size_t length, size_t prese
     memset(copy, 'x', sizeof copy);
     memset(log_bytes, 0, LOG);
     struct logbuffer_record rec;
-    logbuffer_open(&rec, log_bytes, LOG, TERM, MTU, 7, SESSION, 22);
-    logbuffer_set_publication_limit(&rec, 1 << 20);
+    must(logbuffer_open(&rec, log_bytes, LOG, TERM, MTU, 7, SESSION, 22));
+    must(logbuffer_set_publication_limit(&rec, 1 << 20));
     accepted(&rec, list[0]);
     accepted(&rec, list[1]);
     struct logbuffer_record before;
@@ -45,7 +53,7 @@ static void run(const char *name, uint8_t *page_end, size_t length, size_t prese
     uint8_t *message = page_end - present;
     memset(message, 'x', present);
     if (sigsetjmp(out, 1) == 0) {
-        logbuffer_offer(&rec, log_bytes, LOG, message, length, 0);
+        must(logbuffer_offer(&rec, log_bytes, LOG, message, length, 0).code);
         expect(0, "the offer came back", length);
     }
     printf("%s: broken off after %zu bytes; length words", name, present);

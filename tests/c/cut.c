@@ -24,6 +24,14 @@ static uint8_t texts[4 * TERM];
 static size_t frame_count, message_count, text_length;
 static struct logbuffer_record rec;
 
+/* A call that the program goes on from: it has to be done. */
+static void must(int32_t code) {
+    if (code != LOGBUFFER_DONE) {
+        fprintf(stderr, "%s\n", logbuffer_strerror(code));
+        exit(1);
+    }
+}
+
 /* In a stream shorter than three terms a position is an index of the log. */
 static size_t tail(void) {
     int k = rec.active_term_count % 3;
@@ -94,8 +102,8 @@ static void claim(size_t length, enum end end) {
 }
 
 static void calls(void) {
-    logbuffer_open(&rec, log_bytes, LOG, TERM, MTU, 7, SESSION, 22);
-    logbuffer_set_publication_limit(&rec, 1 << 20);
+    must(logbuffer_open(&rec, log_bytes, LOG, TERM, MTU, 7, SESSION, 22));
+    must(logbuffer_set_publication_limit(&rec, 1 << 20));
     offer(10);
     offer(0);
     claim(20, COMMIT);

@@ -3,8 +3,8 @@
 set -eu
 here=$(cd "$(dirname "$0")" && pwd)
 root=$here/../..
-archive=${ARCHIVE:-$root/target/staticlib/libcapi.a}
-[ -f "$archive" ] || (cd "$root" && rt staticlib capi >/dev/null)
+archive=${ARCHIVE:-$root/target/liblogbuffer.a}
+[ -f "$archive" ] || (cd "$root" && ./archive >/dev/null)
 out=$(mktemp -d)
 trap 'rm -rf "$out"' EXIT
 for name in layout broken_off cut; do

@@ -180,6 +180,10 @@ pub use face::{
     logbuffer_term_offset as term_offset,
 };
 
+/// What makes the linker look for the face's version: an archive of another one does not link.
+#[used]
+static FACE: extern "C" fn() -> u32 = face::logbuffer_face_1;
+
 #[allow(dead_code)] // the whole face stands here; what the safe calls have no use for too
 mod face {
     use super::*;
@@ -197,6 +201,7 @@ mod face {
         pub safe fn logbuffer_position(rec: &Record) -> PositionReply;
         pub safe fn logbuffer_publication_limit(rec: &Record) -> PositionReply;
         pub safe fn logbuffer_available_window(rec: &Record) -> PositionReply;
+        pub safe fn logbuffer_face_1() -> u32;
         pub safe fn logbuffer_align(value: u32) -> usize;
         pub safe fn logbuffer_is_power_of_two(value: u32) -> bool;
         pub safe fn logbuffer_term_id(raw_tail: i64) -> i32;

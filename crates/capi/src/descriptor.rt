@@ -8,6 +8,14 @@ use crate::replies::PositionReply;
 use logbuffer::bit_utils;
 use logbuffer::log_buffer_descriptor;
 
+// The version of this face. Its number is in the name, so that a program made for another one does not link.
+#[no_mangle]
+pub extern "C" fn logbuffer_face_1() -> u32
+    ensures { λ r. ⌜ r ≡ 1 ⌝ }
+{
+    1
+}
+
 #[no_mangle]
 pub extern "C" fn logbuffer_align(value: u32) -> usize
     ensures { λ r. ⌜ r ≡ aligned value ⌝ }
