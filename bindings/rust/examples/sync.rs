@@ -11,10 +11,10 @@ fn append(log: &mut Log, message: &[u8]) -> Result<i64, Error> {
     }
 }
 
-/// Asks for a block of ten find numbers. No two requests are answered the same position, so the block is nobody else's.
+/// Asks for a block: ten find numbers for every 32 bytes of the log. No two blocks overlap (theorem `blocks-apart` of the project).
 fn request_block(log: &mut Log, device: &str) -> Result<i64, Error> {
     let position = append(log, format!("{device} asks for a block").as_bytes())?;
-    let first = position / 32 * 10;
+    let first = (position - 32) / 32 * 10;
     println!("{device}: request at {position}, finds {first} to {}", first + 9);
     Ok(first)
 }

@@ -1,6 +1,7 @@
 //! Messages put together out of fragments, for readers that poll. Read replay.rs next.
 
 use crate::sys;
+use crate::log::Bytes;
 use crate::{Error, Fragment, Log};
 
 /// Puts the fragments of up to 16 sessions together into messages.
@@ -31,7 +32,7 @@ pub struct Assembler {
 
 impl Assembler {
     /// An assembler for the longest message that a log takes in fragments.
-    pub fn new(log: &Log) -> Assembler {
+    pub fn new<B: Bytes>(log: &Log<B>) -> Assembler {
         Assembler::with_part_length(log.max_message_length())
     }
 
@@ -57,9 +58,9 @@ impl Assembler {
     /// assert_eq!(assembler.on_fragment(&log, &fragments.next().unwrap()?), Err(Error::AssemblyFull));
     /// # Ok::<(), Error>(())
     /// ```
-    pub fn on_fragment<'a>(&'a mut self, log: &'a Log, fragment: &Fragment<'_>) -> Result<Option<&'a [u8]>, Error> {
+    pub fn on_fragment<'a, B: Bytes>(&'a mut self, log: &'a Log<B>, fragment: &Fragment<'_>) -> Result<Option<&'a [u8]>, Error> {
         let (partition, offset) = (fragment.partition, fragment.offset);
-        let reply = sys::assembler_on_fragment(&mut self.sessions, &log.record, &log.bytes, &mut self.buffer, partition, offset);
+        let reply = sys::assembler_on_fragment(&mut self.sessions, &log.record, log.bytes.as_ref(), &mut self.buffer, partition, offset);
         Error::check_frame(reply.code, partition, reply.start)?;
         Ok(match reply.place {
             sys::IN_LOG => Some(log.view(partition, reply.start as i32, reply.length as i32)?),

@@ -1,14 +1,15 @@
 //! Claims: a frame that is written in place and then committed or aborted. Read poller.rs next.
 
-use crate::sys::{self, Record};
+use crate::log::Bytes;
+use crate::sys;
 use crate::{Error, Log};
 use std::ops::{Deref, DerefMut, Range};
 
 /// A claimed frame, as the bytes of its body. Made by [`Log::try_claim`].
 ///
 /// Readers stop before the frame until [`commit`](Claim::commit) makes it a message or [`abort`](Claim::abort) makes it padding.
-/// **Dropping a claim does neither**: the frame stays open, and every reader stops before it for good. To let go of the log and
-/// finish later, lay the claim by with [`into_open`](Claim::into_open).
+/// Dropping a claim aborts it, so that no reader waits for a claim that somebody forgot. To let go of the log and finish later, lay the claim by with
+/// [`into_open`](Claim::into_open): then it stays open, and every reader stops before it until it is finished.
 ///
 /// A body holds what lay there before, zeros in a term that was never written.
 ///
@@ -21,17 +22,18 @@ use std::ops::{Deref, DerefMut, Range};
 /// claim[4..].copy_from_slice(&1_926u32.to_le_bytes());
 /// claim.commit()?;
 ///
-/// drop(log.try_claim(8)?); // stays open
+/// drop(log.try_claim(8)?); // aborted
 /// log.offer(b"behind it")?;
-/// assert_eq!(log.count()?.messages, 1);
+/// assert_eq!(log.count()?.messages, 2);
 /// # Ok::<(), logbuffer::Error>(())
 /// ```
 #[derive(Debug)]
-#[must_use = "a claim that is dropped stays open, and readers stop before it"]
-pub struct Claim<'a> {
-    log: &'a mut Log,
+#[must_use = "a claim that is dropped is aborted"]
+pub struct Claim<'a, B: Bytes = Vec<u8>> {
+    log: &'a mut Log<B>,
     body: Range<usize>,
     open: OpenClaim,
+    is_settled: bool,
 }
 
 /// A claim laid by, which borrows nothing. [`Log::commit`], [`Log::abort`] and [`Log::resume`] take it; a copy of it that comes second
@@ -52,13 +54,12 @@ pub struct Claim<'a> {
 pub struct OpenClaim {
     claim: sys::Claim,
     position: i64,
-    session_id: i32,
-    stream_id: i32,
+    log: u64,
 }
 
 impl OpenClaim {
-    pub(crate) fn new(claim: sys::Claim, position: i64, record: &Record) -> OpenClaim {
-        OpenClaim { claim, position, session_id: record.session_id, stream_id: record.stream_id }
+    pub(crate) fn new(claim: sys::Claim, position: i64, log: u64) -> OpenClaim {
+        OpenClaim { claim, position, log }
     }
 
     /// The position after the claimed frame.
@@ -67,17 +68,17 @@ impl OpenClaim {
     }
 }
 
-impl<'a> Claim<'a> {
-    /// Refuses 14 for the claim of another session or stream too: its header could look the same.
-    pub(crate) fn new(log: &'a mut Log, open: OpenClaim) -> Result<Claim<'a>, Error> {
-        if (open.session_id, open.stream_id) != (log.record.session_id, log.record.stream_id) {
+impl<'a, B: Bytes> Claim<'a, B> {
+    /// Refuses the claim of another log, whose header could look the same.
+    pub(crate) fn new(log: &'a mut Log<B>, open: OpenClaim) -> Result<Claim<'a, B>, Error> {
+        if open.log != log.identity {
             return Err(Error::ClaimMismatch);
         }
-        let span = sys::claim_body(&log.record, &log.bytes, open.claim);
+        let span = sys::claim_body(&log.record, log.bytes.as_ref(), open.claim);
         match span.code {
             // Out of its range in this log, though its own log answered it: it is of another log.
             1 => Err(Error::ClaimMismatch),
-            code => Error::check(code).map(|()| Claim { log, body: span.start..span.start + span.length, open }),
+            code => Error::check(code).map(|()| Claim { log, body: span.start..span.start + span.length, open, is_settled: false }),
         }
     }
 
@@ -107,7 +108,7 @@ impl<'a> Claim<'a> {
     /// # Ok::<(), logbuffer::Error>(())
     /// ```
     pub fn write(&mut self, bytes: &[u8]) -> Result<(), Error> {
-        Error::check(sys::claim_write(&self.log.record, &mut self.log.bytes, self.open.claim, bytes))
+        Error::check(sys::claim_write(&self.log.record, self.log.bytes.as_mut(), self.open.claim, bytes))
     }
 
     /// Makes the frame a message and answers the position after it. A claim that was not committed before is never refused.
@@ -118,8 +119,9 @@ impl<'a> Claim<'a> {
     /// assert_eq!(log.replay().next(), Some(Ok(vec![0; 4])));
     /// # Ok::<(), logbuffer::Error>(())
     /// ```
-    pub fn commit(self) -> Result<i64, Error> {
-        Error::check(sys::commit(&self.log.record, &mut self.log.bytes, self.open.claim))?;
+    pub fn commit(mut self) -> Result<i64, Error> {
+        self.is_settled = true;
+        Error::check(sys::commit(&self.log.record, self.log.bytes.as_mut(), self.open.claim))?;
         Ok(self.open.position)
     }
 
@@ -131,8 +133,9 @@ impl<'a> Claim<'a> {
     /// assert_eq!(log.replay().next(), None);
     /// # Ok::<(), logbuffer::Error>(())
     /// ```
-    pub fn abort(self) -> Result<(), Error> {
-        Error::check(sys::abort(&self.log.record, &mut self.log.bytes, self.open.claim))
+    pub fn abort(mut self) -> Result<(), Error> {
+        self.is_settled = true;
+        Error::check(sys::abort(&self.log.record, self.log.bytes.as_mut(), self.open.claim))
     }
 
     /// Lays the claim by, with what was written so far, and lets go of the log.
@@ -146,22 +149,33 @@ impl<'a> Claim<'a> {
     /// assert_eq!(log.commit(open), Ok(64));
     /// # Ok::<(), logbuffer::Error>(())
     /// ```
-    pub fn into_open(self) -> OpenClaim {
-        self.open
+    pub fn into_open(mut self) -> OpenClaim {
+        self.is_settled = true;
+        self.open.clone()
+    }
+}
+
+/// Aborts it, unless it was committed, aborted or laid by.
+impl<B: Bytes> Drop for Claim<'_, B> {
+    fn drop(&mut self) {
+        if !self.is_settled {
+            // A claim that this log answered and nobody finished is never refused.
+            let _ = sys::abort(&self.log.record, self.log.bytes.as_mut(), self.open.claim);
+        }
     }
 }
 
 /// The body.
-impl Deref for Claim<'_> {
+impl<B: Bytes> Deref for Claim<'_, B> {
     type Target = [u8];
 
     fn deref(&self) -> &[u8] {
-        &self.log.bytes[self.body.clone()]
+        &self.log.bytes.as_ref()[self.body.clone()]
     }
 }
 
-impl DerefMut for Claim<'_> {
+impl<B: Bytes> DerefMut for Claim<'_, B> {
     fn deref_mut(&mut self) -> &mut [u8] {
-        &mut self.log.bytes[self.body.clone()]
+        &mut self.log.bytes.as_mut()[self.body.clone()]
     }
 }

@@ -20,6 +20,18 @@ impl fmt::Display for Place {
     }
 }
 
+macro_rules! overrun {
+    () => {
+        "the reader's place has been written anew"
+    };
+}
+
+macro_rules! go_on {
+    () => {
+        "what it did not read is gone: go on at the publisher's position, and keep the limit at most two terms past the slowest reader"
+    };
+}
+
 macro_rules! refusals {
     ($($number:literal $name:ident $cause:literal $remedy:literal)* frames $($at:literal $frame:ident $what:literal $then:literal)*) => {
         /// Why a call was refused. Unless the remedy says that something stays, a refused call has changed nothing.
@@ -32,22 +44,26 @@ macro_rules! refusals {
         /// assert_eq!(error.to_string(), "the publication is closed: stop writing; reading, commits and aborts still work");
         /// ```
         #[derive(Clone, Copy, Debug, PartialEq, Eq, Hash, PartialOrd, Ord)]
+        #[non_exhaustive]
         pub enum Error {
             $(#[doc = concat!("No. ", $number, ": ", $cause, ". Next: ", $remedy, ".")] $name,)*
             $(#[doc = concat!("No. ", $at, ", with the frame's place: ", $what, ". Next: ", $then, ".")] $frame(Place),)*
+            #[doc = concat!("This crate's own, without a number: ", overrun!(), ". Next: ", go_on!(), ".")]
+            Overrun,
         }
 
         impl Error {
-            /// Every refusal; those of a frame come last, at offset 0.
+            /// Every refusal that has a number; those of a frame come last, at offset 0.
             pub const ALL: [Error; 21] = [$(Error::$name,)* $(Error::$frame(Place { partition: None, offset: 0 })),*];
 
-            /// The refusal's number: 1 to 18 without 17, which is retired, 21 for a card, 22 and 23 for a frame, 26 for the shelf.
+            /// The refusal's number: 1 to 18 without 17, which is retired, 21 for a card, 22 and 23 for a frame, 26 for the shelf; 0 for
+            /// [`Overrun`](Error::Overrun), which only this crate answers.
             ///
             /// ```
             /// assert_eq!(logbuffer::Error::BackPressured.number(), 8);
             /// ```
             pub fn number(self) -> i32 {
-                match self { $(Error::$name => $number,)* $(Error::$frame(_) => $at,)* }
+                match self { $(Error::$name => $number,)* $(Error::$frame(_) => $at,)* Error::Overrun => 0 }
             }
 
             /// What the refusal is given for, in one line.
@@ -56,7 +72,7 @@ macro_rules! refusals {
             /// assert_eq!(logbuffer::Error::BackPressured.cause(), "the publication limit is reached");
             /// ```
             pub fn cause(self) -> &'static str {
-                match self { $(Error::$name => $cause,)* $(Error::$frame(_) => $what,)* }
+                match self { $(Error::$name => $cause,)* $(Error::$frame(_) => $what,)* Error::Overrun => overrun!() }
             }
 
             /// What the call has left, if anything, and what to do next, in one line.
@@ -65,7 +81,7 @@ macro_rules! refusals {
             /// assert_eq!(logbuffer::Error::NewPositionNotAligned.remedy(), "set the position of a frame");
             /// ```
             pub fn remedy(self) -> &'static str {
-                match self { $(Error::$name => $remedy,)* $(Error::$frame(_) => $then,)* }
+                match self { $(Error::$name => $remedy,)* $(Error::$frame(_) => $then,)* Error::Overrun => go_on!() }
             }
         }
     };
@@ -99,7 +115,7 @@ refusals! {
         "wait until readers have moved on, raise the limit, make the call again"
     9 NotConnected
         "the publication limit is reached and nobody is connected"
-        "wait for a connection, then as for 8"
+        "wait for a connection, then as for BackPressured"
     10 ExceedsMaxMessageLength
         "message longer than the payload limit and than the message limit"
         "cut the message up, or open a log with longer terms: the limit is an eighth of a term, at most 16 MiB"

@@ -29,7 +29,8 @@
 //! - [`Error`]: the refusals, with cause and remedy. [`Rule`]: which check decided an offer or a claim, with a line of advice. Refused by
 //!   [`Rule::TermRotated`] it is to be made again.
 //!
-//! A [`Log`] is `Send` and `Sync`: writing takes `&mut`, so threads that write share it behind a lock.
+//! A [`Log`] lies in a `Vec<u8>`, or in any [`Bytes`]: a lent slice, a mapped file. It is `Send` and `Sync` where its memory is: writing takes `&mut`, so threads
+//! that write share it behind a lock.
 //!
 //! A log keeps three terms and what is older is overwritten. [`Builder`] sets a publication limit of two terms, at which writers are
 //! pressed back before that happens; raise it as readers move on.
@@ -61,7 +62,7 @@ pub use builder::Builder;
 pub use card::Card;
 pub use claim::{Claim, OpenClaim};
 pub use error::{Error, Place};
-pub use log::Log;
+pub use log::{Bytes, Log};
 pub use poller::{Action, Block, Fragment, Fragments, Poller};
 pub use replay::{Batch, Count, Replay};
 pub use rule::Rule;

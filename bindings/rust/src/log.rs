@@ -2,10 +2,18 @@
 
 use crate::claim::{Claim, OpenClaim};
 use crate::sys::{self, Header, Record};
-use crate::{Builder, Error, Poller, Rule};
+use crate::{Builder, Error, FrameLength, Poller, Rule};
 use std::fmt;
+use std::sync::atomic::{AtomicU64, Ordering};
 
-/// A log of three terms, with the record that says how far it was written.
+/// Memory that a log lies in: owned, lent or mapped. Everything is that hands out its bytes, both to be read and to be written, and always the same ones: a `Vec<u8>`, a
+/// `Box<[u8]>`, a `&mut [u8]`, a mapped file.
+pub trait Bytes: AsRef<[u8]> + AsMut<[u8]> {}
+
+impl<B: AsRef<[u8]> + AsMut<[u8]>> Bytes for B {}
+
+/// A log of three terms, with the record that says how far it was written. It lies in a `Vec<u8>` of its own, or in any [`Bytes`] that it is given with
+/// [`open_in`](Log::open_in) or [`from_parts`](Log::from_parts).
 ///
 /// ```
 /// use logbuffer::{Error, Log};
@@ -16,13 +24,19 @@ use std::fmt;
 /// assert_eq!(log.offer(b"coin"), Ok(64));
 /// # Ok::<(), Error>(())
 /// ```
-#[derive(Clone)]
-pub struct Log {
+pub struct Log<B: Bytes = Vec<u8>> {
     // Sound, and bytes are three terms: opening or `from_parts` judged both, and every call keeps them so.
     pub(crate) record: Record,
-    pub(crate) bytes: Vec<u8>,
+    pub(crate) bytes: B,
     // Of the last offer or claim: a place in the order, 0 before the first.
     rule: u32,
+    // No two logs of a process share it, so that a claim of one is no claim of another.
+    pub(crate) identity: u64,
+}
+
+fn new_identity() -> u64 {
+    static LOGS: AtomicU64 = AtomicU64::new(0);
+    LOGS.fetch_add(1, Ordering::Relaxed)
 }
 
 impl Log {
@@ -36,11 +50,8 @@ impl Log {
     pub fn open(term_length: i32, mtu_length: i32, initial_term_id: i32, session_id: i32, stream_id: i32) -> Result<Log, Error> {
         // No memory is taken for a term length that is going to be refused.
         let is_in_range = (65_536..=1 << 30).contains(&term_length) && sys::is_power_of_two(term_length as u32);
-        let mut bytes = vec![0; if is_in_range { 3 * term_length as usize } else { 0 }];
-        match sys::open(&mut bytes, term_length, mtu_length, initial_term_id, session_id, stream_id) {
-            Ok(record) => Ok(Log { record, bytes, rule: 0 }),
-            Err(code) => Err(Error::check(code).expect_err("a number that is not 0 is a refusal's")),
-        }
+        let bytes = vec![0; if is_in_range { 3 * term_length as usize } else { 0 }];
+        Log::open_in(bytes, term_length, mtu_length, initial_term_id, session_id, stream_id)
     }
 
     /// A log with defaults for whatever is not said.
@@ -52,6 +63,38 @@ impl Log {
     /// ```
     pub fn builder() -> Builder {
         Builder::new()
+    }
+
+}
+
+impl<B: Bytes> Log<B> {
+    /// Opens an empty log in memory that is given: exactly three terms, which are zeroed. Refuses as [`open`](Log::open), and any other length, with
+    /// [`Error::IllegalRecord`]; then nothing is written.
+    ///
+    /// ```
+    /// use logbuffer::Log;
+    ///
+    /// let mut lent = [7u8; 3 * 65_536];
+    /// let mut log = Log::open_in(&mut lent[..], 65_536, 1_408, 7, 11, 22)?;
+    /// log.set_publication_limit(2 * 65_536)?;
+    /// log.offer(b"coin")?;
+    /// assert_eq!(log.count()?.messages, 1);
+    /// let (record, _) = log.into_parts(); // to be kept beside the bytes
+    /// assert_eq!(Log::from_parts(record, &mut lent[..])?.count()?.messages, 1);
+    /// # Ok::<(), logbuffer::Error>(())
+    /// ```
+    pub fn open_in(
+        mut bytes: B,
+        term_length: i32,
+        mtu_length: i32,
+        initial_term_id: i32,
+        session_id: i32,
+        stream_id: i32,
+    ) -> Result<Log<B>, Error> {
+        match sys::open(bytes.as_mut(), term_length, mtu_length, initial_term_id, session_id, stream_id) {
+            Ok(record) => Ok(Log { record, bytes, rule: 0, identity: new_identity() }),
+            Err(code) => Err(Error::check(code).expect_err("a number that is not 0 is a refusal's")),
+        }
     }
 
     /// A log that was kept, of what [`into_parts`](Log::into_parts) gave or [`record`](Log::record) and [`as_bytes`](Log::as_bytes)
@@ -69,10 +112,10 @@ impl Log {
     /// assert_eq!(log.position(), Ok(64));
     /// # Ok::<(), Error>(())
     /// ```
-    pub fn from_parts(record: Record, bytes: Vec<u8>) -> Result<Log, Error> {
+    pub fn from_parts(record: Record, bytes: B) -> Result<Log<B>, Error> {
         // A scan with limit 0 judges record and log and looks at no frame. Its only other refusal, 1, is for a term length below 1.
-        Error::check(sys::scan(&record, &bytes, 0, 0, 0).code).map_err(|_| Error::IllegalRecord)?;
-        Ok(Log { record, bytes, rule: 0 })
+        Error::check(sys::scan(&record, bytes.as_ref(), 0, 0, 0).code).map_err(|_| Error::IllegalRecord)?;
+        Ok(Log { record, bytes, rule: 0, identity: new_identity() })
     }
 
     /// The record and the bytes, to be kept for [`from_parts`](Log::from_parts).
@@ -82,8 +125,20 @@ impl Log {
     /// assert_eq!(bytes.len(), 3 * record.term_length as usize);
     /// # Ok::<(), logbuffer::Error>(())
     /// ```
-    pub fn into_parts(self) -> (Record, Vec<u8>) {
+    pub fn into_parts(self) -> (Record, B) {
         (self.record, self.bytes)
+    }
+
+    /// A second log that goes on from this one's record and bytes. Two logs that do are answered the same positions: use it to try something
+    /// out or to keep a state, never for a second writer.
+    ///
+    /// ```
+    /// let log = logbuffer::Log::builder().open()?;
+    /// assert_eq!(log.snapshot().record(), log.record());
+    /// # Ok::<(), logbuffer::Error>(())
+    /// ```
+    pub fn snapshot(&self) -> Log {
+        Log { record: self.record, bytes: self.bytes.as_ref().to_vec(), rule: self.rule, identity: new_identity() }
     }
 
     /// The record as the last call left it.
@@ -106,7 +161,7 @@ impl Log {
     /// # Ok::<(), logbuffer::Error>(())
     /// ```
     pub fn as_bytes(&self) -> &[u8] {
-        &self.bytes
+        self.bytes.as_ref()
     }
 
     /// Lets offers and claims through that begin below a position from 0 to 2^62; any other is refused with [`Error::IllegalRecord`]. A
@@ -230,7 +285,7 @@ impl Log {
     /// # Ok::<(), logbuffer::Error>(())
     /// ```
     pub fn offer_with_reserved_value(&mut self, message: &[u8], reserved_value: i64) -> Result<i64, Error> {
-        let reply = sys::offer(&mut self.record, &mut self.bytes, message, reserved_value);
+        let reply = sys::offer(&mut self.record, self.bytes.as_mut(), message, reserved_value);
         self.rule = reply.rule;
         Error::check(reply.code).map(|()| reply.position)
     }
@@ -246,13 +301,13 @@ impl Log {
     /// assert_eq!(claim.commit(), Ok(64));
     /// # Ok::<(), logbuffer::Error>(())
     /// ```
-    pub fn try_claim(&mut self, length: usize) -> Result<Claim<'_>, Error> {
+    pub fn try_claim(&mut self, length: usize) -> Result<Claim<'_, B>, Error> {
         // A length past i32 is past every payload limit, as is the greatest i32.
         let length = i32::try_from(length).unwrap_or(i32::MAX);
-        let reply = sys::try_claim(&mut self.record, &mut self.bytes, length);
+        let reply = sys::try_claim(&mut self.record, self.bytes.as_mut(), length);
         self.rule = reply.rule;
         Error::check(reply.code)?;
-        let open = OpenClaim::new(reply.claim, reply.position, &self.record);
+        let open = OpenClaim::new(reply.claim, reply.position, self.identity);
         Claim::new(self, open)
     }
 
@@ -275,9 +330,36 @@ impl Log {
         Rule::from_place(self.rule)
     }
 
+    /// The claim that is open at a position, where a reader stands that comes no further ([`Poller::ahead`] says so): one whose owner is gone, after a
+    /// restart say. It can then be resumed, committed or aborted. Refuses [`Error::ClaimMismatch`] where no frame is being written.
+    ///
+    /// ```
+    /// use logbuffer::{Error, Log};
+    ///
+    /// let mut log = Log::builder().open()?;
+    /// log.offer(b"coin")?;
+    /// let _lost = log.try_claim(10)?.into_open();
+    /// let (record, bytes) = log.into_parts(); // kept, and taken up again
+    /// let mut log = Log::from_parts(record, bytes)?;
+    /// assert_eq!(log.open_claim_at(0).err(), Some(Error::ClaimMismatch)); // the coin is finished
+    /// let open = log.open_claim_at(64)?;
+    /// assert_eq!(open.position(), 128);
+    /// log.abort(open)?;
+    /// # Ok::<(), Error>(())
+    /// ```
+    pub fn open_claim_at(&self, position: i64) -> Result<OpenClaim, Error> {
+        if let Ok(FrameLength::Writing(size)) = self.poller(position).ahead(self) {
+            let (partition, offset) = (self.partition_of(position), (position % i64::from(self.record.term_length)) as i32);
+            let term_id = self.header_at(partition, offset)?.term_id;
+            let length = i32::try_from(size).map_err(|_| Error::ClaimMismatch)?;
+            let claim = sys::Claim { partition, offset, length, term_id };
+            return Ok(OpenClaim::new(claim, position + i64::from(length + 31 & !31), self.identity));
+        }
+        Err(Error::ClaimMismatch)
+    }
+
     /// Takes up a claim that was laid by with [`Claim::into_open`]. Refuses [`Error::ClaimMismatch`] if it was committed or aborted
-    /// since, or is of a log with another session or stream. Logs that share both are told apart only where no claim of the same length
-    /// is open at the same place, so give each log a session of its own.
+    /// since, or is of another log. A log made of parts is another one: its open claims are found with [`open_claim_at`](Log::open_claim_at).
     ///
     /// ```
     /// let mut log = logbuffer::Log::builder().open()?;
@@ -288,7 +370,7 @@ impl Log {
     /// claim.commit()?;
     /// # Ok::<(), logbuffer::Error>(())
     /// ```
-    pub fn resume(&mut self, open: OpenClaim) -> Result<Claim<'_>, Error> {
+    pub fn resume(&mut self, open: OpenClaim) -> Result<Claim<'_, B>, Error> {
         Claim::new(self, open)
     }
 
@@ -339,20 +421,21 @@ impl Log {
     ///
     /// ```
     /// let mut log = logbuffer::Log::builder().open()?;
-    /// let _claim = log.try_claim(10)?;
+    /// let open = log.try_claim(10)?.into_open();
     /// assert_eq!(log.header_at(0, 0)?.frame_length, -42); // being written
+    /// log.abort(open)?;
     /// # Ok::<(), logbuffer::Error>(())
     /// ```
     pub fn header_at(&self, partition: i32, offset: i32) -> Result<Header, Error> {
-        let reply = sys::header_fields(&self.record, &self.bytes, partition, offset);
+        let reply = sys::header_fields(&self.record, self.bytes.as_ref(), partition, offset);
         Error::check(reply.code).map(|()| reply.fields)
     }
 
     /// A part of a term.
     pub(crate) fn view(&self, partition: i32, offset: i32, length: i32) -> Result<&[u8], Error> {
-        let span = sys::view(&self.record, &self.bytes, partition, offset, length);
+        let span = sys::view(&self.record, self.bytes.as_ref(), partition, offset, length);
         Error::check(span.code)?;
-        Ok(&self.bytes[span.start..span.start + span.length])
+        Ok(&self.bytes.as_ref()[span.start..span.start + span.length])
     }
 
     /// The partition of a position that a reader has accepted.
@@ -366,6 +449,16 @@ impl Log {
         sys::position(&Record { is_closed: false, ..self.record }).position
     }
 
+    /// A reader's place that has been written anew is refused: three terms on the partition holds another term. Positions out of range are left to
+    /// the calls.
+    pub(crate) fn check_place(&self, position: i64) -> Result<(), Error> {
+        let count = position.div_euclid(i64::from(self.record.term_length));
+        match position >= 0 && i64::from(self.record.active_term_count) - count >= 3 {
+            true => Err(Error::Overrun),
+            false => Ok(()),
+        }
+    }
+
     /// How many bytes were written after a position.
     pub(crate) fn written_after(&self, position: i64) -> usize {
         self.publisher_position().saturating_sub(position).max(0) as usize
@@ -373,7 +466,7 @@ impl Log {
 }
 
 /// Shows the record, not the bytes.
-impl fmt::Debug for Log {
+impl<B: Bytes> fmt::Debug for Log<B> {
     fn fmt(&self, f: &mut fmt::Formatter<'_>) -> fmt::Result {
         f.debug_struct("Log").field("record", &self.record).finish_non_exhaustive()
     }

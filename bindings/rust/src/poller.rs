@@ -3,6 +3,7 @@
 //! Readers of the C face do not compare a frame's term id with their position, and nobody wipes a term that is written a second time.
 //! So every call here is bounded by the publisher's position: what lies past it is of an older term, or nothing.
 
+use crate::log::Bytes;
 use crate::sys::{self, Header, Image};
 use crate::{Error, FrameLength, Log};
 
@@ -73,8 +74,8 @@ pub struct Block<'a> {
 
 /// A reader at a position of a log. Made by [`Log::poller`]; it borrows nothing, so each call is handed the log.
 ///
-/// A reader three terms behind the publisher finds its place written anew; keep the publication limit at most two terms past the slowest
-/// reader, for a message may end past the limit.
+/// A reader three terms behind the publisher finds its place written anew, and is refused [`Error::Overrun`]: what it did not read is gone. Keep the publication limit
+/// at most two terms past the slowest reader, for a message may end past the limit.
 ///
 /// Its calls refuse a position that is negative, over the greatest, or not a multiple of 32 with [`Error::PositionOutOfRange`], and a
 /// damaged frame at their start with [`Error::FrameTooShort`] or [`Error::FramePastTerm`] and its place.
@@ -120,7 +121,7 @@ impl Poller {
     /// assert_eq!(poller.poll(&log, 1, |_| ())?, 0);
     /// # Ok::<(), logbuffer::Error>(())
     /// ```
-    pub fn poll<'a>(&mut self, log: &'a Log, limit: usize, handler: impl FnMut(Fragment<'a>)) -> Result<usize, Error> {
+    pub fn poll<'a, B: Bytes>(&mut self, log: &'a Log<B>, limit: usize, handler: impl FnMut(Fragment<'a>)) -> Result<usize, Error> {
         self.bounded_poll(log, i64::MAX, limit, handler)
     }
 
@@ -133,9 +134,9 @@ impl Poller {
     /// assert_eq!(log.poller(0).bounded_poll(&log, 64, 10, |_| ())?, 1);
     /// # Ok::<(), logbuffer::Error>(())
     /// ```
-    pub fn bounded_poll<'a>(
+    pub fn bounded_poll<'a, B: Bytes>(
         &mut self,
-        log: &'a Log,
+        log: &'a Log<B>,
         limit_position: i64,
         limit: usize,
         mut handler: impl FnMut(Fragment<'a>),
@@ -163,9 +164,9 @@ impl Poller {
     /// assert_eq!((read, poller.position()), (1, 64)); // the pin comes again
     /// # Ok::<(), logbuffer::Error>(())
     /// ```
-    pub fn controlled_poll<'a>(
+    pub fn controlled_poll<'a, B: Bytes>(
         &mut self,
-        log: &'a Log,
+        log: &'a Log<B>,
         limit: usize,
         handler: impl FnMut(Fragment<'a>) -> Action,
     ) -> Result<usize, Error> {
@@ -178,7 +179,7 @@ impl Poller {
             return Ok(count);
         }
         let limit = actions.len() as i32;
-        let reply = sys::image_controlled_poll(&mut self.image, &log.record, &log.bytes, &mut self.entries, &actions, limit);
+        let reply = sys::image_controlled_poll(&mut self.image, &log.record, log.bytes.as_ref(), &mut self.entries, &actions, limit);
         Error::check_frame(reply.code, partition, reply.fragments as usize)?;
         Ok(reply.fragments as usize)
     }
@@ -199,18 +200,19 @@ impl Poller {
     /// assert_eq!(poller.position(), 0);
     /// # Ok::<(), logbuffer::Error>(())
     /// ```
-    pub fn controlled_peek<'a>(
+    pub fn controlled_peek<'a, B: Bytes>(
         &mut self,
-        log: &'a Log,
+        log: &'a Log<B>,
         start: i64,
         limit_position: i64,
         limit: usize,
         handler: impl FnMut(Fragment<'a>) -> Action,
     ) -> Result<i64, Error> {
+        self.check_place(log, start)?;
         let limit_position = limit_position.min(log.publisher_position());
         let onward = vec![Action::Continue as u8; self.reserve(log, start, limit)];
         let peek = |image: &Image, entries: &mut [i32], actions: &[u8]| {
-            let reply = sys::image_controlled_peek(image, &log.record, &log.bytes, entries, actions, start, limit_position);
+            let reply = sys::image_controlled_peek(image, &log.record, log.bytes.as_ref(), entries, actions, start, limit_position);
             Error::check_frame(reply.code, log.partition_of(start), reply.position as usize).map(|()| reply)
         };
         let first = peek(&self.image, &mut self.entries, &onward)?;
@@ -232,10 +234,11 @@ impl Poller {
     /// assert_eq!(block.bytes, &log.as_bytes()[..128]);
     /// # Ok::<(), logbuffer::Error>(())
     /// ```
-    pub fn block_poll<'a>(&mut self, log: &'a Log, limit: usize) -> Result<Option<Block<'a>>, Error> {
+    pub fn block_poll<'a, B: Bytes>(&mut self, log: &'a Log<B>, limit: usize) -> Result<Option<Block<'a>>, Error> {
+        self.check_place(log, self.image.position)?;
         let limit = limit.min(i32::MAX as usize).min(log.written_after(self.image.position)) as i32;
         let partition = log.partition_of(self.image.position);
-        let reply = sys::image_block_poll(&mut self.image, &log.record, &log.bytes, limit);
+        let reply = sys::image_block_poll(&mut self.image, &log.record, log.bytes.as_ref(), limit);
         Error::check_frame(reply.code, partition, reply.offset)?;
         if reply.length == 0 {
             return Ok(None);
@@ -256,8 +259,8 @@ impl Poller {
     /// assert_eq!(poller.set_position(&log, 96), Ok(()));
     /// # Ok::<(), Error>(())
     /// ```
-    pub fn set_position(&mut self, log: &Log, new_position: i64) -> Result<(), Error> {
-        Error::check(sys::image_set_position(&mut self.image, &log.record, &log.bytes, new_position))
+    pub fn set_position<B: Bytes>(&mut self, log: &Log<B>, new_position: i64) -> Result<(), Error> {
+        Error::check(sys::image_set_position(&mut self.image, &log.record, log.bytes.as_ref(), new_position))
     }
 
     /// Whether the position is at or past the record's end-of-stream position.
@@ -272,8 +275,8 @@ impl Poller {
     /// assert!(log.poller(64).is_end_of_stream(&log)?);
     /// # Ok::<(), logbuffer::Error>(())
     /// ```
-    pub fn is_end_of_stream(&self, log: &Log) -> Result<bool, Error> {
-        let reply = sys::image_is_end_of_stream(&self.image, &log.record, &log.bytes);
+    pub fn is_end_of_stream<B: Bytes>(&self, log: &Log<B>) -> Result<bool, Error> {
+        let reply = sys::image_is_end_of_stream(&self.image, &log.record, log.bytes.as_ref());
         Error::check(reply.code).map(|()| reply.is_eos)
     }
 
@@ -287,8 +290,8 @@ impl Poller {
     /// assert_eq!(poller.poll(&log, 10, |_| ())?, 0);
     /// # Ok::<(), logbuffer::Error>(())
     /// ```
-    pub fn close(&mut self, log: &Log) -> Result<(), Error> {
-        Error::check(sys::image_close(&mut self.image, &log.record, &log.bytes))
+    pub fn close<B: Bytes>(&mut self, log: &Log<B>) -> Result<(), Error> {
+        Error::check(sys::image_close(&mut self.image, &log.record, log.bytes.as_ref()))
     }
 
     /// What stands where the reader is: nothing, a frame that is still being written, or a finished one, which the next poll reads. A reader
@@ -309,11 +312,12 @@ impl Poller {
     /// assert_eq!(poller.ahead(&log)?, FrameLength::Free);
     /// # Ok::<(), logbuffer::Error>(())
     /// ```
-    pub fn ahead(&self, log: &Log) -> Result<FrameLength, Error> {
+    pub fn ahead<B: Bytes>(&self, log: &Log<B>) -> Result<FrameLength, Error> {
         let position = self.image.position;
         // A poll of nothing, for the refusals of its position.
-        let nothing = sys::image_bounded_poll(&mut self.image.clone(), &log.record, &log.bytes, &mut [], position, 0);
+        let nothing = sys::image_bounded_poll(&mut self.image.clone(), &log.record, log.bytes.as_ref(), &mut [], position, 0);
         Error::check(nothing.code)?;
+        self.check_place(log, position)?;
         if position >= log.publisher_position() {
             return Ok(FrameLength::Free);
         }
@@ -337,23 +341,32 @@ impl Poller {
     /// assert_eq!(poller.fragments(&log).count(), 1); // the pin
     /// # Ok::<(), logbuffer::Error>(())
     /// ```
-    pub fn fragments<'p, 'a>(&'p mut self, log: &'a Log) -> Fragments<'p, 'a> {
+    pub fn fragments<'p, 'a, B: Bytes>(&'p mut self, log: &'a Log<B>) -> Fragments<'p, 'a, B> {
         Fragments { poller: self, log, is_ended: false }
     }
 
+    /// An open reader must not have been overrun.
+    fn check_place<B: Bytes>(&self, log: &Log<B>, position: i64) -> Result<(), Error> {
+        if self.image.is_closed {
+            return Ok(());
+        }
+        log.check_place(position)
+    }
+
     /// A bounded poll that leaves the reader where it is: the image that it answers, and how many entries it wrote.
-    fn look(&mut self, log: &Log, limit_position: i64, limit: usize) -> Result<(Image, usize), Error> {
+    fn look<B: Bytes>(&mut self, log: &Log<B>, limit_position: i64, limit: usize) -> Result<(Image, usize), Error> {
+        self.check_place(log, self.image.position)?;
         let limit_position = limit_position.min(log.publisher_position());
         let limit = self.reserve(log, self.image.position, limit) as i32;
         let mut next = self.image;
-        let reply = sys::image_bounded_poll(&mut next, &log.record, &log.bytes, &mut self.entries, limit_position, limit);
+        let reply = sys::image_bounded_poll(&mut next, &log.record, log.bytes.as_ref(), &mut self.entries, limit_position, limit);
         let partition = log.partition_of(self.image.position);
         Error::check_frame(reply.code, partition, reply.fragments as usize).map(|()| (next, reply.entries))
     }
 
     /// Makes room for as many entries as a limit asks for, or as frames can lie between a position and the publisher's, or in a term, if
     /// those are fewer: no call reads more.
-    fn reserve(&mut self, log: &Log, position: i64, limit: usize) -> usize {
+    fn reserve<B: Bytes>(&mut self, log: &Log<B>, position: i64, limit: usize) -> usize {
         let written = log.written_after(position).min(log.record.term_length as usize);
         let limit = limit.min(written.div_ceil(32));
         if self.entries.len() < 2 * limit {
@@ -363,7 +376,7 @@ impl Poller {
     }
 
     /// The fragment of an entry, two numbers: offset and length of its body.
-    fn fragment<'a>(&self, log: &'a Log, partition: i32, index: usize) -> Result<Fragment<'a>, Error> {
+    fn fragment<'a, B: Bytes>(&self, log: &'a Log<B>, partition: i32, index: usize) -> Result<Fragment<'a>, Error> {
         let (offset, length) = (self.entries[2 * index], self.entries[2 * index + 1]);
         let header = log.header_at(partition, offset - 32)?;
         let body = log.view(partition, offset, length)?;
@@ -371,9 +384,9 @@ impl Poller {
     }
 
     /// The handler's actions, up to the one that stops.
-    fn ask<'a>(
+    fn ask<'a, B: Bytes>(
         &self,
-        log: &'a Log,
+        log: &'a Log<B>,
         partition: i32,
         count: usize,
         mut handler: impl FnMut(Fragment<'a>) -> Action,
@@ -395,13 +408,13 @@ fn is_stopped(actions: &[u8]) -> bool {
 
 /// Fragments one by one. Made by [`Poller::fragments`]. After a refusal there are no more.
 #[derive(Debug)]
-pub struct Fragments<'p, 'a> {
+pub struct Fragments<'p, 'a, B: Bytes = Vec<u8>> {
     poller: &'p mut Poller,
-    log: &'a Log,
+    log: &'a Log<B>,
     is_ended: bool,
 }
 
-impl<'a> Iterator for Fragments<'_, 'a> {
+impl<'a, B: Bytes> Iterator for Fragments<'_, 'a, B> {
     type Item = Result<Fragment<'a>, Error>;
 
     fn next(&mut self) -> Option<Result<Fragment<'a>, Error>> {

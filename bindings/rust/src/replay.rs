@@ -1,14 +1,15 @@
 //! A log's messages from the start, one after another or in batches. The last of the files; tests/ has the calls in use.
 
+use crate::log::Bytes;
 use crate::sys;
 use crate::{Error, Log};
 
 /// The messages of a log from position 0, whole, up to the end or the first claim still open. Made by [`Log::replay`].
 ///
-/// While the publisher's position is short of three terms these are the messages accepted, in order, byte for byte. Further on the first
-/// terms are written anew, and a replay is of no use: follow the log with a [`Poller`](crate::Poller).
+/// Up to the publisher's position, and while that is not past three terms, these are the messages accepted, in order, byte for byte. Further on the first
+/// terms are written anew, and a replay is refused [`Error::Overrun`]: follow the log with a [`Poller`](crate::Poller).
 ///
-/// It ends with the first refusal: [`Error::FrameTooShort`], [`Error::FramePastTerm`] or [`Error::AssemblyFull`], which only a log damaged or made by hand brings.
+/// It ends with the first refusal: that one, or [`Error::FrameTooShort`], [`Error::FramePastTerm`] or [`Error::AssemblyFull`], which only a log damaged or made by hand brings.
 ///
 /// ```
 /// let mut log = logbuffer::Log::builder().mtu_length(96).open()?;
@@ -23,9 +24,9 @@ use crate::{Error, Log};
 /// assert_eq!(messages?.len(), 2);
 /// # Ok::<(), logbuffer::Error>(())
 /// ```
-#[derive(Clone, Debug)]
-pub struct Replay<'a> {
-    log: &'a Log,
+#[derive(Debug)]
+pub struct Replay<'a, B: Bytes = Vec<u8>> {
+    log: &'a Log<B>,
     replay: sys::Replay,
     buffer: Vec<u8>,
     numbers: Vec<usize>,
@@ -49,7 +50,32 @@ pub struct Count {
     pub bytes: usize,
 }
 
-impl Replay<'_> {
+impl<B: Bytes> Replay<'_, B> {
+    /// The position behind the last message that was handed out, or the last batch; 0 before the first.
+    ///
+    /// ```
+    /// let mut log = logbuffer::Log::builder().open()?;
+    /// let position = log.offer(b"coin")?;
+    /// let mut replay = log.replay();
+    /// assert_eq!(replay.next_message(), Some(Ok(&b"coin"[..])));
+    /// assert_eq!(replay.position(), position);
+    /// # Ok::<(), logbuffer::Error>(())
+    /// ```
+    pub fn position(&self) -> i64 {
+        self.replay.image.position
+    }
+
+    /// Whether nothing more comes: all was handed out, the publisher's position is reached, or the place was written anew, which is told once.
+    fn end(&mut self) -> Option<Result<(), Error>> {
+        let position = self.replay.image.position;
+        if self.is_ended || position >= self.log.publisher_position() {
+            return Some(Ok(()));
+        }
+        let place = self.log.check_place(position);
+        self.is_ended = place.is_err();
+        place.err().map(Err)
+    }
+
     /// The next message, where it lies in the log or in the replay's own buffer.
     ///
     /// ```
@@ -61,14 +87,14 @@ impl Replay<'_> {
     /// # Ok::<(), logbuffer::Error>(())
     /// ```
     pub fn next_message(&mut self) -> Option<Result<&[u8], Error>> {
-        if self.is_ended {
-            return None;
+        if let Some(end) = self.end() {
+            return end.err().map(Err);
         }
-        let reply = sys::replay_next(&mut self.replay, &self.log.record, &self.log.bytes, &mut self.buffer);
+        let reply = sys::replay_next(&mut self.replay, &self.log.record, self.log.bytes.as_ref(), &mut self.buffer);
         let message = reply.start..reply.start + reply.length;
         let partition = self.log.partition_of(self.replay.image.position);
         match (Error::check_frame(reply.code, partition, reply.start), reply.place) {
-            (Ok(()), sys::IN_LOG) => Some(Ok(&self.log.bytes[message])),
+            (Ok(()), sys::IN_LOG) => Some(Ok(&self.log.bytes.as_ref()[message])),
             (Ok(()), sys::IN_BUFFER) => Some(Ok(&self.buffer[message])),
             (answer, _) => {
                 self.is_ended = true;
@@ -93,19 +119,41 @@ impl Replay<'_> {
     /// # Ok::<(), logbuffer::Error>(())
     /// ```
     pub fn next_batch(&mut self, most: usize) -> Option<Result<Batch<'_>, Error>> {
-        if self.is_ended {
-            return None;
+        if let Some(end) = self.end() {
+            return end.err().map(Err);
         }
         self.numbers.resize(4 * most.clamp(1, 536_870_911), 0);
-        let reply = sys::replay_next_batch(&mut self.replay, &self.log.record, &self.log.bytes, &mut self.buffer, &mut self.numbers);
+        let reply = sys::replay_next_batch(&mut self.replay, &self.log.record, self.log.bytes.as_ref(), &mut self.buffer, &mut self.numbers);
         let partition = self.log.partition_of(self.replay.image.position);
         let answer = Error::check_frame(reply.code, partition, reply.messages);
         if answer.is_err() || reply.messages == 0 {
             self.is_ended = true;
             return answer.err().map(Err);
         }
-        let messages = self.numbers[..4 * reply.messages].chunks_exact(4);
-        Some(Ok(Batch { log: &self.log.bytes, buffer: &self.buffer, messages }))
+        // Behind the publisher's position the frames of an older term may lie.
+        let end = self.log.publisher_position();
+        let messages = self.numbers[..4 * reply.messages].chunks_exact(4).take_while(|message| message[3] as i64 <= end).count();
+        self.is_ended = messages < reply.messages;
+        let messages = self.numbers[..4 * messages].chunks_exact(4);
+        Some(Ok(Batch { log: self.log.bytes.as_ref(), buffer: &self.buffer, messages }))
+    }
+}
+
+impl<'a> Batch<'a> {
+    /// The messages, each with the position behind it.
+    ///
+    /// ```
+    /// let mut log = logbuffer::Log::builder().open()?;
+    /// log.offer(b"coin")?;
+    /// log.offer(b"pin")?;
+    /// let mut replay = log.replay();
+    /// let batch = replay.next_batch(256).unwrap()?;
+    /// assert_eq!(batch.with_positions().collect::<Vec<_>>(), [(64, &b"coin"[..]), (128, &b"pin"[..])]);
+    /// # Ok::<(), logbuffer::Error>(())
+    /// ```
+    pub fn with_positions(self) -> impl Iterator<Item = (i64, &'a [u8])> {
+        let positions = self.messages.clone().map(|message| message[3] as i64);
+        positions.zip(self)
     }
 }
 
@@ -129,7 +177,7 @@ impl ExactSizeIterator for Batch<'_> {}
 impl std::iter::FusedIterator for Batch<'_> {}
 
 /// Copies of the messages.
-impl Iterator for Replay<'_> {
+impl<B: Bytes> Iterator for Replay<'_, B> {
     type Item = Result<Vec<u8>, Error>;
 
     fn next(&mut self) -> Option<Result<Vec<u8>, Error>> {
@@ -137,9 +185,9 @@ impl Iterator for Replay<'_> {
     }
 }
 
-impl std::iter::FusedIterator for Replay<'_> {}
+impl<B: Bytes> std::iter::FusedIterator for Replay<'_, B> {}
 
-impl Log {
+impl<B: Bytes> Log<B> {
     /// The log's messages from the start. [`Replay`] says how far they go.
     ///
     /// ```
@@ -148,12 +196,12 @@ impl Log {
     /// assert_eq!(log.replay().collect::<Vec<_>>(), [Ok(b"coin".to_vec())]);
     /// # Ok::<(), logbuffer::Error>(())
     /// ```
-    pub fn replay(&self) -> Replay<'_> {
+    pub fn replay(&self) -> Replay<'_, B> {
         let replay = sys::replay_new(self.record.session_id);
         Replay { log: self, replay, buffer: self.assembly_buffer(), numbers: Vec::new(), is_ended: false }
     }
 
-    /// How many messages a whole [`replay`](Log::replay) gives, and how many bytes they have together. Refuses what ends a replay.
+    /// How many messages a whole [`replay`](Log::replay) gives, and how many bytes they have together. Refuses what ends a replay, [`Error::Overrun`] too.
     ///
     /// ```
     /// use logbuffer::{Count, Log};
@@ -165,8 +213,24 @@ impl Log {
     /// # Ok::<(), logbuffer::Error>(())
     /// ```
     pub fn count(&self) -> Result<Count, Error> {
-        let reply = sys::replay_count(&self.record, &self.bytes, &mut self.assembly_buffer(), self.record.session_id);
+        self.check_place(0)?;
+        if self.publisher_position() >= 3 * i64::from(self.record.term_length) {
+            return self.count_up_to_the_end();
+        }
+        let reply = sys::replay_count(&self.record, self.bytes.as_ref(), &mut self.assembly_buffer(), self.record.session_id);
         Error::check_frame(reply.code, None, reply.messages).map(|()| Count { messages: reply.messages, bytes: reply.bytes })
+    }
+
+    /// The same of three full terms, behind which the first one's frames lie again.
+    fn count_up_to_the_end(&self) -> Result<Count, Error> {
+        let (mut replay, mut count) = (self.replay(), Count { messages: 0, bytes: 0 });
+        while let Some(batch) = replay.next_batch(1_024) {
+            for message in batch? {
+                count.messages += 1;
+                count.bytes += message.len();
+            }
+        }
+        Ok(count)
     }
 
     /// The longest body of one frame: mtu - 32.

@@ -17,6 +17,7 @@ macro_rules! rules {
         /// assert!(Rule::CountOutOfStep.advice().starts_with("do not call again"));
         /// ```
         #[derive(Clone, Copy, Debug, PartialEq, Eq, Hash, PartialOrd, Ord)]
+        #[non_exhaustive]
         pub enum Rule {
             $(#[doc = concat!("Place ", $place, ", number ", $number, ": ", $told, ". Advice: ", $advice, ".")] $name = $place,)*
         }
@@ -64,7 +65,7 @@ rules! {
     5 CountOutOfStep 6 "count out of step" "do not call again: the record is not this log's, or was damaged"
     6 LimitPastMaxPosition 7 "at the limit, past the greatest position" "the stream is at its end: open a new log"
     7 BackPressured 8 "back pressured" "wait until readers have moved on, raise the limit, call again"
-    8 NotConnected 9 "not connected" "wait for a connection, then as for 7"
+    8 NotConnected 9 "not connected" "wait for a connection, then as for BackPressured"
     9 ExceedsMaxMessageLength 10 "message over its limits" "cut the message up"
     10 TailOverflow 11 "tail overflow" "too many calls after the term was full: rotate, or go back to the last good record"
     11 TripPastMaxPosition 7 "tripped, past the greatest position" "the stream is at its end: open a new log"

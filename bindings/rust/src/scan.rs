@@ -1,6 +1,7 @@
 //! Scans of one term, for those who send or repair a log. Read log.rs for the rest of a log's calls.
 
 use crate::sys;
+use crate::log::Bytes;
 use crate::{Error, Log};
 
 /// What a frame's length says of its place. Both lengths count the header's 32 bytes; whether they are sound is not judged.
@@ -44,7 +45,7 @@ pub struct Availability {
     pub padding: usize,
 }
 
-impl Log {
+impl<B: Bytes> Log<B> {
     /// Whether the place at an offset, a multiple of 32 below the term length, of a partition, 0 to 2, is free, being written or finished.
     /// Refuses others with [`Error::IllegalArgument`]. [`Poller::ahead`](crate::Poller::ahead) asks it of the place where a reader stands.
     ///
@@ -62,7 +63,7 @@ impl Log {
     /// # Ok::<(), logbuffer::Error>(())
     /// ```
     pub fn frame_length(&self, partition: i32, offset: i32) -> Result<FrameLength, Error> {
-        let reply = sys::frame_length(&self.record, &self.bytes, partition, offset);
+        let reply = sys::frame_length(&self.record, self.bytes.as_ref(), partition, offset);
         Error::check(reply.code)?;
         Ok(match reply.state {
             sys::WRITING => FrameLength::Writing(reply.length),
@@ -82,7 +83,7 @@ impl Log {
     /// # Ok::<(), logbuffer::Error>(())
     /// ```
     pub fn scan(&self, partition: i32, offset: i32, limit: i32) -> Result<usize, Error> {
-        let reply = sys::scan(&self.record, &self.bytes, partition, offset, limit);
+        let reply = sys::scan(&self.record, self.bytes.as_ref(), partition, offset, limit);
         Error::check_frame(reply.code, partition, reply.offset).map(|()| reply.offset)
     }
 
@@ -103,7 +104,7 @@ impl Log {
     /// # Ok::<(), logbuffer::Error>(())
     /// ```
     pub fn scan_for_gap(&self, partition: i32, term_id: i32, offset: i32, high_mark: i32) -> Result<GapScan, Error> {
-        let reply = sys::scan_for_gap(&self.record, &self.bytes, partition, term_id, offset, high_mark);
+        let reply = sys::scan_for_gap(&self.record, self.bytes.as_ref(), partition, term_id, offset, high_mark);
         Error::check_frame(reply.code, partition, reply.offset)?;
         Ok(match reply.is_gap {
             true => GapScan::Gap {
@@ -127,7 +128,7 @@ impl Log {
     /// # Ok::<(), logbuffer::Error>(())
     /// ```
     pub fn scan_for_availability(&self, partition: i32, offset: i32, maximum: i32) -> Result<Availability, Error> {
-        let reply = sys::scan_for_availability(&self.record, &self.bytes, partition, offset, maximum);
+        let reply = sys::scan_for_availability(&self.record, self.bytes.as_ref(), partition, offset, maximum);
         Error::check_frame(reply.code, partition, reply.outcome as usize)?;
         // The answer is padding * 2^32 + available.
         Ok(Availability { available: reply.outcome as u32 as usize, padding: (reply.outcome >> 32) as usize })

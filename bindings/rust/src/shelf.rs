@@ -1,13 +1,14 @@
 //! Finished terms on the shelf: all headers of a term together, and back. Read log.rs next.
 
 use crate::sys::{self, Record};
+use crate::log::Bytes;
 use crate::{Error, Log};
 
 /// Finished terms on the shelf: a term, every frame of which is finished, with all its headers together.
 ///
 /// A shelf of n frames has its count, n, in 4 bytes, little-endian; then byte 0 of every header in order, then byte 1, up to byte 31, so
 /// that byte b of header k is at `4 + b * n + k`; then every body with its slack. It is 4 bytes longer than the term.
-impl Log {
+impl<B: Bytes> Log<B> {
     /// The term of a partition, 0 to 2, as a shelf. Refuses another partition with [`Error::IllegalArgument`], and a term whose sound,
     /// finished frames do not reach its end with [`Error::NotFilled`].
     ///
@@ -45,7 +46,7 @@ impl Log {
     /// # Ok::<(), Error>(())
     /// ```
     pub fn shelve_into(&self, partition: i32, out: &mut [u8]) -> Result<(), Error> {
-        Error::check(sys::shelve(&self.record, &self.bytes, partition, out))
+        Error::check(sys::shelve(&self.record, self.bytes.as_ref(), partition, out))
     }
 }
 

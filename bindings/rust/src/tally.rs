@@ -1,6 +1,7 @@
 //! Where a log's bytes went between two positions. Read log.rs for the rest of a log's calls.
 
 use crate::sys;
+use crate::log::Bytes;
 use crate::{Error, Log, Sums};
 use std::fmt;
 
@@ -153,7 +154,7 @@ impl fmt::Display for PartitionTally {
     }
 }
 
-impl Log {
+impl<B: Bytes> Log<B> {
     /// Where the bytes between two positions went, both boundaries of frames, as 0 and every position that was answered are. The walk ends at
     /// the second, or before it for one of the reasons of [`Stop`]. Refuses positions that are not in order or more than three terms apart with
     /// [`Error::IllegalArgument`], one that is no multiple of 32 or past the greatest with [`Error::PositionOutOfRange`], and a damaged first
@@ -173,7 +174,7 @@ impl Log {
     /// # Ok::<(), Error>(())
     /// ```
     pub fn tally(&self, from: i64, to: i64) -> Result<Tally, Error> {
-        let reply = sys::tally(&self.record, &self.bytes, from, to);
+        let reply = sys::tally(&self.record, self.bytes.as_ref(), from, to);
         self.check_walk(reply.code, from, reply.position)?;
         let Sums { body, headers, slack, padding } = reply.sums;
         Ok(Tally { body, headers, slack, padding, end: reply.position, stop: Stop::of(reply.stop, reply.writing) })
@@ -197,7 +198,7 @@ impl Log {
     /// # Ok::<(), Error>(())
     /// ```
     pub fn tally_by_partition(&self, from: i64, to: i64) -> Result<PartitionTally, Error> {
-        let reply = sys::tally_by_partition(&self.record, &self.bytes, from, to);
+        let reply = sys::tally_by_partition(&self.record, self.bytes.as_ref(), from, to);
         self.check_walk(reply.code, from, reply.position)?;
         let Sums { body, headers, slack, padding } = reply.sums;
         let sys::Partitions { p0, p1, p2 } = reply.partitions;

@@ -3,15 +3,45 @@
 mod common;
 
 use common::log;
-use logbuffer::GapScan;
+use logbuffer::{Error, GapScan};
 
 #[test]
-fn a_dropped_claim_stays_open_and_readers_stop_before_it() {
+fn a_dropped_claim_is_aborted() {
     let mut log = log();
     log.offer(b"coin").unwrap();
     let mut claim = log.try_claim(10).unwrap();
     claim.fill(7);
     drop(claim);
+    log.offer(b"behind it").unwrap();
+    let header = log.header_at(0, 64).unwrap();
+    assert_eq!((header.frame_length, header.frame_type), (42, 0));
+    assert_eq!(log.replay().map(Result::unwrap).collect::<Vec<_>>(), [&b"coin"[..], b"behind it"]);
+}
+
+#[test]
+fn a_lost_claim_is_found_where_a_reader_stops() {
+    let mut log = log();
+    log.offer(b"coin").unwrap();
+    let _lost = log.try_claim(10).unwrap().into_open();
+    log.offer(b"behind it").unwrap();
+    let mut poller = log.poller(0);
+    poller.poll(&log, 10, |_| ()).unwrap();
+    let mut claim = log.resume(log.open_claim_at(poller.position()).unwrap()).unwrap();
+    claim.copy_from_slice(b"found back");
+    assert_eq!(claim.commit(), Ok(128));
+    assert_eq!(log.replay().map(Result::unwrap).collect::<Vec<_>>(), [&b"coin"[..], b"found back", b"behind it"]);
+    for position in [0, 64, 128, 192, -32, 8, 1 << 50] {
+        assert_eq!(log.open_claim_at(position).err(), Some(Error::ClaimMismatch));
+    }
+}
+
+#[test]
+fn a_claim_laid_by_stays_open_and_readers_stop_before_it() {
+    let mut log = log();
+    log.offer(b"coin").unwrap();
+    let mut claim = log.try_claim(10).unwrap();
+    claim.fill(7);
+    let _open = claim.into_open();
     log.offer(b"behind it").unwrap();
 
     assert_eq!(log.header_at(0, 64).unwrap().frame_length, -42);
@@ -53,11 +83,13 @@ fn an_aborted_claim_is_passed() {
 }
 
 #[test]
-fn a_claim_is_kept_with_the_parts_of_its_log() {
+fn a_claim_is_taken_up_in_a_log_made_of_its_parts() {
     let mut log = log();
-    let open = log.try_claim(0).unwrap().into_open();
+    let before = log.try_claim(0).unwrap().into_open();
     let (record, bytes) = log.into_parts();
     let mut log = logbuffer::Log::from_parts(record, bytes).unwrap();
+    assert_eq!(log.commit(before), Err(Error::ClaimMismatch)); // of another log, as far as anybody can tell
+    let open = log.open_claim_at(0).unwrap();
     assert_eq!(log.commit(open), Ok(32));
     assert_eq!(log.replay().next(), Some(Ok(Vec::new())));
 }

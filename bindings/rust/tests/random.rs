@@ -11,7 +11,6 @@ const LISTS: u64 = 150;
 enum Written {
     Message(Vec<u8>),
     Open(OpenClaim, Vec<u8>),
-    Dropped,
     Aborted,
 }
 
@@ -21,6 +20,7 @@ struct World {
     written: Vec<Written>,
     last: i64,
     drops: bool,
+    taken: Option<OpenClaim>,
 }
 
 impl World {
@@ -29,7 +29,7 @@ impl World {
         let mtu_length = [64, 96, 1_408, 65_504][random.below(4)];
         let initial_term_id = [0, 7, i32::MIN, 2_147_483_646][random.below(4)];
         let log = Log::builder().term_length(TERM).mtu_length(mtu_length).initial_term_id(initial_term_id).session_id(11);
-        World { log: log.open().unwrap(), random, written: Vec::new(), last: 0, drops: seed % 4 == 0 }
+        World { log: log.open().unwrap(), random, written: Vec::new(), last: 0, drops: seed % 4 == 0, taken: None }
     }
 
     /// Positions rise, so no two calls are answered the same one.
@@ -62,15 +62,18 @@ impl World {
         let most = (self.log.max_payload_length() + 1).min(3_000);
         let length = self.random.below(most);
         let (body, end) = (self.random.bytes(length), self.random.below(20));
-        let mut claim = match self.log.try_claim(length) {
-            Ok(claim) => claim,
-            Err(error) => return self.refuse(error),
-        };
+        if let Err(error) = self.log.try_claim(length).map(|claim| claim.into_open()).map(|open| self.taken = Some(open)) {
+            return self.refuse(error);
+        }
+        let mut claim = self.log.resume(self.taken.take().unwrap()).unwrap();
         assert_eq!(*claim, vec![0; length]);
         claim.copy_from_slice(&body);
         let position = claim.position();
         let written = match end {
-            0 if self.drops => Written::Dropped,
+            0 if self.drops => {
+                drop(claim); // aborts it
+                Written::Aborted
+            }
             0..=4 => {
                 claim.abort().unwrap();
                 Written::Aborted
@@ -133,7 +136,7 @@ impl World {
     }
 
     fn expected(&self) -> Vec<Vec<u8>> {
-        let finished = self.written.iter().take_while(|w| !matches!(w, Written::Open(..) | Written::Dropped));
+        let finished = self.written.iter().take_while(|w| !matches!(w, Written::Open(..)));
         let messages = finished.filter_map(|w| match w {
             Written::Message(message) => Some(message.clone()),
             _ => None,

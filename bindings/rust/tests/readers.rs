@@ -88,6 +88,46 @@ fn no_call_reads_what_an_older_term_left() {
 }
 
 #[test]
+fn a_reader_that_was_overrun_is_told_and_handed_nothing() {
+    let mut log = log();
+    let mut written = Vec::new();
+    while log.position().unwrap() < 3 * i64::from(TERM) {
+        let left = i64::from(TERM) - log.position().unwrap() % i64::from(TERM);
+        written.extend(log.offer(if left > 8_000 { &[1; 4_000] } else { b"" }).ok());
+    }
+    // Three full terms replay whole, and not once more from the first.
+    let count = log.count().unwrap();
+    assert_eq!(count.messages, written.len());
+    let mut replay = log.replay();
+    let mut positions = Vec::new();
+    while let Some(batch) = replay.next_batch(7) {
+        positions.extend(batch.unwrap().with_positions().map(|(position, _)| position));
+    }
+    assert_eq!(positions, written);
+    let mut replay = log.replay();
+    for position in &written {
+        replay.next_message().unwrap().unwrap();
+        assert_eq!(replay.position(), *position);
+    }
+    assert_eq!(replay.next_message(), None);
+
+    log.offer(&[2; 64]).ok(); // rotates: the first term's place is the fourth's
+    for position in [0, 32, i64::from(TERM) - 32] {
+        let mut poller = log.poller(position);
+        assert_eq!(poller.poll(&log, 10, |_| ()), Err(Error::Overrun));
+        assert_eq!(poller.controlled_poll(&log, 10, |_| Action::Continue), Err(Error::Overrun));
+        assert_eq!(poller.controlled_peek(&log, position, i64::MAX, 10, |_| Action::Continue), Err(Error::Overrun));
+        assert_eq!(poller.block_poll(&log, 1_000), Err(Error::Overrun));
+        assert_eq!(poller.ahead(&log), Err(Error::Overrun));
+        assert_eq!(poller.fragments(&log).next().unwrap(), Err(Error::Overrun));
+        assert_eq!(poller.position(), position);
+    }
+    assert_eq!(log.replay().collect::<Vec<_>>(), [Err(Error::Overrun)]);
+    assert_eq!(log.count(), Err(Error::Overrun));
+    assert!(log.poller(i64::from(TERM)).poll(&log, 10, |_| ()).unwrap() > 0);
+}
+
+#[test]
 fn a_fragment_has_position_body_and_header() {
     let mut log = log();
     log.offer_with_reserved_value(&[5; 70], 99).unwrap();
