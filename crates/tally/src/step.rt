@@ -36,7 +36,7 @@ pub enum Stop {
 }
 
 // Where a position lies: its term's count, its offset there, its index in the log, and the bytes to its term's end.
-pub(crate) struct Spot {
+pub struct Spot {
     pub count: usize,
     pub offset: usize,
     pub index: usize,
@@ -50,7 +50,7 @@ fn cut(bits: u32) -> u32
     if bits < 30 { bits } else { 30 }
 }
 
-pub(crate) fn locate(bits: u32, p: usize) -> Spot
+pub fn locate(bits: u32, p: usize) -> Spot
     ensures { λ r. ⌜ r ≡ spotOf (2 ^ min bits 30) p ⌝ }
 {
     let shift = cut(bits);

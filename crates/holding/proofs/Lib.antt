@@ -1,0 +1,11 @@
+-- Laws about runs, about cards laid over one another and about the walk; the theorems of specs/Theorems.antt, in Latest; worked cases.
+pub mod Anchors
+pub mod Padding
+pub mod Same
+pub mod Latest
+pub mod Capped
+pub mod Reading
+pub mod Turning
+pub mod Cutting
+pub mod Answering
+pub mod Cases

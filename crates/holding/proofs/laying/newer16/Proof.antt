@@ -1,0 +1,7 @@
+-- The test settles it.
+use borrow.Author.Tests.{eq-eqb, ne-eqb}
+use Rattle.holding.proofs.laying.newer16.Statement.{statement}
+use Rattle.holding.proofs.laying.newer16.Tie as tie
+
+pub newer16-spec : {M : Type 1} → statement M
+newer16-spec = tie.close (tie.spec (λ c. simp (eq-eqb _ _ (c .if1 .taken))) (λ c. simp (ne-eqb _ _ (c .if1 .left))))
