@@ -1,5 +1,6 @@
 /* The log buffer for C: an excavation's log as Aeron lays it out, each function proved equal to a definition in crates/model/specs, for
- * find cards in crates/card/specs, for finished terms on the shelf in crates/shelf/specs, for the tally in crates/tally/specs.
+ * find cards in crates/card/specs, for finished terms on the shelf in crates/shelf/specs, for the tally in crates/tally/specs, for
+ * the card that holds in crates/holding/specs.
  *
  *   ./archive                                                     builds target/liblogbuffer.a (x86-64)
  *   cc -I include program.c target/liblogbuffer.a                 links it; it needs nothing else
@@ -16,7 +17,7 @@
  * - `code` is 0, or the number of the refusal below. Where it is not 0 the other values of a reply are 0, and what was lent by a pointer
  *   is as it was, every byte of it, unless the refusal's line or the call's says otherwise. Only `rule` of an offer or a claim always stands.
  * - With 22 and 23 a reply tells the place of the frame, its offset in its term: in `offset` of a read, a scan, a gap scan and a block, in `outcome`
- *   of an availability scan, in `fragments` of a poll, in `position` of a peek and a tally, in `start` of the assembler and a replay, in `messages` of a batch
+ *   of an availability scan, in `fragments` of a poll, in `position` of a peek, a tally and a holding, in `start` of the assembler and a replay, in `messages` of a batch
  *   and of a count.
  *
  * Refusals, by number (docs/ERRORS.md says what to do about each)
@@ -36,6 +37,7 @@
  *                                                     21  a find card, or bytes, that break its format
  *                                                     22  the first frame has a length of 1 to 31 (with its place)
  *                                                     23  the first frame runs past its term's end (with its place)
+ *                                                     24  no finished card of that find (with where the walk ended, and why)
  *                                                     26  frames that do not fill the term; shelf bytes that no term gives
  *
  * An example
@@ -71,7 +73,7 @@ extern "C" {
 
 /* ---- numbers */
 
-/* The refusals. 17 is retired; 19, 20, 24 and 25 are not in use. */
+/* The refusals. 17 is retired; 19, 20 and 25 are not in use. */
 enum {
     LOGBUFFER_DONE = 0,
     LOGBUFFER_ILLEGAL_ARGUMENT = 1,
@@ -94,6 +96,7 @@ enum {
     LOGBUFFER_BROKEN_CARD = 21,
     LOGBUFFER_FRAME_TOO_SHORT = 22,
     LOGBUFFER_FRAME_PAST_TERM = 23,
+    LOGBUFFER_NO_CARD = 24,
     LOGBUFFER_NOT_FILLED = 26
 };
 
@@ -212,7 +215,17 @@ struct logbuffer_partitions {
     struct logbuffer_sums p2;
 };
 
-/* Why a tally ended where it did. */
+/* Where each field of the card that holds is from: the position at the end of its message, 0 where the field is absent. */
+struct logbuffer_ends {
+    size_t find;
+    size_t trench;
+    size_t context;
+    size_t material;
+    size_t weight;
+    size_t note;
+};
+
+/* Why a walk, of a tally or for the card that holds, ended where it did. */
 enum {
     LOGBUFFER_STOP_REACHED = 0,     /* it came to the second position */
     LOGBUFFER_STOP_WRITING = 1,     /* at a frame being written: a claim that is still open, or an offer that broke off */
@@ -419,6 +432,19 @@ struct logbuffer_partition_tally_reply {
     size_t writing;
     struct logbuffer_sums sums;
     struct logbuffer_partitions partitions;
+};
+
+/* The card that holds, by its bits, with where each field is from; its note is note[0 .. note_length), and 0 behind that. stop, position and writing are as
+ * a tally's, with 24 too; then the rest is 0. */
+struct logbuffer_holding_reply {
+    int32_t code;
+    int32_t stop;
+    int64_t position;
+    size_t writing;
+    struct logbuffer_card card;
+    struct logbuffer_ends ends;
+    size_t note_length;
+    uint8_t note[255];
 };
 
 /* ---- this face */
@@ -658,6 +684,15 @@ LOGBUFFER_ANSWER struct logbuffer_tally_reply logbuffer_tally(const struct logbu
 LOGBUFFER_ANSWER struct logbuffer_partition_tally_reply logbuffer_tally_by_partition(const struct logbuffer_record *rec, const uint8_t *log, size_t log_length, int64_t from,
                                                                     int64_t to);
 
+/* ---- which card holds */
+
+/* Of the find cards with a find number between two positions, each field from the last message whose card has it: a find is weighed again, renamed, moved. A
+ * message is an unfragmented body, or the joined bodies of frames that follow one another from a begin frame to the next end frame, with no padding,
+ * unfragmented or other begin frame between; sessions are not looked at. The walk is the tally's and refuses as it does: 1, 2, 3, 22, 23; then
+ * 24 if no message in the walked part is a card with that number. */
+LOGBUFFER_ANSWER struct logbuffer_holding_reply logbuffer_holding(const struct logbuffer_record *rec, const uint8_t *log, size_t log_length, uint32_t find,
+                                                 int64_t from, int64_t to);
+
 /* ---- in words; what to do about each stands in docs/ERRORS.md */
 
 /* What a refusal's number means; of any other number that it is none. */
@@ -684,6 +719,7 @@ static inline const char *logbuffer_strerror(int32_t code) {
     case LOGBUFFER_BROKEN_CARD: return "a find card, or bytes, that break its format";
     case LOGBUFFER_FRAME_TOO_SHORT: return "the first frame has a length of 1 to 31";
     case LOGBUFFER_FRAME_PAST_TERM: return "the first frame runs past its term's end";
+    case LOGBUFFER_NO_CARD: return "no finished card with that find number lies in the walked part";
     case LOGBUFFER_NOT_FILLED: return "frames that do not fill the term, or shelf bytes that no term of that length gives";
     default: return "no refusal has this number";
     }

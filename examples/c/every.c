@@ -352,6 +352,42 @@ static void partitions(void) {
     say_partitions(logbuffer_tally_by_partition(&rec, second_log, sizeof second_log, TERM + 96, 2 * TERM));
 }
 
+static void say_holding(struct logbuffer_holding_reply h) {
+    SAY("holding", "code stop position writing", h.code, h.stop, h.position, h.writing);
+    SAY("  card", "bits find trench context material weight note_length", h.card.bits, h.card.find, h.card.trench, h.card.context, h.card.material,
+        h.card.weight, h.note_length);
+    SAY("  ends", "find trench context material weight note", h.ends.find, h.ends.trench, h.ends.context, h.ends.material, h.ends.weight, h.ends.note);
+    SAY("  note", "first last behind", h.note[0], h.note[h.note_length ? h.note_length - 1 : 0], h.note[254]);
+}
+
+static void offer_card(struct logbuffer_record *rec, struct logbuffer_card card, const char *note) {
+    uint8_t bytes[LOGBUFFER_CARD_MAX_LENGTH];
+    struct logbuffer_card_write_reply w = logbuffer_card_write(card, (const uint8_t *)note, strlen(note), bytes, sizeof bytes);
+    must(w.code);
+    must(logbuffer_offer(rec, second_log, sizeof second_log, bytes, w.length, 0).code);
+}
+
+/* A find, weighed again, with a note that is cut into fragments, moved to another context; between them another find and a message that is no card. To the
+ * free place, up to the second weighing, of a find that has no card; a length of 5 at the start; positions not in order and not on a boundary. */
+static void holdings(void) {
+    struct logbuffer_record rec;
+    must(logbuffer_open(&rec, second_log, sizeof second_log, TERM, 96, 7, 33, 44));
+    must(logbuffer_set_publication_limit(&rec, 2 * TERM));
+    offer_card(&rec, (struct logbuffer_card){.bits = 31, .find = 1001, .trench = 4, .context = 17, .material = 2, .weight = 38}, "");
+    offer_card(&rec, (struct logbuffer_card){.bits = 17, .find = 1002, .weight = 900}, "");
+    offer_card(&rec, (struct logbuffer_card){.bits = 17, .find = 1001, .weight = 36}, "");
+    must(logbuffer_offer(&rec, second_log, sizeof second_log, (const uint8_t *)"good morning", 12, 0).code);
+    offer_card(&rec, (struct logbuffer_card){.bits = 33, .find = 1001}, "a coin of the second phase, worn on one side, found while sieving the spoil");
+    offer_card(&rec, (struct logbuffer_card){.bits = 5, .find = 1001, .context = 19}, "");
+    say_holding(logbuffer_holding(&rec, second_log, sizeof second_log, 1001, 0, TERM));
+    say_holding(logbuffer_holding(&rec, second_log, sizeof second_log, 1001, 0, 128));
+    say_holding(logbuffer_holding(&rec, second_log, sizeof second_log, 1003, 0, TERM));
+    second_log[0] = 5;
+    say_holding(logbuffer_holding(&rec, second_log, sizeof second_log, 1001, 0, TERM));
+    say_holding(logbuffer_holding(&rec, second_log, sizeof second_log, 1001, 64, 32));
+    say_holding(logbuffer_holding(&rec, second_log, sizeof second_log, 1001, 0, 40));
+}
+
 int main(void) {
     printf("face: %" PRIu32 "\n", logbuffer_face_1());
     numbers();
@@ -365,5 +401,6 @@ int main(void) {
     shelves();
     tallies();
     partitions();
+    holdings();
     return 0;
 }

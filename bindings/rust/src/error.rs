@@ -33,7 +33,7 @@ macro_rules! go_on {
 }
 
 macro_rules! refusals {
-    ($($number:literal $name:ident $cause:literal $remedy:literal)* frames $($at:literal $frame:ident $what:literal $then:literal)*) => {
+    ($($number:literal $name:ident $cause:literal $remedy:literal)* frames $($at:literal $frame:ident $what:literal $then:literal)* walks $($past:literal $walk:ident $none:literal $later:literal)*) => {
         /// Why a call was refused. Unless the remedy says that something stays, a refused call has changed nothing.
         ///
         /// ```
@@ -48,22 +48,23 @@ macro_rules! refusals {
         pub enum Error {
             $(#[doc = concat!("No. ", $number, ": ", $cause, ". Next: ", $remedy, ".")] $name,)*
             $(#[doc = concat!("No. ", $at, ", with the frame's place: ", $what, ". Next: ", $then, ".")] $frame(Place),)*
+            $(#[doc = concat!("No. ", $past, ", with the position where the walk ended: ", $none, ". Next: ", $later, ".")] $walk(i64),)*
             #[doc = concat!("This crate's own, without a number: ", overrun!(), ". Next: ", go_on!(), ".")]
             Overrun,
         }
 
         impl Error {
-            /// Every refusal that has a number; those of a frame come last, at offset 0.
-            pub const ALL: [Error; 21] = [$(Error::$name,)* $(Error::$frame(Place { partition: None, offset: 0 })),*];
+            /// Every refusal that has a number; those of a frame, at offset 0, and of a walk, at position 0, come last.
+            pub const ALL: [Error; 22] = [$(Error::$name,)* $(Error::$frame(Place { partition: None, offset: 0 }),)* $(Error::$walk(0)),*];
 
-            /// The refusal's number: 1 to 18 without 17, which is retired, 21 for a card, 22 and 23 for a frame, 26 for the shelf; 0 for
-            /// [`Overrun`](Error::Overrun), which only this crate answers.
+            /// The refusal's number: 1 to 18 without 17, which is retired, 21 for a card, 22 and 23 for a frame, 24 for the card that
+            /// holds, 26 for the shelf; 0 for [`Overrun`](Error::Overrun), which only this crate answers.
             ///
             /// ```
             /// assert_eq!(logbuffer::Error::BackPressured.number(), 8);
             /// ```
             pub fn number(self) -> i32 {
-                match self { $(Error::$name => $number,)* $(Error::$frame(_) => $at,)* Error::Overrun => 0 }
+                match self { $(Error::$name => $number,)* $(Error::$frame(_) => $at,)* $(Error::$walk(_) => $past,)* Error::Overrun => 0 }
             }
 
             /// What the refusal is given for, in one line.
@@ -72,7 +73,7 @@ macro_rules! refusals {
             /// assert_eq!(logbuffer::Error::BackPressured.cause(), "the publication limit is reached");
             /// ```
             pub fn cause(self) -> &'static str {
-                match self { $(Error::$name => $cause,)* $(Error::$frame(_) => $what,)* Error::Overrun => overrun!() }
+                match self { $(Error::$name => $cause,)* $(Error::$frame(_) => $what,)* $(Error::$walk(_) => $none,)* Error::Overrun => overrun!() }
             }
 
             /// What the call has left, if anything, and what to do next, in one line.
@@ -81,7 +82,7 @@ macro_rules! refusals {
             /// assert_eq!(logbuffer::Error::NewPositionNotAligned.remedy(), "set the position of a frame");
             /// ```
             pub fn remedy(self) -> &'static str {
-                match self { $(Error::$name => $remedy,)* $(Error::$frame(_) => $then,)* Error::Overrun => go_on!() }
+                match self { $(Error::$name => $remedy,)* $(Error::$frame(_) => $then,)* $(Error::$walk(_) => $later,)* Error::Overrun => go_on!() }
             }
         }
     };
@@ -153,6 +154,10 @@ refusals! {
     23 FramePastTerm
         "the first frame runs past its term's end"
         "the log was damaged at that place: what lies before is good, mend the frame there or go on in the next term"
+    walks
+    24 NoCard
+        "no finished card with that find number lies in the walked part"
+        "look from the position where the walk ended on later, or in an earlier part"
 }
 
 impl Error {
@@ -205,9 +210,12 @@ impl Error {
 
 impl fmt::Display for Error {
     fn fmt(&self, f: &mut fmt::Formatter<'_>) -> fmt::Result {
-        match self.place() {
-            Some(place) => write!(f, "{}, at {place}: {}", self.cause(), self.remedy()),
-            None => write!(f, "{}: {}", self.cause(), self.remedy()),
+        match self {
+            Error::FrameTooShort(place) | Error::FramePastTerm(place) => {
+                write!(f, "{}, at {place}: {}", self.cause(), self.remedy())
+            }
+            Error::NoCard(end) => write!(f, "{}, which ends at {end}: {}", self.cause(), self.remedy()),
+            _ => write!(f, "{}: {}", self.cause(), self.remedy()),
         }
     }
 }

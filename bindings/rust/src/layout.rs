@@ -64,6 +64,7 @@ fn replies_have_the_sizes_of_c() {
     assert_eq!(size_of::<CardReadReply>(), 40);
     assert_eq!(size_of::<TallyReply>(), 56);
     assert_eq!(size_of::<PartitionTallyReply>(), 152);
+    assert_eq!(size_of::<HoldingReply>(), 360);
 }
 
 #[test]
@@ -85,6 +86,9 @@ fn fields_of_replies_have_the_offsets_of_c() {
     assert_eq!([offset_of!(CardReadReply, card), offset_of!(CardReadReply, note_start)], [4, 24]);
     assert_eq!([offset_of!(TallyReply, stop), offset_of!(TallyReply, position), offset_of!(TallyReply, sums)], [4, 8, 24]);
     assert_eq!([offset_of!(PartitionTallyReply, sums), offset_of!(PartitionTallyReply, partitions)], [24, 56]);
+    assert_eq!([offset_of!(HoldingReply, position), offset_of!(HoldingReply, card), offset_of!(HoldingReply, ends)], [8, 24, 48]);
+    assert_eq!([offset_of!(HoldingReply, note_length), offset_of!(HoldingReply, note)], [96, 104]);
+    assert_eq!([offset_of!(Ends, trench), offset_of!(Ends, weight), offset_of!(Ends, note)], [8, 32, 40]);
     assert_eq!([offset_of!(Sums, headers), offset_of!(Sums, slack), offset_of!(Sums, padding)], [8, 16, 24]);
     assert_eq!([offset_of!(Partitions, p1), offset_of!(Partitions, p2)], [32, 64]);
 }

@@ -24,6 +24,7 @@
 //!   [`Batch`] at a time.
 //! - [`Card`]: a find card, a message body of one format.
 //! - [`Log::shelve`], [`Record::unshelve`]: a finished term with all its headers together, and back.
+//! - [`Log::holding`]: which card of a find holds, field by field, as a [`Holding`].
 //! - [`Log::tally`]: where the bytes between two positions went, as a [`Tally`] that prints as a table. [`Log::tally_by_partition`]: the same
 //!   as the partitions lie, with the sums of each.
 //! - [`Error`]: the refusals, with cause and remedy. [`Rule`]: which check decided an offer or a claim, with a line of advice. Refused by
@@ -44,6 +45,7 @@ mod card;
 mod claim;
 pub mod descriptor;
 mod error;
+mod holding;
 mod log;
 mod poller;
 mod replay;
@@ -62,6 +64,7 @@ pub use builder::Builder;
 pub use card::Card;
 pub use claim::{Claim, OpenClaim};
 pub use error::{Error, Place};
+pub use holding::{Field, Holding};
 pub use log::{Bytes, Log};
 pub use poller::{Action, Block, Fragment, Fragments, Poller};
 pub use replay::{Batch, Count, Replay};

@@ -126,6 +126,17 @@ pub struct Partitions {
     pub p2: Sums,
 }
 
+#[repr(C)]
+#[derive(Clone, Copy, Debug, PartialEq, Eq)]
+pub struct Ends {
+    pub find: usize,
+    pub trench: usize,
+    pub context: usize,
+    pub material: usize,
+    pub weight: usize,
+    pub note: usize,
+}
+
 pub const IN_LOG: i32 = 1;
 pub const IN_BUFFER: i32 = 2;
 
@@ -168,16 +179,19 @@ replies! {
     CardReadReply { code: i32, card: Card, note_start: usize, note_length: usize }
     TallyReply { code: i32, stop: i32, position: i64, writing: usize, sums: Sums }
     PartitionTallyReply { code: i32, stop: i32, position: i64, writing: usize, sums: Sums, partitions: Partitions }
+    HoldingReply {
+        code: i32, stop: i32, position: i64, writing: usize, card: Card, ends: Ends, note_length: usize, note: [u8; 255]
+    }
 }
 
 /// Functions of the face that take no slice.
 pub use face::{
     logbuffer_align as align, logbuffer_available_window as available_window, logbuffer_close as close,
-    logbuffer_compute_position as compute_position, logbuffer_index_by_position as index_by_position, logbuffer_index_by_term_count as index_by_term_count,
-    logbuffer_is_power_of_two as is_power_of_two, logbuffer_position as position,
-    logbuffer_position_bits_to_shift as position_bits_to_shift, logbuffer_publication_limit as publication_limit,
-    logbuffer_set_publication_limit as set_publication_limit, logbuffer_term_id as term_id,
-    logbuffer_term_offset as term_offset,
+    logbuffer_compute_position as compute_position, logbuffer_index_by_position as index_by_position,
+    logbuffer_index_by_term_count as index_by_term_count, logbuffer_is_power_of_two as is_power_of_two,
+    logbuffer_position as position, logbuffer_position_bits_to_shift as position_bits_to_shift,
+    logbuffer_publication_limit as publication_limit, logbuffer_set_publication_limit as set_publication_limit,
+    logbuffer_term_id as term_id, logbuffer_term_offset as term_offset,
 };
 
 /// What makes the linker look for the face's version: an archive of another one does not link.
@@ -302,6 +316,9 @@ mod face {
         pub fn logbuffer_tally_by_partition(
             rec: &Record, log: In, log_length: usize, from: i64, to: i64,
         ) -> PartitionTallyReply;
+        pub fn logbuffer_holding(
+            rec: &Record, log: In, log_length: usize, find: u32, from: i64, to: i64,
+        ) -> HoldingReply;
     }
 }
 
@@ -342,7 +359,11 @@ pub fn open(
             stream_id,
         )
     };
-    if code == 0 { Ok(rec) } else { Err(code) }
+    if code == 0 {
+        Ok(rec)
+    } else {
+        Err(code)
+    }
 }
 
 pub fn image_new(position: i64, session_id: i32) -> Image {
@@ -593,4 +614,9 @@ pub fn tally(rec: &Record, log: &[u8], from: i64, to: i64) -> TallyReply {
 pub fn tally_by_partition(rec: &Record, log: &[u8], from: i64, to: i64) -> PartitionTallyReply {
     // SAFETY: pointers and lengths are those of the slices.
     unsafe { face::logbuffer_tally_by_partition(rec, log.as_ptr(), log.len(), from, to) }
+}
+
+pub fn holding(rec: &Record, log: &[u8], find: u32, from: i64, to: i64) -> HoldingReply {
+    // SAFETY: pointers and lengths are those of the slices.
+    unsafe { face::logbuffer_holding(rec, log.as_ptr(), log.len(), find, from, to) }
 }

@@ -5,7 +5,7 @@ use crate::log::Bytes;
 use crate::{Error, Log, Sums};
 use std::fmt;
 
-/// Why a tally ended where it did.
+/// Why a walk, of a tally or for the card that holds, ended where it did.
 #[derive(Clone, Copy, Debug, PartialEq, Eq, Hash)]
 pub enum Stop {
     /// It came to the second position.
@@ -23,8 +23,8 @@ pub enum Stop {
 }
 
 impl Stop {
-    /// By the number that a reply has, and the size of a frame being written.
-    fn of(number: i32, writing: usize) -> Stop {
+    /// By the number of the C face, with the size of a frame being written.
+    pub(crate) fn of(number: i32, writing: usize) -> Stop {
         match number {
             1 => Stop::Writing(writing),
             2 => Stop::Free,
@@ -155,6 +155,11 @@ impl fmt::Display for PartitionTally {
 }
 
 impl<B: Bytes> Log<B> {
+    /// The partition of a position, if the record has terms.
+    pub(crate) fn partition_at(&self, position: i64) -> Option<i32> {
+        position.checked_div(self.record.term_length.into()).map(|count| (count % 3) as i32)
+    }
+
     /// Where the bytes between two positions went, both boundaries of frames, as 0 and every position that was answered are. The walk ends at
     /// the second, or before it for one of the reasons of [`Stop`]. Refuses positions that are not in order or more than three terms apart with
     /// [`Error::IllegalArgument`], one that is no multiple of 32 or past the greatest with [`Error::PositionOutOfRange`], and a damaged first
@@ -208,7 +213,6 @@ impl<B: Bytes> Log<B> {
 
     /// The refusal of a walk from a position; a frame's place is in that position's partition.
     fn check_walk(&self, code: i32, from: i64, offset: i64) -> Result<(), Error> {
-        let partition = from.checked_div(self.record.term_length.into()).map(|count| (count % 3) as i32);
-        Error::check_frame(code, partition, offset as usize)
+        Error::check_frame(code, self.partition_at(from), offset as usize)
     }
 }

@@ -18,7 +18,10 @@ fn every_refusal_is_a_row_of_the_table() {
         let name = told.split('(').next().unwrap();
         let row = format!("| {} | {name} | {} | {} |", error.number(), error.cause(), error.remedy());
         assert!(rows(false).contains(&row.as_str()), "not in the table: {row}");
-        let place = error.place().map_or(String::new(), |place| format!(", at {place}"));
+        let place = match error {
+            Error::NoCard(end) => format!(", which ends at {end}"),
+            _ => error.place().map_or(String::new(), |place| format!(", at {place}")),
+        };
         assert_eq!(error.to_string(), format!("{}{place}: {}", error.cause(), error.remedy()));
         assert!(!error.to_string().contains('\n'));
     }
@@ -40,7 +43,7 @@ fn every_rule_is_a_row_of_its_table() {
 fn numbers_go_there_and_back() {
     for number in -3..30 {
         let error = Error::from_number(number);
-        assert_eq!(error.is_some(), (1..=18).contains(&number) && number != 17 || (21..=23).contains(&number) || number == 26);
+        assert_eq!(error.is_some(), (1..=18).contains(&number) && number != 17 || (21..=24).contains(&number) || number == 26);
         assert_eq!(error.map(Error::number), error.map(|_| number));
         assert_eq!(Error::try_from(number), error.ok_or(number));
     }

@@ -100,7 +100,7 @@ fn c_structs() -> BTreeSet<String> {
 fn structs_are_those_of_the_header() {
     let text = stripped(RUST).replace("pub struct ", "").replace("pub ", "").replace(", }", " }");
     let structs = c_structs();
-    assert_eq!(structs.len(), 33);
+    assert_eq!(structs.len(), 35);
     for declared in structs {
         assert!(text.contains(&declared), "not in sys.rs: {declared}");
     }
@@ -111,5 +111,5 @@ fn functions_are_those_of_the_header() {
     let (c, rust) = (c_functions(), rust_functions());
     assert_eq!(c.difference(&rust).collect::<Vec<_>>(), Vec::<&String>::new(), "in the header alone");
     assert_eq!(rust.difference(&c).collect::<Vec<_>>(), Vec::<&String>::new(), "in sys.rs alone");
-    assert_eq!(c.len(), 55);
+    assert_eq!(c.len(), 56);
 }

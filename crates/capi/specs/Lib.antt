@@ -4,3 +4,4 @@ pub mod Theorems
 pub mod Replies
 pub mod Cards
 pub mod Tallies
+pub mod Holdings

@@ -2,6 +2,7 @@
 // assembler or a replay, it lends by a pointer, as words; the header include/logbuffer.h says what each call does. Read words and replies next.
 mod cards;
 mod descriptor;
+mod holdings;
 mod images;
 mod reading;
 mod replays;

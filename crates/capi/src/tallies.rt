@@ -35,7 +35,7 @@ pub struct PartitionTallyReply {
     pub partitions: Partitions,
 }
 
-fn stop_number(stop: Stop) -> i32
+pub(crate) fn stop_number(stop: Stop) -> i32
     ensures { λ r. ⌜ r ≡ pos (stopNumber stop) ⌝ }
 {
     match stop {
@@ -49,7 +49,7 @@ fn stop_number(stop: Stop) -> i32
 }
 
 // The size of a frame being written; 0 where the walk ended otherwise.
-fn writing_size(stop: Stop) -> usize
+pub(crate) fn writing_size(stop: Stop) -> usize
     ensures { λ r. ⌜ r ≡ writingSize stop ⌝ }
 {
     match stop {
