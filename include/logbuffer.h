@@ -622,7 +622,7 @@ LOGBUFFER_ANSWER struct logbuffer_assembly_reply logbuffer_assembler_on_fragment
                                                                 const uint8_t *log, size_t log_length, uint8_t *buffer,
                                                                 size_t buffer_length, int32_t partition, int32_t offset);
 
-/* Makes it a replay from position 0. */
+/* Makes it a replay from position 0. It gives the history of a stream short of three full terms; of a longer one the first terms are written anew. */
 void logbuffer_replay_new(struct logbuffer_replay *replay, int32_t session_id);
 
 /* The next message; LOGBUFFER_NOTHING at the end, which is also before the first claim still open. Fragments are joined in the buffer, the

@@ -87,6 +87,30 @@ fn no_call_reads_what_an_older_term_left() {
     assert_eq!(poller.position(), after);
 }
 
+/// Behind the aborted claim the first term's frames lie again.
+#[test]
+fn three_terms_that_end_with_an_aborted_claim_replay_once() {
+    let mut log = log();
+    let mut written = Vec::new();
+    while log.position().unwrap() < 3 * i64::from(TERM) - 64 {
+        written.extend(log.offer(&[1; 32]).ok());
+    }
+    log.try_claim(32).unwrap().abort().unwrap();
+    assert_eq!(log.position(), Ok(3 * i64::from(TERM)));
+    assert_eq!(log.replay().count(), written.len());
+    assert_eq!(log.count().unwrap().messages, written.len());
+    for most in [7, written.len(), 10_000] {
+        let (mut replay, mut positions) = (log.replay(), Vec::new());
+        while let Some(batch) = replay.next_batch(most) {
+            let before = positions.len();
+            positions.extend(batch.unwrap().with_positions().map(|(position, _)| position));
+            assert!(positions.len() > before);
+        }
+        assert_eq!(positions, written);
+        assert_eq!(replay.position(), 3 * i64::from(TERM));
+    }
+}
+
 #[test]
 fn a_reader_that_was_overrun_is_told_and_handed_nothing() {
     let mut log = log();
