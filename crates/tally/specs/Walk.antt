@@ -13,7 +13,7 @@ use Rattle.model.specs.declared.Frame.the-variants.{Absent, Unsound, Padding, D
 use Rattle.model.specs.Bytes.{word}
 use Rattle.model.specs.DataFrameHeader.{headerAt}
 use Rattle.model.specs.FrameDescriptor.{align, lengthAt, frameAt, isUnsound}
-use Rattle.model.specs.LogBufferDescriptor.{partitionOf, reading}
+use Rattle.model.specs.LogBufferDescriptor.{idPlus, partitionOf, reading}
 use Rattle.tally.specs.declared.step.Met.{Met}
 use Rattle.tally.specs.declared.step.Stop.{Stop}
 use Rattle.tally.specs.declared.step.Stop.the-variants.{Reached, Writing, Free, OtherTerm, PastSecond, UnsoundFrame}
@@ -50,7 +50,7 @@ seen s p = frameIn (s .term) (s .log) p
 
 -- it has the id of its position's term, where ids wrap
 unfoldable pub ownId : Stream → ℕ → Bool
-ownId s p = eqb (headerAt (bytesAt s p) .id) ((s .initial + p / s .term) % 4294967296)
+ownId s p = eqb (headerAt (bytesAt s p) .id) (idPlus (s .initial) (p / s .term))
 
 -- what a frame takes of the stream; nothing where there is none to pass
 abbrev pub size : Frame → ℕ
