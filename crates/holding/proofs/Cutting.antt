@@ -101,10 +101,10 @@ module _ (s : Stream) where
   piece-grown : {b e : Bool} {f : Passed} {body : List ℕ} → Piece s b e f body → (r : Run) → grown (bytesAt s (f .at)) (f .frame) r ≡ joined b body r
   piece-grown {f = f} p r = ap (λ (x : Frame). grown (bytesAt s (f .at)) x r) (p .data-frame) ∙ ap₂ (λ (t : Bool) (c : List ℕ). joined t c r) (p .first) (p .bytes)
 
-  goes-on : {b : Bool} {f : Passed} {body : List ℕ} → Piece s b false f body → (r : Run) (rest : List Passed) → messages s r (f ∷ rest) ≡ messages s (joined b body r) rest
+  pub goes-on : {b : Bool} {f : Passed} {body : List ℕ} → Piece s b false f body → (r : Run) (rest : List Passed) → messages s r (f ∷ rest) ≡ messages s (joined b body r) rest
   goes-on {f = f} p r rest = cut-open s r f rest (p .last) ∙ ap (λ (g : Run). messages s g rest) (piece-grown p r)
 
-  closes : {b : Bool} {f : Passed} {body : List ℕ} → Piece s b true f body → (r : Run) (rest : List Passed)
+  pub closes : {b : Bool} {f : Passed} {body : List ℕ} → Piece s b true f body → (r : Run) (rest : List Passed)
       → messages s r (f ∷ rest) ≡ told (f .at + size (f .frame)) (joined b body r) (messages s idle rest)
   closes {f = f} p r rest = cut-closed s r f rest (p .last) ∙ ap (λ (g : Run). told (f .at + size (f .frame)) g (messages s idle rest)) (piece-grown p r)
 

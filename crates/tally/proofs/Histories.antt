@@ -9,21 +9,22 @@ use native.Mathlib.Omega.{arith}
 use native.Mathlib.Nat.{mod-eq-of-lt, mul-le-mul-right}
 use borrow.Author.Tests.{eq-eqb}
 use lib.ListN.{length, take, drop, length-drop}
-use lib.Seq.{length-take-le}
+use lib.Seq.{length-take-le, take-at}
 use Rattle.model.specs.declared.Claim.{Claim}
 use Rattle.model.specs.declared.LogRecord.{LogRecord}
 use Rattle.model.specs.declared.Frame.{Frame}
 use Rattle.model.specs.declared.Reading.{Reading}
-use Rattle.model.specs.Bytes.{long, zeros, le2, le4, u32}
+use Rattle.model.specs.Bytes.{long, zeros, le2, le4, le8, u32}
 use Rattle.model.specs.DataFrameHeader.{headerAt, header24}
 use Rattle.model.specs.LogBufferDescriptor.{reading, readingOf}
-use Rattle.model.specs.FrameDescriptor.{frameAt}
+use Rattle.model.specs.FrameDescriptor.{frameAt, flagsAt}
 use Rattle.model.specs.TermAppender.{Fragment, fragment, cutFrom, cut}
 use Rattle.model.specs.History.{Call, Answer, answers, left, told, Shape, shapeOf, open·, committed, aborted, Extent, message, claimed·, padding, sizeAll, messages}
 use Rattle.model.specs.History.{total as totalOf}
 use Rattle.model.specs.Demand.{opened, shape, history, Ends}
 use Rattle.model.proofs.Choice.{split}
-use Rattle.model.proofs.Cells.{Cell, cell, head, solidAt, solid, flen, fsize, enc, bytes, sizes, flen-ge, fsize-ge}
+use Rattle.model.proofs.Cells.{Cell, cell, flagsOf, head, solidAt, solid, flen, fsize, enc, bytes, sizes, flen-ge, fsize-ge}
+use Rattle.model.proofs.Cells.{bodyOf as bodyIn}
 use Rattle.model.proofs.Walking.{seen as shown, see-enc, Fits, drop-next}
 use Rattle.model.proofs.Fields.{u32-le4}
 use Rattle.model.proofs.Cut.{cut-last, cut-more}
@@ -40,10 +41,14 @@ use Rattle.tally.proofs.Steps.{met-frame, met-none, stops, goes, at-end
 
 -- ---- frames in a stream
 
+-- the flags and the body that lie at p are its own
+abbrev pub Shows : Stream → ℕ → Cell → Type 0
+Shows s p f = (flagsAt (bytesAt s p) ≡ flagsOf f) × (take (length (bodyIn f)) (drop 32 (bytesAt s p)) ≡ bodyIn f)
+
 -- from p on lie these, one after another, each with its position's id
 unfoldable pub Laid : Stream → ℕ → List Cell → Type 0
 Laid s p [] = Unit {0}
-Laid s p (f ∷ fs) = (seen s p ≡ shown f) × (ownId s p ≡ true) × Laid s (p + fsize f) fs
+Laid s p (f ∷ fs) = (seen s p ≡ shown f) × (ownId s p ≡ true) × Shows s p f × Laid s (p + fsize f) fs
 
 -- those before the first that is open
 unfoldable pub done : List Cell → List Cell
@@ -80,12 +85,12 @@ module _ (s : Stream) where
   walks (suc fuel) to p (cell committed fl re b ∷ fs) e h l =
       let f = cell committed fl re b in
       goes-on fuel to p f (l .0) (l .1) refl (omega arith)
-      ∙ ap (λ (r : List Passed). record { at = p; frame = shown f } ∷ r) (walks fuel to (p + fsize f) fs (omega arith) (omega (arith, flen-ge f, fsize-ge f)) (l .2))
+      ∙ ap (λ (r : List Passed). record { at = p; frame = shown f } ∷ r) (walks fuel to (p + fsize f) fs (omega arith) (omega (arith, flen-ge f, fsize-ge f)) (l .3))
   walks zero to p (cell aborted fl re b ∷ fs) e h l = let f = cell aborted fl re b in absurd (omega (arith, flen-ge f, fsize-ge f))
   walks (suc fuel) to p (cell aborted fl re b ∷ fs) e h l =
       let f = cell aborted fl re b in
       goes-on fuel to p f (l .0) (l .1) refl (omega arith)
-      ∙ ap (λ (r : List Passed). record { at = p; frame = shown f } ∷ r) (walks fuel to (p + fsize f) fs (omega arith) (omega (arith, flen-ge f, fsize-ge f)) (l .2))
+      ∙ ap (λ (r : List Passed). record { at = p; frame = shown f } ∷ r) (walks fuel to (p + fsize f) fs (omega arith) (omega (arith, flen-ge f, fsize-ge f)) (l .3))
 
 -- where it ends
 pub ends : (p : ℕ) (fs : List Cell) → endOf p (passed p (done fs)) ≡ p + sizes (done fs)
@@ -123,7 +128,7 @@ cut-carries (suc fuel) pay fl re m gs h k =
     (omega (arith, cut-carries fuel pay 0 re (drop pay m) gs (omega arith) k, length-take-le pay m (omega arith), d)))
 
 -- and its frames are all done
-cells-done : (x : List Fragment) (gs : List Cell) → done (cells x ++ gs) ≡ cells x ++ done gs
+pub cells-done : (x : List Fragment) (gs : List Cell) → done (cells x ++ gs) ≡ cells x ++ done gs
 unfolding done cells
 cells-done [] gs = refl
 cells-done (fragment fl re b ∷ x) gs = ap (λ (l : List Cell). cell committed fl re b ∷ l) (cells-done x gs)
@@ -159,13 +164,18 @@ module _ (c : Shape) where
   carried-is (claimed· aborted b ∷ h) k = carried-is h k
   carried-is (padding n ∷ h) k = carried-is h k
 
-  -- Where a history's frames lie from p on, a walk from there up to their end: its body bytes are those of the messages before the first claim that is still
-  -- open, and it ends at that claim, or at the second position if there is none.
+  -- Where a history's frames lie from p on, a walk from there up to their end passes those before the first claim that is still open.
+  pub walks-history : (s : Stream) (p : ℕ) (h : List Extent) → 0 < c .payload → c .payload % 32 ≡ 0 → Pads h → Laid s p (flat c h)
+      → between s p (p + sizeAll c h) ≡ passed p (done (flat c h))
+  walks-history s p h k even pads l =
+      let to = p + sizeAll c h in walks s (to - p) to p (flat c h) (ap (λ (n : ℕ). p + n) (size-all c k even h pads)) (omega arith) l
+
+  -- Of such a walk: its body bytes are those of the messages before that claim, and it ends at that claim, or at the second position if there is none.
   pub told-by-history : (s : Stream) (p : ℕ) (h : List Extent) → 0 < c .payload → c .payload % 32 ≡ 0 → Pads h → Laid s p (flat c h)
       → let fs = between s p (p + sizeAll c h) in (sumsOf fs .body ≡ totalOf (messages h)) × (endOf p fs ≡ p + sizeAll c (closed h))
   told-by-history s p h k even pads l =
       let to = p + sizeAll c h in
-      let w : between s p to ≡ passed p (done (flat c h)) = walks s (to - p) to p (flat c h) (ap (λ (n : ℕ). p + n) (size-all c k even h pads)) (omega arith) l in
+      let w : between s p to ≡ passed p (done (flat c h)) = walks-history s p h k even pads l in
       let z : sizes (done (flat c h)) ≡ sizeAll c (closed h) = ap sizes (done-is h) ∙ sym (size-all c k even (closed h) (pads-closed h pads)) in (
         ap (λ (fs : List Passed). sum bodyOf fs) w ∙ bodies p (flat c h) ∙ carried-is h k,
         ap (endOf p) w ∙ ends p (flat c h) ∙ ap (λ (n : ℕ). p + n) z,
@@ -176,7 +186,7 @@ module _ (c : Shape) where
 pub laid-front : (s : Stream) (p : ℕ) (fs gs : List Cell) → Laid s p (fs ++ gs) → Laid s p fs
 unfolding Laid
 laid-front s p [] gs l = tt
-laid-front s p (f ∷ fs) gs l = (l .0, l .1, laid-front s (p + fsize f) fs gs (l .2))
+laid-front s p (f ∷ fs) gs l = (l .0, l .1, l .2, laid-front s (p + fsize f) fs gs (l .3))
 
 pub laid-back : (s : Stream) (p : ℕ) (fs gs : List Cell) → Laid s p (fs ++ gs) → Laid s (p + sizes fs) gs
 unfolding Laid sizes
@@ -186,7 +196,7 @@ laid-back s p [] gs l = rw (plus-zero p) l
     plus-zero n = omega arith
 laid-back s p (f ∷ fs) gs l =
     let e : p + fsize f + sizes fs ≡ p + (fsize f + sizes fs) = omega arith in
-    subst (λ (q : ℕ). Laid s q gs) e (laid-back s (p + fsize f) fs gs (l .2))
+    subst (λ (q : ℕ). Laid s q gs) e (laid-back s (p + fsize f) fs gs (l .3))
 
 pub pads-front : (a b : List Extent) → Pads (a ++ b) → Pads a
 unfolding Pads
@@ -207,6 +217,18 @@ zero-mod n h = let e : 0 % n ≡ 0 = mod-eq-of-lt h in omega arith
 
 -- ---- the log that a history's calls left
 
+-- what a frame shows, whatever lies behind it
+module _ (c : Shape) (p : ℕ) (f : Cell) (rest : List ℕ) where
+  flags-of : flagsAt (enc c p f ++ rest) ≡ flagsOf f
+  unfolding enc solid solidAt head header24 le4 le2
+  flags-of = refl
+
+  body-of : take (length (bodyIn f)) (drop 32 (enc c p f ++ rest)) ≡ bodyIn f
+  unfolding enc solid solidAt head header24 le4 le2 le8
+  body-of =
+      ap (take (length (bodyIn f))) (append-assoc (bodyIn f) (zeros (fsize f - flen f)) rest)
+      ∙ take-at (bodyIn f) (zeros (fsize f - flen f) ++ rest) (length (bodyIn f)) refl
+
 -- a frame's header has the id of its position's term in the stream
 abbrev pub Ids : Stream → Shape → Type 0
 Ids s c = (p : ℕ) (f : Cell) (rest : List ℕ) → headerAt (enc c p f ++ rest) .id ≡ (s .initial + p / s .term) % 4294967296
@@ -222,16 +244,16 @@ module _ (s : Stream) (c : Shape) (z : ℕ) (some : 0 < s .term) (ids : Ids s c)
       let here : bytesAt s p ≡ enc c p f ++ rest = ap (λ (i : ℕ). drop i (s .log)) at ∙ e ∙ append-assoc (enc c p f) (bytes c (p + fsize f) fs) (zeros z) in (
         ap (λ (l : List ℕ). frameAt l (T - p % T)) here ∙ see-enc c p f rest (T - p % T) (k .0) (k .1),
         eq-eqb _ _ (ap (λ (l : List ℕ). headerAt l .id) here ∙ ids p f rest),
+        (ap flagsAt here ∙ flags-of c p f rest, ap (λ (l : List ℕ). take (length (bodyIn f)) (drop 32 l)) here ∙ body-of c p f rest),
         laid (p + fsize f) fs (drop-next c p f fs (zeros z) (s .log) e) (omega arith)
             (subst (λ (r : ℕ). Fits T r fs) (room-next T p (fsize f) some (k .1)) (k .2)),
       )
 
--- With the invariant of demand 3, between the ends of any two extents.
-pub tallied-history : (s : Stream) (v : Reading) (h : List Extent) (ks : List Claim) → Holds (shapeOf v) v (s .log) h ks → s .term ≡ v .term → Ids s (shapeOf v)
+-- With the invariant of demand 3, any part of the history lies from where it begins on.
+pub part-laid : (s : Stream) (v : Reading) (h : List Extent) (ks : List Claim) → Holds (shapeOf v) v (s .log) h ks → s .term ≡ v .term → Ids s (shapeOf v)
     → (a b d : List Extent) → h ≡ a ++ (b ++ d)
-    → let c = shapeOf v in let from = sizeAll c a in let fs = between s from (from + sizeAll c b) in
-    (sumsOf fs .body ≡ totalOf (messages b)) × (endOf from fs ≡ from + sizeAll c (closed b))
-tallied-history s v h ks i t ids a b d e =
+    → let c = shapeOf v in (0 < c .payload) × (c .payload % 32 ≡ 0) × Pads b × Laid s (sizeAll c a) (flat c b)
+part-laid s v h ks i t ids a b d e =
     let c = shapeOf v in
     let k : 0 < c .payload = omega (arith, i .fixed .mtu-low) in
     let even : c .payload % 32 ≡ 0 = omega (arith, i .fixed .mtu-low, i .fixed .mtu-32) in
@@ -242,13 +264,21 @@ tallied-history s v h ks i t ids a b d e =
     let tail = laid-back s 0 (flat c a) (flat c b ++ flat c d) (subst (Laid s 0) parts whole) in
     let at : 0 + sizes (flat c a) ≡ sizeAll c a = omega (arith, size-all c k even a (pads-front a (b ++ d) pads)) in
     let here : Laid s (sizeAll c a) (flat c b) = subst (λ (n : ℕ). Laid s n (flat c b)) at (laid-front s (0 + sizes (flat c a)) (flat c b) (flat c d) tail) in
-    told-by-history c s (sizeAll c a) b k even (pads-front b d (pads-back a (b ++ d) pads)) here
+    (k, even, pads-front b d (pads-back a (b ++ d) pads), here)
   where
     below : (h : List Extent) → Holds (shapeOf v) v (s .log) h ks → s .term ≡ v .term → sizes (flat (shapeOf v) h) ≤ 3 * s .term
     below h i t = let g = mul-le-mul-right (v .term) (i .low) in omega (arith, i .size, g, t)
 
     fits : Holds (shapeOf v) v (s .log) h ks → s .term ≡ v .term → Fits (s .term) (s .term - 0 % s .term) (flat (shapeOf v) h)
     fits i t = rw (t, zero-mod (v .term) (omega (arith, i .fixed .term-low))) (i .fits)
+
+-- With the invariant of demand 3, between the ends of any two extents.
+pub tallied-history : (s : Stream) (v : Reading) (h : List Extent) (ks : List Claim) → Holds (shapeOf v) v (s .log) h ks → s .term ≡ v .term → Ids s (shapeOf v)
+    → (a b d : List Extent) → h ≡ a ++ (b ++ d)
+    → let c = shapeOf v in let from = sizeAll c a in let fs = between s from (from + sizeAll c b) in
+    (sumsOf fs .body ≡ totalOf (messages b)) × (endOf from fs ≡ from + sizeAll c (closed b))
+tallied-history s v h ks i t ids a b d e =
+    let c = shapeOf v in let q = part-laid s v h ks i t ids a b d e in told-by-history c s (sizeAll c a) b (q .0) (q .1) (q .2) (q .3)
 
 -- a sound log's frames have the ids of its record
 pub own-ids : (r : LogRecord) (log : List ℕ) → Ids (streamOf r log) (shapeOf (reading r))
