@@ -12,8 +12,8 @@ use Rattle.model.specs.declared.Error.the-variants.{IllegalArgument, IllegalRec
 use Rattle.model.specs.declared.ReadVerdict.{ReadVerdict}
 use Rattle.model.specs.declared.ReadVerdict.the-variants.{Read, Closed, Refuse}
 use Rattle.model.specs.Bytes.{long}
-use Rattle.model.specs.LogBufferDescriptor.{sound, greatest}
-use Rattle.model.specs.Image.{Image as State, refuseIf, goodPosition, readable, reachable, unsoundAt, unsoundFrameOf, pollVerdict}
+use Rattle.model.specs.LogBufferDescriptor.{sound, greatest, goodPosition}
+use Rattle.model.specs.Image.{Image as State, refuseIf, readable, reachable, unsoundAt, unsoundFrameOf, pollVerdict}
 use Rattle.model.proofs.Both.{and-true}
 
 -- a verdict, and where it lets the call go on, what follows it

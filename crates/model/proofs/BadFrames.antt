@@ -26,12 +26,12 @@ use Rattle.model.specs.Bytes.{word, long}
 use Rattle.model.specs.Answers.{Told, refused, scannedTold, gapTold, availabilityTold, readTold, framesTold, polledTold, peekedTold, blockTold, assembledTold}
 use Rattle.model.specs.DataFrameHeader.{headerAt}
 use Rattle.model.specs.FrameDescriptor.{unsoundLength, unsoundFrame, unsoundFrameAt}
-use Rattle.model.specs.LogBufferDescriptor.{reading, sound, goodPartition, goodOffset, withinTerm, firstRows, frameRow}
+use Rattle.model.specs.LogBufferDescriptor.{reading, sound, goodPartition, goodOffset, withinTerm, firstRows, frameRow, goodPosition}
 use Rattle.model.specs.TermReader.{walk, firstUnsound, natural, goodWalk, goodHandler, goodStart, goodEntries, framesBy, framesVerdict, framesOf, readWalk, readBy, readVerdict, readOf}
 use Rattle.model.specs.TermScan.{goodMark, scanFrom, scanBy, rebuild, gapAt, gapBy, availableFrom, availabilityBy, scanVerdict, scanJudge, scanOf, gapJudge, gapOf, availabilityJudge, availabilityOf}
-use Rattle.model.specs.Image.{Image, refuseIf, goodPosition, readable, reachable, endOffset, unsoundAt, unsoundFrameOf, pollVerdict, pollOf, boundedPollOf, controlledPollOf, peekVerdict, peekOf, blockPollOf}
+use Rattle.model.specs.Image.{Image, refuseIf, readable, reachable, endOffset, unsoundAt, unsoundFrameOf, pollVerdict, pollOf, boundedPollOf, controlledPollOf, peekVerdict, peekOf, blockPollOf}
 use Rattle.model.specs.FragmentAssembler.{goodAssembly, assembleBy, assembleVerdict, assembleOf}
-use Rattle.model.specs.Replay.{ReplayState, NextReply, giving, givenBy, turnBy, pollOne, assembleOne, nextFrom, nextOf}
+use Rattle.model.specs.Replay.{ReplayState, NextReply, giving, givenBy, turnBy, pollOne, assembleOne, nextFrom, nextOf, isOver}
 use Rattle.model.specs.BadFrames.{Reads, frames, read, scan, gap, availability, poll, boundedPoll, controlledPoll, peek, blockPoll, assemble, answerNow, baseMet, placeMet, Before, passed, shut, seventeen, refusedBy, row17, rowsBefore, readableBefore, reachableBefore, unsoundMet, pollBefore, before, asVerdict, answerBy, saying, inPlaceOf17, BadFrames, ReplaysPassOn}
 use Rattle.model.proofs.Anchors as Anchors
 use Rattle.model.proofs.Choice.{le-yes}
@@ -159,23 +159,27 @@ module _ (r : LogRecord) (log : List ℕ) (e : Error) where
   met-in s t base go ih (Message at n) q h = absurd (let z : _≡_ {A = ℕ} 0 1 = cc in omega arith)
   met-in s t base go ih (AssemblyRefused x) q h = let y : x ≡ e = cc in (s, inr (q ∙ ap AssemblyRefused y))
 
-  met-turn : (a b c : Bool) (s t u : ReplayState) (base : ℕ) (go : ReplayState → NextReply) → ((u : ReplayState) → go u .answer ≡ ReplayRefused e → Met)
-      → cond a (giving s End) (cond b (cond c (giving s End) (go t)) (givenBy base s u (assembleOne r log s .answer) go)) .answer ≡ ReplayRefused e → Met
-  met-turn true b c s t u base go ih h = absurd (let z : _≡_ {A = ℕ} 0 1 = cc in omega arith)
-  met-turn false true true s t u base go ih h = absurd (let z : _≡_ {A = ℕ} 0 1 = cc in omega arith)
-  met-turn false true false s t u base go ih h = ih t h
-  met-turn false false c s t u base go ih h = met-in s u base go ih (assembleOne r log s .answer) refl h
+  met-turn : (b c : Bool) (s t u : ReplayState) (base : ℕ) (go : ReplayState → NextReply) → ((u : ReplayState) → go u .answer ≡ ReplayRefused e → Met)
+      → cond b (cond c (giving s End) (go t)) (givenBy base s u (assembleOne r log s .answer) go) .answer ≡ ReplayRefused e → Met
+  met-turn true true s t u base go ih h = absurd (let z : _≡_ {A = ℕ} 0 1 = cc in omega arith)
+  met-turn true false s t u base go ih h = ih t h
+  met-turn false c s t u base go ih h = met-in s u base go ih (assembleOne r log s .answer) refl h
 
   met-poll : (s : ReplayState) (go : ReplayState → NextReply) → ((u : ReplayState) → go u .answer ≡ ReplayRefused e → Met) → (x : Polled) → pollOne r log (s .image) .answer ≡ x
       → turnBy r log s x go .answer ≡ ReplayRefused e → Met
   met-poll s go ih (PollRefused x) q h = let y : x ≡ e = cc in (s, inl (q ∙ ap PollRefused y))
   met-poll s go ih (Fragments n m) q h =
-      met-turn (leb (3 * reading r .term) (long (s .image .position))) (eqb m 0) (eqb (long (pollOne r log (s .image) .next .position)) (long (s .image .position))) s _ _ _ go ih h
+      met-turn (eqb m 0) (eqb (long (pollOne r log (s .image) .next .position)) (long (s .image .position))) s _ _ _ go ih h
+
+  met-over : (b : Bool) (s : ReplayState) (y : NextReply) → (y .answer ≡ ReplayRefused e → Met) → cond b (giving s End) y .answer ≡ ReplayRefused e → Met
+  met-over true s y f h = absurd (let z : _≡_ {A = ℕ} 0 1 = cc in omega arith)
+  met-over false s y f h = f h
 
   met : (fuel : ℕ) (s : ReplayState) → nextFrom fuel r log s .answer ≡ ReplayRefused e → Met
   unfolding nextFrom
   met zero s h = absurd (let z : _≡_ {A = ℕ} 0 1 = cc in omega arith)
-  met (suc fuel) s h = met-poll s (λ t. nextFrom fuel r log t) (λ u k. met fuel u k) (pollOne r log (s .image) .answer) refl h
+  met (suc fuel) s h =
+      met-over (isOver r log (s .image .position)) s _ (λ k. met-poll s (λ t. nextFrom fuel r log t) (λ u k. met fuel u k) (pollOne r log (s .image) .answer) refl k) h
 
 pub replays-pass-on : ReplaysPassOn
 unfolding ReplaysPassOn nextOf

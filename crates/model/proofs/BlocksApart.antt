@@ -20,12 +20,12 @@ use Rattle.model.specs.declared.Offered.{Offered}
 use Rattle.model.specs.declared.Offered.the-variants.{Position as OfferPosition, Refused as OfferRefused}
 use Rattle.model.specs.declared.Claimed.{Claimed}
 use Rattle.model.specs.declared.Claimed.the-variants.{Position as ClaimPosition, Refused as ClaimRefused}
-use Rattle.model.specs.Bytes.{word}
+use Rattle.model.specs.Bytes.{word, long}
 use Rattle.model.specs.FrameDescriptor.{space}
-use Rattle.model.specs.LogBufferDescriptor.{readingOf, reading, active, payloadLimit, greatest, lastTerm, changed, withTail, withCount, withLimit, withClosed, nextTail, rotated, idOf, idPlus, tailOf, soundRecord}
+use Rattle.model.specs.LogBufferDescriptor.{readingOf, reading, active, payloadLimit, greatest, lastTerm, changed, withTail, withCount, withLimit, withClosed, nextTail, rotated, idOf, idPlus, tailOf, soundRecord, isReady, withMark, withSlowest, noted}
 use Rattle.model.specs.TermAppender.{need, claimRecord}
-use Rattle.model.specs.Publication.{changeOf, place, fits, onTrip, tripError, tripNext, appendNext, needOf, offerVerdict, offeredBy, nextBy, offerOf, claimVerdict, claimedBy, claimOf, openOf}
-use Rattle.model.specs.History.{Call, offer, claim, fill, commit, abort, setLimit, close, Answer, offered, claimed, outcome, World, step, answers}
+use Rattle.model.specs.Publication.{changeOf, place, fits, onTrip, tripError, tripNext, appendNext, needOf, offerVerdict, offeredBy, nextBy, offerOf, claimVerdict, claimedBy, claimOf, openOf, replyBy, clearVerdict, clearOf, raiseVerdict, raiseOf}
+use Rattle.model.specs.History.{Call, offer, claim, fill, commit, abort, setLimit, close, Answer, offered, claimed, outcome, World, step, answers, clear, raise}
 use Rattle.model.specs.Demand.{opened, shape}
 use Rattle.model.specs.BlocksApart.{takes, Takes, ApartBy, Apart, blockAt, FreeBy, Free, BlocksApart}
 use Rattle.model.proofs.Choice.{cond-case}
@@ -33,7 +33,7 @@ use Rattle.model.proofs.Cut.{need-some, need-32, times-32}
 use Rattle.model.proofs.Sound.{term-32}
 use Rattle.model.proofs.Tails.{Tails, reached}
 use Rattle.model.proofs.Rising.{Lets, Through, lets-through, offer-lets, claim-lets, fits-up, step-up}
-use Rattle.model.proofs.Demand as Demand
+use Rattle.model.proofs.Season as Season
 
 -- ---- what an accepted call takes
 
@@ -46,8 +46,8 @@ TookClaimed size low high (ClaimPosition p k) = (p ≡ pos high) × Takes size l
 TookClaimed size low high (ClaimRefused e) = Unit {0}
 
 abbrev Took : ℕ → ℕ → ℕ → Answer → Type 0
-Took size low high (offered a) = TookOffered size low high a
-Took size low high (claimed a) = TookClaimed size low high a
+Took size low high (offered t a) = TookOffered size low high a
+Took size low high (claimed t a) = TookClaimed size low high a
 Took size low high (outcome a) = Unit {0}
 
 module _ (r : LogRecord) (n needed : ℕ) (h : Tails r) (t : Through (reading r) n needed) (some : 32 ≤ needed) (even : needed % 32 ≡ 0)
@@ -72,14 +72,14 @@ module _ (r : LogRecord) (log : List ℕ) (h : Tails r) where
   v· = reading r
 
   offer-took : (m : ℕ) (x : Verdict) → Lets v· (length log) (needOf v· m) x
-      → TookOffered (needOf v· m) (reached v·) (reached (reading (nextBy r v· (needOf v· m) x))) (offeredBy v· (needOf v· m) x)
+      → TookOffered (needOf v· m) (reached v·) (reached (reading (nextBy r v· (needOf v· m) x))) (offeredBy r v· (needOf v· m) x)
   unfolding appendNext
   offer-took m Pass l = go (fits v· (needOf v· m)) refl (lets-through v· (length log) (needOf v· m) l)
     where
       go : (b : Bool) → fits v· (needOf v· m) ≡ b → Through v· (length log) (needOf v· m)
           → TookOffered (needOf v· m) (reached v·)
-          (reached (reading (cond b (withTail r (active r) (v· .id) (v· .offset + needOf v· m)) (tripNext (withTail r (active r) (v· .id) (v· .offset + needOf v· m)) v·))))
-          (cond b (OfferPosition (pos (place v· + needOf v· m))) (OfferRefused (tripError v·)))
+          (reached (reading (cond b (withTail r (active r) (v· .id) (v· .offset + needOf v· m)) (tripNext (withTail r (active r) (v· .id) (v· .offset + needOf v· m)) v· (isReady r)))))
+          (cond b (OfferPosition (pos (place v· + needOf v· m))) (OfferRefused (tripError v· (isReady r))))
       go true f t =
           let u = fitted r (length log) (needOf v· m) h t (need-some (payloadLimit v·) m) (need-32 (payloadLimit v·) m) (leb-true _ _ f) in
           (ap pos (u .0), u .1)
@@ -93,8 +93,8 @@ module _ (r : LogRecord) (log : List ℕ) (h : Tails r) where
     where
       go : (b : Bool) → fits v· (space m) ≡ b → Through v· (length log) (space m)
           → TookClaimed (space m) (reached v·)
-          (reached (reading (cond b (withTail r (active r) (v· .id) (v· .offset + space m)) (tripNext (withTail r (active r) (v· .id) (v· .offset + space m)) v·))))
-          (cond b (ClaimPosition (pos (place v· + space m)) (claimRecord v· (active r) m)) (ClaimRefused (tripError v·)))
+          (reached (reading (cond b (withTail r (active r) (v· .id) (v· .offset + space m)) (tripNext (withTail r (active r) (v· .id) (v· .offset + space m)) v· (isReady r)))))
+          (cond b (ClaimPosition (pos (place v· + space m)) (claimRecord v· (active r) m)) (ClaimRefused (tripError v· (isReady r))))
       go true f t = let u = fitted r (length log) (space m) h t (omega arith) (omega arith) (leb-true _ _ f) in (ap pos (u .0), u .1)
       go false f t = tt
   claim-took m (Refuse e) l = tt
@@ -108,6 +108,8 @@ module _ (r : LogRecord) (log : List ℕ) (h : Tails r) where
   step-took (abort k) = tt
   step-took (setLimit n) = tt
   step-took close = tt
+  step-took (clear k) = tt
+  step-took (raise p) = tt
 
 -- ---- no call changes the mtu, so the payload limit is that of the opening
 
@@ -120,7 +122,7 @@ module _ (r : LogRecord) where
   tail-same k id o = refl
 
   turned-same : (x : LogRecord) (count id : ℕ) → Same r x → Same r (rotated x count id)
-  unfolding rotated nextTail withTail withCount changed
+  unfolding rotated nextTail withTail withMark noted withCount changed
   turned-same x count id e =
       cond-case (Same r) (eqb (idPlus (idOf (tailOf x ((count + 1) % 3))) 2) id) (withTail x ((count + 1) % 3) (idPlus id 1) 0) x (λ q. e) (λ q. e)
 
@@ -131,7 +133,8 @@ module _ (r : LogRecord) where
       let m = tail-same (active r) (v .id) (v .offset + needed) in
       cond-case (Same r) (fits v needed) moved _ (λ q. m)
       (λ q. cond-case (Same r) (ltb (greatest v) (place v + v .offset)) moved _ (λ q. m)
-      (λ q. cond-case (Same r) (lastTerm (v .count)) moved _ (λ q. m) (λ q. turned-same moved (v .count) (v .id) m)))
+      (λ q. cond-case (Same r) (lastTerm (v .count)) moved _ (λ q. m)
+      (λ q. cond-case (Same r) (isReady r) _ moved (λ q. turned-same moved (v .count) (v .id) m) (λ q. m))))
 
   next-same : (v : Reading) (needed : ℕ) (x : Verdict) → Same r (nextBy r v needed x)
   next-same v needed Pass = append-same v needed
@@ -145,8 +148,12 @@ module _ (r : LogRecord) where
       go true = e
       go false = refl
 
+reply-same : (r next : LogRecord) (x : Verdict) → Same r next → Same r (replyBy r next x .next)
+reply-same r next Pass e = e
+reply-same r next (Refuse y) e = refl
+
 step-same : (w : World) (y : Call) → Same (w .record·) (step w y .next .record·)
-unfolding step offerOf claimOf withLimit withClosed changed
+unfolding step offerOf claimOf clearOf raiseOf withLimit withClosed changed withMark withSlowest noted
 step-same w (offer m re) = let v = reading (w .record·) in next-same (w .record·) v (needOf v (length m)) (offerVerdict v (length (w .log)) (length m))
 step-same w (claim n) = let v = reading (w .record·) in next-same (w .record·) v (space (word n)) (claimVerdict v (length (w .log)) (word n))
 step-same w (fill k b) = refl
@@ -154,6 +161,8 @@ step-same w (commit k) = refl
 step-same w (abort k) = refl
 step-same w (setLimit n) = change-same (w .record·) (withLimit (w .record·) n) refl
 step-same w close = change-same (w .record·) (withClosed (w .record·)) refl
+step-same w (clear k) = reply-same (w .record·) (withMark (w .record·) (word k) true) (clearVerdict (reading (w .record·)) (length (w .log)) (word k)) refl
+step-same w (raise p) = reply-same (w .record·) (withSlowest (w .record·) p) (raiseVerdict (reading (w .record·)) (long p)) refl
 
 payload-is : (r : LogRecord) → payloadLimit (reading r) ≡ word (r .«mtu_length») - 32
 unfolding readingOf
@@ -165,10 +174,10 @@ payload-same w y = payload-is (step w y .next .record·) ∙ ap (λ (z : ℤ). w
 -- ---- a list of calls
 
 lowered : (size low low′ : ℕ) (a : Answer) (P : ℕ → Type 0) → low′ ≤ low → (P low → P low′) → ApartBy size low a P → ApartBy size low′ a P
-lowered size low low′ (offered (OfferPosition p)) P l f q = (q .0, q .1, (q .2 .0, q .2 .1, q .2 .2, omega (arith, q .2 .3)), q .3)
-lowered size low low′ (offered (OfferRefused e)) P l f q = f q
-lowered size low low′ (claimed (ClaimPosition p k)) P l f q = (q .0, q .1, (q .2 .0, q .2 .1, q .2 .2, omega (arith, q .2 .3)), q .3)
-lowered size low low′ (claimed (ClaimRefused e)) P l f q = f q
+lowered size low low′ (offered b (OfferPosition p)) P l f q = (q .0, q .1, (q .2 .0, q .2 .1, q .2 .2, omega (arith, q .2 .3)), q .3)
+lowered size low low′ (offered b (OfferRefused e)) P l f q = f q
+lowered size low low′ (claimed b (ClaimPosition p k)) P l f q = (q .0, q .1, (q .2 .0, q .2 .1, q .2 .2, omega (arith, q .2 .3)), q .3)
+lowered size low low′ (claimed b (ClaimRefused e)) P l f q = f q
 lowered size low low′ (outcome a) P l f q = f q
 
 apart-from : (payload low low′ : ℕ) (ts : List (Call × Answer)) → low′ ≤ low → Apart payload low ts → Apart payload low′ ts
@@ -177,10 +186,10 @@ apart-from payload low low′ [] l r = tt
 apart-from payload low low′ (t ∷ ts) l r = lowered (takes payload (t .0)) low low′ (t .1) (λ (n : ℕ). Apart payload n ts) l (λ q. apart-from payload low low′ ts l q) r
 
 apart-by : (payload size low high : ℕ) (a : Answer) (ts : List (Call × Answer)) → low ≤ high → Took size low high a → Apart payload high ts → ApartBy size low a (λ n. Apart payload n ts)
-apart-by payload size low high (offered (OfferPosition p)) ts l q r = (high, q .0, q .1, r)
-apart-by payload size low high (offered (OfferRefused e)) ts l q r = apart-from payload high low ts l r
-apart-by payload size low high (claimed (ClaimPosition p k)) ts l q r = (high, q .0, q .1, r)
-apart-by payload size low high (claimed (ClaimRefused e)) ts l q r = apart-from payload high low ts l r
+apart-by payload size low high (offered b (OfferPosition p)) ts l q r = (high, q .0, q .1, r)
+apart-by payload size low high (offered b (OfferRefused e)) ts l q r = apart-from payload high low ts l r
+apart-by payload size low high (claimed b (ClaimPosition p k)) ts l q r = (high, q .0, q .1, r)
+apart-by payload size low high (claimed b (ClaimRefused e)) ts l q r = apart-from payload high low ts l r
 apart-by payload size low high (outcome a) ts l q r = apart-from payload high low ts l r
 
 runs-apart : (payload : ℕ) (w : World) (calls : List Call) → Tails (w .record·) → payloadLimit (reading (w .record·)) ≡ payload → Apart payload (reached (reading (w .record·))) (answers w calls)
@@ -219,18 +228,18 @@ blocks-free payload each low (t ∷ ts) e q = go (λ n k r. blocks-free payload 
     )
 
     go : Again payload each ts → (a : Answer) → ApartBy (takes payload (t .0)) low a (λ n. Apart payload n ts) → FreeBy each (low / 32 * each) a (λ n. Free each n ts)
-    go again (offered (OfferPosition p)) q = let o = on again (q .0) (takes payload (t .0)) (q .2) (q .3) in (q .0, q .1, o .0, o .1)
-    go again (offered (OfferRefused x)) q = again low e q
-    go again (claimed (ClaimPosition p k)) q = let o = on again (q .0) (takes payload (t .0)) (q .2) (q .3) in (q .0, q .1, o .0, o .1)
-    go again (claimed (ClaimRefused x)) q = again low e q
+    go again (offered b (OfferPosition p)) q = let o = on again (q .0) (takes payload (t .0)) (q .2) (q .3) in (q .0, q .1, o .0, o .1)
+    go again (offered b (OfferRefused x)) q = again low e q
+    go again (claimed b (ClaimPosition p k)) q = let o = on again (q .0) (takes payload (t .0)) (q .2) (q .3) in (q .0, q .1, o .0, o .1)
+    go again (claimed b (ClaimRefused x)) q = again low e q
     go again (outcome x) q = again low e q
 
 pub blocks-apart : BlocksApart
 unfolding BlocksApart
 blocks-apart log term mtu initial session stream fresh calls =
     let w = opened log term mtu initial session stream in
-    let t = Demand.tails-open log term mtu initial session stream fresh in
-    let a = subst (λ (n : ℕ). Apart (shape w .payload) n (answers w calls)) (Demand.reached-open log term mtu initial session stream fresh) (runs-apart (shape w .payload) w calls t refl) in
+    let t = Season.tails-open log term mtu initial session stream fresh in
+    let a = subst (λ (n : ℕ). Apart (shape w .payload) n (answers w calls)) (Season.reached-open log term mtu initial session stream fresh) (runs-apart (shape w .payload) w calls t refl) in
     (a, λ each. subst (λ (n : ℕ). Free each n (answers w calls)) (none each) (blocks-free (shape w .payload) each 0 (answers w calls) refl a))
   where
     none : (each : ℕ) → 0 / 32 * each ≡ 0

@@ -1,11 +1,11 @@
 -- Every call keeps the invariant: offers and claims, accepted, refused and tripped.
 use mathlib.Core.Path.{_≡_, refl, sym, ap, ap₂, _∙_, subst}
 use mathlib.Core.Bool.{Bool, true, false, cond, not, _&&_}
-use Prim.Native.Nat.{ℕ, _+_, _*_, _%_, _≤_, _<_, min}
-use native.Mathlib.Nat.{mod-eq-of-lt, mul-le-mul-right}
+use Prim.Native.Nat.{ℕ, _+_, _-_, _*_, _%_, _≤_, _<_, min}
+use native.Mathlib.Nat.{mul-le-mul-right}
 use mathlib.Core.List.{List, [], _∷_, _++_}
 use native.Mathlib.Omega.{arith}
-use borrow.Author.Tests.{lt-ltb, ltb-true, ltb-false, leb-true, leb-false, eq-eqb, not-true}
+use borrow.Author.Tests.{lt-ltb, ltb-false, leb-true, leb-false}
 use lib.Dec.{leb, ltb, eqb}
 use lib.ListN.{length}
 use lib.IntN.{ℤ, pos}
@@ -13,57 +13,73 @@ use Rattle.model.specs.declared.LogRecord.{LogRecord}
 use Rattle.model.specs.declared.Claim.{Claim}
 use Rattle.model.specs.declared.Reading.{Reading}
 use Rattle.model.specs.declared.Error.{Error}
-use Rattle.model.specs.declared.Error.the-variants.{IllegalArgument, IllegalRecord, ExceedsMaxPayloadLength, PublicationClosed, AdminAction, MaxPositionExceeded, BackPressured, NotConnected, ExceedsMaxMessageLength, TailOverflow, LastTerm}
+use Rattle.model.specs.declared.Error.the-variants.{IllegalArgument, IllegalRecord, PositionOutOfRange, ExceedsMaxPayloadLength, PublicationClosed, AdminAction, MaxPositionExceeded, BackPressured, NotConnected, ExceedsMaxMessageLength, TailOverflow, LastTerm, ActionPossiblyDelayed, ClaimMismatch, NewPositionOutOfRange, NewPositionNotAligned, AssemblyFull, NotCleared, NotDue, FrameTooShort, FramePastTerm}
 use Rattle.model.specs.declared.Verdict.{Verdict}
 use Rattle.model.specs.declared.Verdict.the-variants.{Pass, Refuse}
 use Rattle.model.specs.declared.Offered.the-variants.{Position as OfferPosition, Refused as OfferRefused}
 use Rattle.model.specs.declared.Claimed.the-variants.{Position as ClaimPosition, Refused as ClaimRefused}
 use Rattle.model.specs.Bytes.{word, long, zeros}
-use Rattle.model.specs.FrameDescriptor.{space}
-use Rattle.model.specs.LogBufferDescriptor.{idPlus, idMinus, reading, readingOf, active, payloadLimit, messageLimit, greatest, sound, lastTerm, withTail, rotated}
-use Rattle.model.specs.TermAppender.{written, cut, padded, claimed, claimRecord}
+use Rattle.model.specs.FrameDescriptor.{space, negated}
+use Rattle.model.specs.LogBufferDescriptor.{idPlus, idMinus, reading, active, payloadLimit, messageLimit, greatest, sound, Sound, lastTerm, withTail, isReady, rotated}
+use Rattle.model.specs.TermAppender.{Fragment, sizes, written, cut, padded, claimed, claimRecord, header}
 use Rattle.model.specs.Publication.{place, pressed, afterClosed, tailRoom, fits, onTrip, tripError, tripNext, appendNext, tooLong, needOf, beforeAppend, offerVerdict, offeredBy, nextBy, logBy, offerOf, offerBytes, claimVerdict, claimedBy, claimOf, claimBytes}
-use Rattle.model.specs.History.{Call, offer, claim, Answer, offered, World, Step, step, Shape, shapeOf, Extent, message, claimed·, open·, sizeAll, isTrip, padTo, afterRefusal, tell, learn}
+use Rattle.model.specs.History.{Call, offer, claim, Answer, offered, World, Step, step, Shape, shapeOf, Extent, message, claimed·, open·, sizeAll, padTo, afterRefusal, tell, learn, Terms, turnedBy, tellTerms}
 use Rattle.model.specs.History as History
 use Rattle.model.specs.Demand.{EndAt}
-use Rattle.model.specs.Corollaries.{rare, Usual}
-use Rattle.model.proofs.Choice.{cond-case, cond-false, split}
-use Rattle.model.proofs.Sound.{id-small}
+use Rattle.model.proofs.Choice.{cond-case, split}
+use Rattle.model.proofs.Sound.{id-small, term-32}
 use Rattle.model.proofs.Cut.{need-one, need-small}
+use Rattle.model.proofs.RuleLaws.{tripsBy, offer-trips, claim-trips}
+use Rattle.model.proofs.Splice.{length-splice}
 use Rattle.model.proofs.Cells.{sizes-32}
 use Rattle.model.proofs.OneSession.{cells}
-use Rattle.model.proofs.Around.{message-size}
+use Rattle.model.proofs.Around.{message-size, sizes-cells}
 use Rattle.model.proofs.Tails.{with-tail, Tails, moved-reading, moved-tails, reached}
-use Rattle.model.proofs.Rising.{clash, Through, read-over, over-tails}
-use Rattle.model.proofs.Keeping.{Holds, Inv, is-sound, sound-is, own-count, offer-holds, offer-ends, claim-holds, claim-ends, trip-holds}
+use Rattle.model.proofs.Rising.{clash, Through, read-moved, read-over, over-tails, same-over, count-low}
+use Rattle.model.proofs.Window.{Window, laid, laid-all, written-long}
+use Rattle.model.proofs.Keeping.{Holds, long-log, is-sound, offer-holds, offer-ends, claim-holds, claim-ends, trip-holds}
+use Rattle.model.proofs.Kept.{Marks, Inv, inside, header-24, pad-window, pad-long, active-is, ready-low, moved-kept, over-kept}
 
-abbrev pub Keeps : Shape → List Extent → List Claim → Call → Step → Type 0
-Keeps c h ks y s =
-    reached (reading (s .next .record·)) < 3 * c .term
-    → Inv c (s .next) (tell c h y (s .answer)) (learn ks (s .answer)) × EndAt (sizeAll c (tell c h y (s .answer))) (s .answer) × Usual y (s .answer)
+abbrev pub Keeps : Shape → List Extent → List Claim → Terms → Call → Step → Type 0
+Keeps c h ks s y x =
+    Inv c (x .next) (tell c h y (x .answer)) (learn ks (x .answer)) (tellTerms s y (x .answer)) × EndAt (sizeAll c (tell c h y (x .answer))) (x .answer)
 
--- a refusal that leaves the history as it is, and that may come
-abbrev pub Mild : Error → Type 0
-Mild e = (isTrip e ≡ false) × (rare e ≡ false)
+below-all : (k T : ℕ) → k < 2147483648 → k * T + T ≤ 2147483648 * T
+below-all k T h = omega (arith, mul-le-mul-right T h)
 
-three-below : (k T : ℕ) → k * T < 3 * T → k < 3
-three-below k T h = split 3 k (λ l. absurd (omega (arith, mul-le-mul-right T l))) (λ l. l)
+-- no refusal without a trip begins a term
+pub unturned : (s : Terms) (e : Error) → turnedBy s false e ≡ s
+unturned s IllegalArgument = refl
+unturned s IllegalRecord = refl
+unturned s PositionOutOfRange = refl
+unturned s ExceedsMaxPayloadLength = refl
+unturned s PublicationClosed = refl
+unturned s AdminAction = refl
+unturned s MaxPositionExceeded = refl
+unturned s BackPressured = refl
+unturned s NotConnected = refl
+unturned s ExceedsMaxMessageLength = refl
+unturned s TailOverflow = refl
+unturned s LastTerm = refl
+unturned s ActionPossiblyDelayed = refl
+unturned s ClaimMismatch = refl
+unturned s NewPositionOutOfRange = refl
+unturned s NewPositionNotAligned = refl
+unturned s (FrameTooShort at) = refl
+unturned s (FramePastTerm at) = refl
+unturned s AssemblyFull = refl
+unturned s NotCleared = refl
+unturned s NotDue = refl
 
-times-three : (k T : ℕ) → k < 3 → k * T + T ≤ 3 * T
-times-three k T h = omega (arith, mul-le-mul-right T h)
+-- how a kind of call says that it is refused, after a trip or not
+record Refusing (c : Shape) (h : List Extent) (ks : List Claim) (s : Terms) (y : Call) (no : Bool → Error → Answer) : Type 0 where
+  tells : (b : Bool) (e : Error) → tell c h y (no b e) ≡ afterRefusal c h b
+  learns : (b : Bool) (e : Error) → learn ks (no b e) ≡ ks
+  turns : (b : Bool) (e : Error) → tellTerms s y (no b e) ≡ turnedBy s b e
+  ends : (n : ℕ) (b : Bool) (e : Error) → EndAt n (no b e)
 
-active-is : (r : LogRecord) → reading r .count < 3 → active r ≡ reading r .count
-unfolding readingOf
-active-is r l = mod-eq-of-lt l
-
--- how a kind of call says that it is refused
-record Refusing (c : Shape) (h : List Extent) (ks : List Claim) (y : Call) (no : Error → Answer) : Type 0 where
-  tells : (e : Error) → tell c h y (no e) ≡ afterRefusal c h e
-  learns : (e : Error) → learn ks (no e) ≡ ks
-  ends : (n : ℕ) (e : Error) → EndAt n (no e)
-  usual : (e : Error) → rare e ≡ false → Usual y (no e)
-
-module _ (r : LogRecord) (log : List ℕ) (h : List Extent) (ks : List Claim) (t : Tails r) (i : Holds (shapeOf (reading r)) (reading r) log h ks) where
+module _ (r : LogRecord) (log : List ℕ) (h : List Extent) (ks : List Claim) (s : Terms) (t : Tails r) (long· : length log ≡ 3 * reading r .term) (all : List ℕ)
+    (i : Holds (shapeOf (reading r)) (reading r) all h ks) (win : Window (reading r .term) log all (s .cleared)) (marks : Marks r s) where
   abbrev v : Reading
   v = reading r
 
@@ -76,107 +92,137 @@ module _ (r : LogRecord) (log : List ℕ) (h : List Extent) (ks : List Claim) (t
   abbrev w : World
   w = record { record· = r; log = log }
 
-  base-is : active r * T ≡ v .count * T
-  base-is = ap (λ (n : ℕ). n * T) (active-is r (i .low))
+  even : T % 32 ≡ 0
+  even = term-32 v (3 * T) (is-sound v all h ks i (3 * T) refl)
+
+  sound· : Sound v (length log)
+  sound· = is-sound v all h ks i (length log) long·
+
+  base-is : v .count % 3 * T ≡ active r * T
+  base-is = ap (λ (n : ℕ). n * T) (sym (active-is r))
+
+  -- the active term is in the window, its partition in the log
+  low : s .cleared ≤ v .count
+  low = omega (arith, marks .low, marks .turns)
+
+  high : v .count ≤ s .cleared + 2
+  high = omega (arith, marks .high, marks .turns)
+
+  in-log : v .count % 3 * T + T ≤ length log
+  in-log = inside T (v .count % 3) (length log) long· (omega arith)
+
+  in-all : v .count * T + T ≤ length all
+  in-all = omega (arith, long-log v all h ks i, below-all (v .count) T (i .low))
 
   -- ---- refused before the tail moves
 
-  module _ (y : Call) (no : Error → Answer) (f : Refusing c h ks y no) where
-    mild-keeps : (e : Error) → Mild e → Keeps c h ks y (record { answer = no e; next = w })
-    unfolding afterRefusal
-    mild-keeps e m p =
-        let same : tell c h y (no e) ≡ h = f .tells e ∙ cond-false (isTrip e) (padTo c h) h (m .0) in
-        (subst (λ (g : List Extent). Inv c w g (learn ks (no e))) (sym same) (subst (Inv c w h) (sym (f .learns e)) (record { tails = t; holds = i })), f .ends _ e, f .usual e (m .1))
+  module _ (y : Call) (no : Bool → Error → Answer) (f : Refusing c h ks s y no) where
+    none-keeps : (e : Error) → Keeps c h ks s y (record { answer = no false e; next = w })
+    none-keeps e = (
+      subst (λ (g : List Extent). Inv c w g (learn ks (no false e)) (tellTerms s y (no false e))) (sym (f .tells false e))
+          (subst (λ (l : List Claim). Inv c w h l (tellTerms s y (no false e))) (sym (f .learns false e))
+          (subst (Inv c w h ks) (sym (f .turns false e ∙ unturned s e)) (record { tails = t; long = long·; all = all; holds = i; window = win; marks = marks }))),
+      f .ends _ false e,
+    )
 
     -- ---- a trip
 
-    trip-keeps : (e : Error) (next : LogRecord) → isTrip e ≡ true → rare e ≡ false → Tails next → Holds c (reading next) (padded v log (v .count * T)) (padTo c h) ks
-        → Keeps c h ks y (record { answer = no e; next = record { record· = next; log = padded v log (active r * T) } })
-    unfolding afterRefusal
-    trip-keeps e next a b u k p =
-        let same : tell c h y (no e) ≡ padTo c h = f .tells e ∙ ap (λ (x : Bool). cond x (padTo c h) h) a in (
-          subst (λ (g : List Extent). Inv c (record { record· = next; log = padded v log (active r * T) }) g (learn ks (no e))) (sym same)
-              (subst (Inv c (record { record· = next; log = padded v log (active r * T) }) (padTo c h)) (sym (f .learns e))
-              (record { tails = u; holds = subst (λ (n : ℕ). Holds c (reading next) (padded v log n) (padTo c h) ks) (sym base-is) k })),
-          f .ends _ e,
-          f .usual e b,
-        )
+    trip-keeps : (e : Error) (next : LogRecord) (s′ : Terms) → turnedBy s true e ≡ s′ → s′ .cleared ≡ s .cleared → Tails next → Marks next s′
+        → Holds c (reading next) (padded v all (v .count * T)) (padTo c h) ks
+        → Keeps c h ks s y (record { answer = no true e; next = record { record· = next; log = padded v log (active r * T) } })
+    trip-keeps e next s′ q z u k g = (
+      subst (λ (x : List Extent). Inv c n′ x (learn ks (no true e)) (tellTerms s y (no true e))) (sym (f .tells true e))
+          (subst (λ (l : List Claim). Inv c n′ (padTo c h) l (tellTerms s y (no true e))) (sym (f .learns true e))
+          (subst (Inv c n′ (padTo c h) ks) (sym (f .turns true e ∙ q))
+          (record {
+            tails = u;
+            long = subst (λ (b : ℕ). length (padded v log b) ≡ 3 * T) base-is (pad-long v log all (s .cleared) (v .count) low high even (i .whole) in-log in-all ∙ long·);
+            all = padded v all (v .count * T);
+            holds = g;
+            window = subst (λ (b : ℕ). Window T (padded v log b) (padded v all (v .count * T)) (s′ .cleared)) base-is
+                (subst (Window T (padded v log (v .count % 3 * T)) (padded v all (v .count * T))) (sym z) (pad-window v log all (s .cleared) (v .count) low high even (i .whole) in-log in-all win));
+            marks = k;
+          }))),
+      f .ends _ true e,
+    )
+      where
+        n′ : World
+        n′ = record { record· = next; log = padded v log (active r * T) }
 
     module _ (needed : ℕ) (on : needed % 32 ≡ 0) (le : needed ≤ T) (past : T < v .offset + needed) (room : v .offset + needed ≤ 2147483647) where
       th : Through v (length log) needed
-      th = record { is-sound = is-sound v log h ks i; room = room }
+      th = record { is-sound = sound·; room = room }
 
       abbrev moved : LogRecord
       moved = withTail r (active r) (v .id) (v .offset + needed)
 
-      moved-holds : Holds c (reading moved) (padded v log (v .count * T)) (padTo c h) ks
+      tails′ : Tails moved
+      tails′ = moved-tails r t (v .offset + needed) (omega arith)
+
+      marks′ : Marks moved s
+      marks′ = moved-kept r s marks t (v .offset + needed) (omega arith)
+
+      moved-holds : Holds c (reading moved) (padded v all (v .count * T)) (padTo c h) ks
       moved-holds =
-          subst (λ (x : Reading). Holds c x (padded v log (v .count * T)) (padTo c h) ks) (sym (moved-reading r t (v .offset + needed) (omega arith)))
-          (trip-holds v log h ks i (omega arith) (v .count) (v .id) (v .offset + needed) (i .here) (i .low) (omega arith) (omega (arith, i .whole)) room)
+          subst (λ (x : Reading). Holds c x (padded v all (v .count * T)) (padTo c h) ks) (sym (moved-reading r t (v .offset + needed) (omega arith)))
+          (trip-holds v all h ks i (omega arith) (v .count) (v .id) (v .offset + needed) (i .here) (i .low) (omega arith) (omega (arith, i .whole)) room)
 
-      over-holds : (b : lastTerm (v .count) ≡ false) → reached (reading (rotated moved (v .count) (v .id))) < 3 * T
-          → Holds c (reading (rotated moved (v .count) (v .id))) (padded v log (v .count * T)) (padTo c h) ks
-      over-holds b p =
-          let e = read-over r (length log) needed t th b in
-          let q : reached (reading (rotated moved (v .count) (v .id))) ≡ (v .count + 1) * T + min 0 T = ap reached e in
-          subst (λ (x : Reading). Holds c x (padded v log (v .count * T)) (padTo c h) ks) (sym e)
-          (trip-holds v log h ks i (omega arith) (v .count + 1) (idPlus (v .id) 1) 0 (omega (arith, i .here)) (three-below (v .count + 1) T (omega arith)) (omega arith) (omega arith) (omega arith))
+      module _ (b : lastTerm (v .count) ≡ false) where
+        more : reading moved .count < 2147483647
+        more = count-low r (length log) needed t th b
 
-      never-7 : ltb (greatest v) (place v + v .offset) ≡ true → ⊥
-      never-7 q = omega (arith, ltb-true (greatest v) (place v + v .offset) q, times-three (v .count) T (i .low), i .most, i .fixed .term-low)
+        over-holds : Holds c (reading (rotated moved (v .count) (v .id))) (padded v all (v .count * T)) (padTo c h) ks
+        over-holds =
+            let e = read-over r (length log) needed t th b in
+            let n : v .count < 2147483647 = subst (λ (x : Reading). x .count < 2147483647) (read-moved r (length log) needed t th) more in
+            subst (λ (x : Reading). Holds c x (padded v all (v .count * T)) (padTo c h) ks) (sym e)
+            (trip-holds v all h ks i (omega arith) (v .count + 1) (idPlus (v .id) 1) 0 (omega (arith, i .here)) (omega arith) (omega arith) (omega arith) (omega arith))
 
-      tripped : Keeps c h ks y (record { answer = no (tripError v); next = record { record· = tripNext moved v; log = padded v log (active r * T) } })
+        over-marks : isReady r ≡ true → Marks (rotated moved (v .count) (v .id)) (record { turns = s .turns + 1; cleared = s .cleared })
+        over-marks y =
+            subst (λ (x : LogRecord). Marks x (record { turns = s .turns + 1; cleared = s .cleared })) (sym (same-over r (length log) needed t th b))
+            (over-kept moved s marks′ tails′ more (ready-low r s marks t y))
+
+      tripped : Keeps c h ks s y (record { answer = no true (tripError v (isReady r)); next = record { record· = tripNext moved v (isReady r); log = padded v log (active r * T) } })
       unfolding onTrip
-      tripped = go (ltb (greatest v) (place v + v .offset)) (lastTerm (v .count)) refl refl
+      tripped = go (ltb (greatest v) (place v + v .offset)) (lastTerm (v .count)) (isReady r) refl refl
         where
-          go : (a b : Bool) → ltb (greatest v) (place v + v .offset) ≡ a → lastTerm (v .count) ≡ b
-              → Keeps c h ks y
+          go : (a b d : Bool) → lastTerm (v .count) ≡ b → isReady r ≡ d
+              → Keeps c h ks s y
               (record {
-                answer = no (cond a MaxPositionExceeded (cond b LastTerm AdminAction));
-                next = record { record· = cond a moved (cond b moved (rotated moved (v .count) (v .id))); log = padded v log (active r * T) };
+                answer = no true (cond a MaxPositionExceeded (cond b LastTerm (cond d AdminAction NotCleared)));
+                next = record { record· = cond a moved (cond b moved (cond d (rotated moved (v .count) (v .id)) moved)); log = padded v log (active r * T) };
               })
-          go true b e f = absurd (never-7 e)
-          go false true e f = trip-keeps LastTerm moved refl refl (moved-tails r t (v .offset + needed) (omega arith)) moved-holds
-          go false false e f = λ p. trip-keeps AdminAction (rotated moved (v .count) (v .id)) refl refl (over-tails r (length log) needed t th f) (over-holds f p) p
+          go true b d f g = trip-keeps MaxPositionExceeded moved s refl refl tails′ marks′ moved-holds
+          go false true d f g = trip-keeps LastTerm moved s refl refl tails′ marks′ moved-holds
+          go false false true f g =
+              trip-keeps AdminAction (rotated moved (v .count) (v .id)) (record { turns = s .turns + 1; cleared = s .cleared }) refl refl (over-tails r (length log) needed t th f) (over-marks f g) (over-holds f)
+          go false false false f g = trip-keeps NotCleared moved s refl refl tails′ marks′ moved-holds
 
   -- ---- what the ladders let through
 
-  pressed-mild : (m : ℕ) → m ≤ 2147483647 → Mild (pressed v m)
-  unfolding pressed
-  pressed-mild m l =
-      cond-case (λ (e : Error). Mild e) (leb (greatest v) (place v + m)) MaxPositionExceeded _
-      (λ q. absurd (omega (arith, leb-true (greatest v) (place v + m) q, times-three (v .count) T (i .low), i .most, i .fixed .term-low)))
-      (λ q. cond-case (λ (e : Error). Mild e) (eqb (v .connected) 1) BackPressured NotConnected (λ e. (refl, refl)) (λ e. clash (eqb (v .connected) 1) (eq-eqb (v .connected) 1 (i .fixed .live)) e))
-
-  -- a verdict that refuses mildly, or passes with what `Q` says
+  -- a verdict that refuses, or passes with what `Q` says
   Sure : Type 0 → Verdict → Type 0
   Sure Q Pass = Q
-  Sure Q (Refuse e) = Mild e
+  Sure Q (Refuse e) = Unit {0}
 
-  sure-no : (Q : Type 0) (e : Error) → Mild e → Sure Q (Refuse e)
+  sure-no : (Q : Type 0) (e : Error) → Sure Q (Refuse e)
   unfolding Sure
-  sure-no Q e m = m
+  sure-no Q e = tt
 
   sure-pass : (Q : Type 0) → Q → Sure Q Pass
   unfolding Sure
   sure-pass Q q = q
 
-  after-sure : (Q : Type 0) (m : ℕ) (x : Verdict) → m ≤ 2147483647 → Sure Q x → Sure Q (afterClosed v m x)
-  unfolding afterClosed
-  after-sure Q m x l s =
-      cond-case (Sure Q) (not (eqb (idMinus (v .id) (v .initial)) (v .count))) (Refuse AdminAction) _
-      (λ e. clash (eqb (idMinus (v .id) (v .initial)) (v .count)) (eq-eqb _ _ (own-count v log h ks i)) (not-true _ e))
-      (λ e. cond-case (Sure Q) (leb (v .limit) (place v)) (Refuse (pressed v m)) x (λ e. sure-no Q (pressed v m) (pressed-mild m l)) (λ e. s))
+  rung : (Q : Type 0) (b : Bool) (e : Error) (x : Verdict) → (b ≡ false → Sure Q x) → Sure Q (cond b (Refuse e) x)
+  rung Q b e x f = cond-case (Sure Q) b (Refuse e) x (λ q. sure-no Q e) f
 
-  sound-rung : (Q : Type 0) (x : Verdict) → Sure Q x → Sure Q (cond (not (sound v (length log))) (Refuse IllegalRecord) x)
-  sound-rung Q x s =
-      cond-case (Sure Q) (not (sound v (length log))) (Refuse IllegalRecord) x
-      (λ e. clash (sound v (length log)) (sound-is v log h ks i) (not-true _ e)) (λ e. s)
+  after-sure : (Q : Type 0) (m : ℕ) (x : Verdict) → Sure Q x → Sure Q (afterClosed v m x)
+  unfolding afterClosed
+  after-sure Q m x s = rung Q (not (eqb (idMinus (v .id) (v .initial)) (v .count))) AdminAction _ (λ e. rung Q (leb (v .limit) (place v)) (pressed v m) x (λ e. s))
 
   room-sure : (Q : Type 0) (needed : ℕ) → (v .offset + needed ≤ 2147483647 → Q) → Sure Q (tailRoom v needed)
-  room-sure Q needed q =
-      cond-case (Sure Q) (ltb 2147483647 (v .offset + needed)) (Refuse TailOverflow) Pass (λ e. sure-no Q TailOverflow (refl, refl))
-      (λ e. sure-pass Q (q (ltb-false 2147483647 (v .offset + needed) e)))
+  room-sure Q needed q = rung Q (ltb 2147483647 (v .offset + needed)) TailOverflow Pass (λ e. sure-pass Q (q (ltb-false 2147483647 (v .offset + needed) e)))
 
   abbrev OfferPasses : ℕ → Type 0
   OfferPasses m = (tooLong v m ≡ false) × (v .offset + needOf v m ≤ 2147483647)
@@ -185,11 +231,10 @@ module _ (r : LogRecord) (log : List ℕ) (h : List Extent) (ks : List Claim) (t
   unfolding beforeAppend
   offer-sure m =
       let Q = OfferPasses m in
-      cond-case (Sure Q) (ltb 2147483647 m) (Refuse IllegalArgument) _ (λ e. sure-no Q IllegalArgument (refl, refl))
-      (λ l. sound-rung Q _
-      (cond-case (Sure Q) (v .closed) (Refuse PublicationClosed) _ (λ e. sure-no Q PublicationClosed (refl, refl))
-      (λ e. after-sure Q m _ (ltb-false 2147483647 m l)
-      (cond-case (Sure Q) (tooLong v m) (Refuse ExceedsMaxMessageLength) _ (λ e. sure-no Q ExceedsMaxMessageLength (refl, refl)) (λ f. room-sure Q (needOf v m) (λ o. (f, o)))))))
+      rung Q (ltb 2147483647 m) IllegalArgument _
+      (λ l. rung Q (not (sound v (length log))) IllegalRecord _
+      (λ e. rung Q (v .closed) PublicationClosed _
+      (λ e. after-sure Q m _ (rung Q (tooLong v m) ExceedsMaxMessageLength _ (λ f. room-sure Q (needOf v m) (λ o. (f, o)))))))
 
   abbrev ClaimPasses : ℕ → Type 0
   ClaimPasses m = (m ≤ payloadLimit v) × (v .offset + space m ≤ 2147483647)
@@ -198,11 +243,11 @@ module _ (r : LogRecord) (log : List ℕ) (h : List Extent) (ks : List Claim) (t
   unfolding claimVerdict
   claim-sure m =
       let Q = ClaimPasses m in
-      cond-case (Sure Q) (ltb 2147483647 m) (Refuse IllegalArgument) _ (λ e. sure-no Q IllegalArgument (refl, refl))
-      (λ l. sound-rung Q _
-      (cond-case (Sure Q) (v .closed) (Refuse PublicationClosed) _ (λ e. sure-no Q PublicationClosed (refl, refl))
-      (λ e. cond-case (Sure Q) (ltb (payloadLimit v) m) (Refuse ExceedsMaxPayloadLength) _ (λ e. sure-no Q ExceedsMaxPayloadLength (refl, refl))
-      (λ f. after-sure Q m _ (ltb-false 2147483647 m l) (room-sure Q (space m) (λ o. (ltb-false (payloadLimit v) m f, o)))))))
+      rung Q (ltb 2147483647 m) IllegalArgument _
+      (λ l. rung Q (not (sound v (length log))) IllegalRecord _
+      (λ e. rung Q (v .closed) PublicationClosed _
+      (λ e. rung Q (ltb (payloadLimit v) m) ExceedsMaxPayloadLength _
+      (λ f. after-sure Q m _ (room-sure Q (space m) (λ o. (ltb-false (payloadLimit v) m f, o)))))))
 
   -- ---- what an append that is let through needs
 
@@ -223,6 +268,9 @@ module _ (r : LogRecord) (log : List ℕ) (h : List Extent) (ks : List Claim) (t
       (λ l. omega (arith, need-one (payloadLimit v) m l, i .fixed .mtu-high, i .fixed .term-low))
       (λ l. omega (arith, need-small (payloadLimit v) m pay-low (omega (arith, i .fixed .mtu-low, i .fixed .mtu-32)), long-rows m l e, i .fixed .term-low))
 
+  size-is : (re : ℕ) (m : List ℕ) → sizes (cut (payloadLimit v) re m) ≡ needOf v (length m)
+  size-is re m = sym (sizes-cells (cut (payloadLimit v) re m)) ∙ message-size c (omega (arith, pay-low)) (omega (arith, i .fixed .mtu-low, i .fixed .mtu-32)) re m
+
   need-32 : (re : ℕ) (m : List ℕ) → needOf v (length m) % 32 ≡ 0
   need-32 re m =
       ap (λ (n : ℕ). n % 32) (sym (message-size c (omega (arith, pay-low)) (omega (arith, i .fixed .mtu-low, i .fixed .mtu-32)) re m)) ∙ sizes-32 (cells (cut (payloadLimit v) re m))
@@ -233,43 +281,54 @@ module _ (r : LogRecord) (log : List ℕ) (h : List Extent) (ks : List Claim) (t
     abbrev n· : ℕ
     n· = needOf (reading r) (length m)
 
-    abbrev new : List ℕ
-    new = written v log (active r * T) (v .offset) (cut (payloadLimit v) (long re) m)
+    abbrev fs : List Fragment
+    fs = cut (payloadLimit (reading r)) (long re) m
 
-    offer-refusing : Refusing c h ks (offer m re) (λ (e : Error). offered (OfferRefused e))
-    unfolding tell
-    offer-refusing = record { tells = λ e. refl; learns = λ e. refl; ends = λ n e. tt; usual = λ e q. q }
+    abbrev new : List ℕ
+    new = written v log (active r * T) (v .offset) fs
+
+    offer-refusing : Refusing c h ks s (offer m re) (λ (b : Bool) (e : Error). offered b (OfferRefused e))
+    unfolding tell tellTerms
+    offer-refusing = record { tells = λ b e. refl; learns = λ b e. refl; turns = λ b e. refl; ends = λ n b e. tt }
 
     offer-fits : (b : Bool) → fits v n· ≡ b → OfferPasses (length m)
-        → Keeps c h ks (offer m re)
+        → Keeps c h ks s (offer m re)
         (record {
-          answer = offered (cond b (OfferPosition (pos (place v + n·))) (OfferRefused (tripError v)));
-          next = record { record· = cond b (withTail r (active r) (v .id) (v .offset + n·)) (tripNext (withTail r (active r) (v .id) (v .offset + n·)) v); log = cond b new (padded v log (active r * T)) };
+          answer = offered (not b) (cond b (OfferPosition (pos (place v + n·))) (OfferRefused (tripError v (isReady r))));
+          next = record { record· = cond b (withTail r (active r) (v .id) (v .offset + n·)) (tripNext (withTail r (active r) (v .id) (v .offset + n·)) v (isReady r)); log = cond b new (padded v log (active r * T)) };
         })
-    unfolding tell
-    offer-fits true f q p =
+    unfolding tell tellTerms
+    offer-fits true f q =
         let l : v .offset + n· ≤ T = leb-true (v .offset + n·) T f in
-        let k = offer-holds v log h ks i re m l (q .1) in (
+        let z = size-is (long re) m in (
           record {
             tails = moved-tails r t (v .offset + n·) (omega (arith, q .1));
-            holds = subst (λ (x : Reading). Holds c x new (h ++ (message re m ∷ [])) ks) (sym (moved-reading r t (v .offset + n·) (omega (arith, q .1))))
-                (subst (λ (b : ℕ). Holds c (with-tail v (v .count) (v .id) (v .offset + n·)) (written v log b (v .offset) (cut (payloadLimit v) (long re) m)) (h ++ (message re m ∷ [])) ks) (sym base-is) k);
+            long = subst (λ (b : ℕ). length (written v log b (v .offset) fs) ≡ 3 * T) base-is
+                (written-long v T (s .cleared) (v .count) low high log (v .count % 3 * T) (v .offset) fs (omega arith) in-log ∙ long·);
+            all = written v all (v .count * T) (v .offset) fs;
+            holds = subst (λ (x : Reading). Holds c x (written v all (v .count * T) (v .offset) fs) (h ++ (message re m ∷ [])) ks) (sym (moved-reading r t (v .offset + n·) (omega (arith, q .1))))
+                (offer-holds v all h ks i re m l (q .1));
+            window = subst (λ (b : ℕ). Window T (written v log b (v .offset) fs) (written v all (v .count * T) (v .offset) fs) (s .cleared)) base-is
+                (laid-all v T (s .cleared) (v .count) low high log all (v .offset) fs (omega arith) in-log in-all win);
+            marks = moved-kept r s marks t (v .offset + n·) (omega (arith, q .1));
           },
-          ap pos (offer-ends v log h ks i re m (omega arith)),
-          tt,
+          ap pos (offer-ends v all h ks i re m (omega arith)),
         )
-    offer-fits false f q p =
-        tripped (offer m re) (λ (e : Error). offered (OfferRefused e)) offer-refusing n· (need-32 (long re) m) (need-most (length m) (q .0)) (leb-false (v .offset + n·) T f) (q .1) p
+    offer-fits false f q =
+        tripped (offer m re) (λ (b : Bool) (e : Error). offered b (OfferRefused e)) offer-refusing n· (need-32 (long re) m) (need-most (length m) (q .0)) (leb-false (v .offset + n·) T f) (q .1)
 
     offer-by : (x : Verdict) → Sure (OfferPasses (length m)) x
-        → Keeps c h ks (offer m re) (record { answer = offered (offeredBy v n· x); next = record { record· = nextBy r v n· x; log = logBy r v log new n· x } })
+        → Keeps c h ks s (offer m re) (record { answer = offered (tripsBy v n· x) (offeredBy r v n· x); next = record { record· = nextBy r v n· x; log = logBy r v log new n· x } })
     unfolding appendNext Sure
     offer-by Pass s = offer-fits (fits v n·) refl s
-    offer-by (Refuse e) s = mild-keeps (offer m re) (λ (e : Error). offered (OfferRefused e)) offer-refusing e s
+    offer-by (Refuse e) s = none-keeps (offer m re) (λ (b : Bool) (e : Error). offered b (OfferRefused e)) offer-refusing e
 
-    pub offer-keeps : Keeps c h ks (offer m re) (step w (offer m re))
+    pub offer-keeps : Keeps c h ks s (offer m re) (step w (offer m re))
     unfolding step offerOf offerBytes
-    offer-keeps = offer-by (offerVerdict v (length log) (length m)) (offer-sure (length m))
+    offer-keeps =
+        let y = offerVerdict v (length log) (length m) in
+        subst (λ (b : Bool). Keeps c h ks s (offer m re) (record { answer = offered b (offeredBy r v n· y); next = record { record· = nextBy r v n· y; log = logBy r v log new n· y } }))
+        (sym (offer-trips v (isReady r) (length log) (length m))) (offer-by y (offer-sure (length m)))
 
   -- ---- claim
 
@@ -277,42 +336,59 @@ module _ (r : LogRecord) (log : List ℕ) (h : List Extent) (ks : List Claim) (t
     abbrev m· : ℕ
     m· = word n
 
+    abbrev hd : List ℕ
+    hd = header v (v .offset) (negated (word n + 32)) 192 1
+
     abbrev new· : List ℕ
     new· = claimed v log (active r * T) (word n)
 
-    claim-refusing : Refusing c h ks (claim n) (λ (e : Error). History.claimed (ClaimRefused e))
-    unfolding tell
-    claim-refusing = record { tells = λ e. refl; learns = λ e. refl; ends = λ n e. tt; usual = λ e q. q }
+    claim-refusing : Refusing c h ks s (claim n) (λ (b : Bool) (e : Error). History.claimed b (ClaimRefused e))
+    unfolding tell tellTerms
+    claim-refusing = record { tells = λ b e. refl; learns = λ b e. refl; turns = λ b e. refl; ends = λ n b e. tt }
+
+    claim-long : v .offset + space m· ≤ T → length (claimed v log (v .count % 3 * T) m·) ≡ 3 * T
+    unfolding claimed
+    claim-long l = length-splice log (v .count % 3 * T + v .offset) hd (omega (arith, header-24 v (v .offset) (negated (m· + 32)) 192 1, in-log)) ∙ long·
+
+    claim-window : v .offset + space m· ≤ T → Window T (claimed v log (v .count % 3 * T) m·) (claimed v all (v .count * T) m·) (s .cleared)
+    unfolding claimed
+    claim-window l =
+        laid T log all (v .offset) hd (omega (arith, header-24 v (v .offset) (negated (m· + 32)) 192 1)) (s .cleared) (v .count) low high (omega (arith, in-log)) (omega (arith, in-all)) win
 
     claim-fits : (b : Bool) → fits v (space m·) ≡ b → ClaimPasses m·
-        → Keeps c h ks (claim n)
+        → Keeps c h ks s (claim n)
         (record {
-          answer = History.claimed (cond b (ClaimPosition (pos (place v + space m·)) (claimRecord v (active r) m·)) (ClaimRefused (tripError v)));
-          next = record { record· = cond b (withTail r (active r) (v .id) (v .offset + space m·)) (tripNext (withTail r (active r) (v .id) (v .offset + space m·)) v); log = cond b new· (padded v log (active r * T)) };
+          answer = History.claimed (not b) (cond b (ClaimPosition (pos (place v + space m·)) (claimRecord v (active r) m·)) (ClaimRefused (tripError v (isReady r))));
+          next = record { record· = cond b (withTail r (active r) (v .id) (v .offset + space m·)) (tripNext (withTail r (active r) (v .id) (v .offset + space m·)) v (isReady r)); log = cond b new· (padded v log (active r * T)) };
         })
-    unfolding tell
-    claim-fits true f q p =
+    unfolding tell tellTerms
+    claim-fits true f q =
         let l : v .offset + space m· ≤ T = leb-true (v .offset + space m·) T f in
-        let k = claim-holds v log h ks i (id-small r (active r)) m· (q .0) l (q .1) in
-        let g = h ++ (claimed· open· (zeros m·) ∷ []) in (
+        let g = h ++ (claimed· open· (zeros m·) ∷ []) in
+        let k = claim-holds v all h ks i (id-small r (active r)) m· (q .0) l (q .1) in (
           record {
             tails = moved-tails r t (v .offset + space m·) (omega (arith, q .1));
-            holds = subst (λ (x : Reading). Holds c x new· g (claimRecord v (active r) m· ∷ ks)) (sym (moved-reading r t (v .offset + space m·) (omega (arith, q .1))))
-                (subst (λ (b : ℕ). Holds c (with-tail v (v .count) (v .id) (v .offset + space m·)) (claimed v log b m·) g (claimRecord v (active r) m· ∷ ks)) (sym base-is)
-                (subst (λ (a : ℕ). Holds c (with-tail v (v .count) (v .id) (v .offset + space m·)) (claimed v log (v .count * T) m·) g (claimRecord v a m· ∷ ks)) (sym (active-is r (i .low))) k));
+            long = subst (λ (b : ℕ). length (claimed v log b m·) ≡ 3 * T) base-is (claim-long l);
+            all = claimed v all (v .count * T) m·;
+            holds = subst (λ (x : Reading). Holds c x (claimed v all (v .count * T) m·) g (claimRecord v (active r) m· ∷ ks)) (sym (moved-reading r t (v .offset + space m·) (omega (arith, q .1))))
+                (subst (λ (a : ℕ). Holds c (with-tail v (v .count) (v .id) (v .offset + space m·)) (claimed v all (v .count * T) m·) g (claimRecord v a m· ∷ ks)) (sym (active-is r)) k);
+            window = subst (λ (b : ℕ). Window T (claimed v log b m·) (claimed v all (v .count * T) m·) (s .cleared)) base-is (claim-window l);
+            marks = moved-kept r s marks t (v .offset + space m·) (omega (arith, q .1));
           },
-          ap pos (claim-ends v log h ks i m· (omega arith)),
-          tt,
+          ap pos (claim-ends v all h ks i m· (omega arith)),
         )
-    claim-fits false f q p =
-        tripped (claim n) (λ (e : Error). History.claimed (ClaimRefused e)) claim-refusing (space m·) (omega arith) (omega (arith, q .0, i .fixed .mtu-high, i .fixed .term-low)) (leb-false (v .offset + space m·) T f) (q .1) p
+    claim-fits false f q =
+        tripped (claim n) (λ (b : Bool) (e : Error). History.claimed b (ClaimRefused e)) claim-refusing (space m·) (omega arith) (omega (arith, q .0, i .fixed .mtu-high, i .fixed .term-low)) (leb-false (v .offset + space m·) T f) (q .1)
 
     claim-by : (x : Verdict) → Sure (ClaimPasses m·) x
-        → Keeps c h ks (claim n) (record { answer = History.claimed (claimedBy r v m· x); next = record { record· = nextBy r v (space m·) x; log = logBy r v log new· (space m·) x } })
+        → Keeps c h ks s (claim n) (record { answer = History.claimed (tripsBy v (space m·) x) (claimedBy r v m· x); next = record { record· = nextBy r v (space m·) x; log = logBy r v log new· (space m·) x } })
     unfolding appendNext Sure
     claim-by Pass s = claim-fits (fits v (space m·)) refl s
-    claim-by (Refuse e) s = mild-keeps (claim n) (λ (e : Error). History.claimed (ClaimRefused e)) claim-refusing e s
+    claim-by (Refuse e) s = none-keeps (claim n) (λ (b : Bool) (e : Error). History.claimed b (ClaimRefused e)) claim-refusing e
 
-    pub claim-keeps : Keeps c h ks (claim n) (step w (claim n))
+    pub claim-keeps : Keeps c h ks s (claim n) (step w (claim n))
     unfolding step claimOf claimBytes
-    claim-keeps = claim-by (claimVerdict v (length log) m·) (claim-sure m·)
+    claim-keeps =
+        let y = claimVerdict v (length log) m· in
+        subst (λ (b : Bool). Keeps c h ks s (claim n) (record { answer = History.claimed b (claimedBy r v m· y); next = record { record· = nextBy r v (space m·) y; log = logBy r v log new· (space m·) y } }))
+        (sym (claim-trips v (isReady r) (length log) m·)) (claim-by y (claim-sure m·))

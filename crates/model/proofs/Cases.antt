@@ -12,17 +12,18 @@ use lib.Count.{ones, onesIn}
 use Rattle.model.specs.declared.LogRecord.{LogRecord}
 use Rattle.model.specs.declared.Claim.{Claim}
 use Rattle.model.specs.declared.OfferReply.{OfferReply}
+use Rattle.model.specs.declared.Outcome.the-variants.{Done}
 use Rattle.model.specs.declared.Rule.{Rule}
 use Rattle.model.specs.declared.Rule.the-variants.{PublicationClosed, ExceedsMaxPayloadLength, CountOutOfStep, LimitPastMaxPosition, TripPastMaxPosition, TermRotated, Unfragmented, Fragmented, Claimed}
 use Rattle.model.specs.Bytes.{le2, le4, le8, u16, u32, i32, splice, zeros}
 use Rattle.model.specs.Answers.{Told, outcomeTold, positionedTold, offeredTold, claimedTold, polledTold, gapTold, availabilityTold}
 use Rattle.model.specs.FrameDescriptor.{frameLength, frameAt}
 use Rattle.model.specs.DataFrameHeader.{header24, headerBytes}
-use Rattle.model.specs.LogBufferDescriptor.{readingOf, soundRecord, sound, changed, withTail, withCount, nextTail, rotated, rawOf, termId, termOffset, positionOf}
+use Rattle.model.specs.LogBufferDescriptor.{readingOf, soundRecord, sound, changed, withTail, withCount, noted, withMark, nextTail, rotated, rawOf, termId, termOffset, positionOf}
 use Rattle.model.specs.TermAppender.{header, fragment, fragmentBytes, written, cutFrom, cut, sizes, need, padded, claimed, claimRecord}
 use Rattle.model.specs.BufferClaim.{goodClaim, matches, claimCheck, commitOf, commitBytes, abortBytes}
 use Rattle.model.specs.Rule.{order, holds, firstOf, decided}
-use Rattle.model.specs.Publication.{openedRecord, openRecord, positionCall, pressed, afterClosed, beforeAppend, onTrip, appendNext, offerOf, offerBytes, claimVerdict, claimOf, claimBytes}
+use Rattle.model.specs.Publication.{openedRecord, notDue, clearVerdict, clearOf, openRecord, positionCall, pressed, afterClosed, beforeAppend, onTrip, appendNext, offerOf, offerBytes, claimVerdict, claimOf, claimBytes}
 use Rattle.model.specs.TermReader.{walk}
 use Rattle.model.specs.TermScan.{scanVerdict, rebuild, gapLength, gapJudge, gapOf, availableFrom, availabilityJudge, availabilityOf}
 use Rattle.model.specs.Image.{PollReply, newImage, readable, pollVerdict, pollOf}
@@ -44,9 +45,11 @@ recordAt tails initial mtu count limit closed =
       «publication_limit» = pos limit;
       «end_of_stream_position» = pos 9223372036854775807;
       «is_closed» = closed;
+      «slowest_position» = pos 0;
+      «is_cleared» = false ∷ true ∷ true ∷ [];
     }
 
--- a log in its first term, the tail at an offset (term ids have 2^31 added)
+-- a log in its first term, the tail at an offset
 abbrev pub tailsAt : ℕ → List ℤ
 tailsAt offset = rawOf 7 offset ∷ rawOf 5 0 ∷ rawOf 6 0 ∷ []
 
@@ -60,6 +63,25 @@ lastAt mtu offset = recordAt (replicate 3 (rawOf 2147483647 offset)) (pos 0) mtu
 -- a log in its first term whose tail shows the id of the second: its count is out of step
 abbrev pub aheadAt : ℕ → LogRecord
 aheadAt offset = recordAt (rawOf 8 offset ∷ rawOf 5 0 ∷ rawOf 6 0 ∷ []) (pos 7) 96 0 1000000 false
+
+-- a log in its third term, the term full: the slowest reader's position, and whether partition 0 is marked
+abbrev thirdAt : ℕ → Bool → LogRecord
+thirdAt slowest marked =
+    record {
+      tails = rawOf 7 65536 ∷ rawOf 8 65536 ∷ rawOf 9 65536 ∷ [];
+      «active_term_count» = pos 2;
+      «initial_term_id» = pos 7;
+      «term_length» = pos 65536;
+      «mtu_length» = pos 96;
+      «session_id» = pos 5;
+      «stream_id» = pos 6;
+      «is_connected» = pos 1;
+      «publication_limit» = pos 1000000;
+      «end_of_stream_position» = pos 9223372036854775807;
+      «is_closed» = false;
+      «slowest_position» = pos slowest;
+      «is_cleared» = marked ∷ false ∷ false ∷ [];
+    }
 
 -- a message of n bytes
 abbrev pub bytes : ℕ → List ℕ
@@ -141,7 +163,7 @@ module _ (log : List ℕ) (full : length log ≡ 196608) where
   trip = rw full
 
   trip-count : offerOf (tailAt 65472) log (bytes 64) .next .«active_term_count» ≡ pos 1
-  unfolding offerOf readingOf soundRecord sound rawOf pressed afterClosed beforeAppend need sizes cut cutFrom zeros ones onesIn onTrip appendNext changed withTail withCount nextTail rotated
+  unfolding offerOf readingOf soundRecord sound rawOf pressed afterClosed beforeAppend need sizes cut cutFrom zeros ones onesIn onTrip appendNext changed noted withMark withTail withCount nextTail rotated
   trip-count = rw full
 
   -- a padding frame of 64, both flags, type 0
@@ -155,7 +177,7 @@ module _ (log : List ℕ) (full : length log ≡ 196608) where
 
   -- then an offer of 0 bytes, on the record and the log left
   trip-then-on : (more : List ℕ) → length more ≡ 196608 → offeredTold (offerOf (offerOf (tailAt 65472) log (bytes 64) .next) more [] .answer) ≡ is (pos 0) (pos 65568 ∷ [])
-  unfolding offerOf readingOf soundRecord sound rawOf pressed afterClosed beforeAppend need sizes cut cutFrom zeros ones onesIn onTrip appendNext changed withTail withCount nextTail rotated
+  unfolding offerOf readingOf soundRecord sound rawOf pressed afterClosed beforeAppend need sizes cut cutFrom zeros ones onesIn onTrip appendNext changed noted withMark withTail withCount nextTail rotated
   trip-then-on more long = rw (full, long)
 
   padding-long : length (header (readingOf (tailAt 65472) 0) 65472 64 192 0) ≡ 24
@@ -243,25 +265,38 @@ module _ (log : List ℕ) (full : length log ≡ 196608) where
   top-turns = rw full
 
   top-tail : getD (offerOf (topAt 65472) log (bytes 64) .next .tails) 1 (pos 0) ≡ negsuc 9223372036854775807
-  unfolding offerOf readingOf soundRecord sound rawOf pressed afterClosed beforeAppend need sizes cut cutFrom zeros ones onesIn onTrip appendNext changed withTail withCount nextTail rotated
+  unfolding offerOf readingOf soundRecord sound rawOf pressed afterClosed beforeAppend need sizes cut cutFrom zeros ones onesIn onTrip appendNext changed noted withMark withTail withCount nextTail rotated
   top-tail = rw full
 
   -- and then an offer of 0 bytes there, in step
   top-then-on : (more : List ℕ) → length more ≡ 196608 → offeredTold (offerOf (offerOf (topAt 65472) log (bytes 64) .next) more [] .answer) ≡ is (pos 0) (pos 65568 ∷ [])
-  unfolding offerOf readingOf soundRecord sound rawOf pressed afterClosed beforeAppend need sizes cut cutFrom zeros ones onesIn onTrip appendNext changed withTail withCount nextTail rotated
+  unfolding offerOf readingOf soundRecord sound rawOf pressed afterClosed beforeAppend need sizes cut cutFrom zeros ones onesIn onTrip appendNext changed noted withMark withTail withCount nextTail rotated
   top-then-on more long = rw (full, long)
 
--- opened at the lowest id: the tails below it have the largest and the one before
-lowest-opened : openedRecord (pos 65536) (pos 96) (negsuc 2147483647) (pos 5) (pos 6) .tails ≡ negsuc 9223372036854775807 ∷ pos 9223372028264841216 ∷ pos 9223372032559808512 ∷ []
-unfolding openedRecord rawOf
-lowest-opened = refl
+  -- ---- terms used again
 
--- one term past the largest id, and one term before the initial one
-position-over : positionOf 2147483648 2147483647 65536 64 ≡ pos 65600
-position-over = refl
+  -- count 2, the term full, the next partition not marked: 19, and nothing rotates
+  not-cleared : offeredTold (offerOf (thirdAt 0 false) log (bytes 0) .answer) ≡ is (pos 19) []
+  unfolding offerOf readingOf soundRecord sound rawOf pressed afterClosed beforeAppend need sizes cut cutFrom zeros ones onesIn onTrip
+  not-cleared = rw full
 
-position-before : positionOf 6 7 65536 0 ≡ negsuc 65535
-position-before = refl
+  -- marked, it rotates; clearing marks it once the slowest reader is at 65,536
+  cleared-rotates : offeredTold (offerOf (thirdAt 65536 true) log (bytes 0) .answer) ≡ is (pos 6) []
+  unfolding offerOf readingOf soundRecord sound rawOf pressed afterClosed beforeAppend need sizes cut cutFrom zeros ones onesIn onTrip
+  cleared-rotates = rw full
+
+  clear-marks : clearOf (thirdAt 65536 false) log (pos 0) ≡ record { next = thirdAt 65536 true; answer = Done }
+  unfolding clearOf clearVerdict notDue noted withMark readingOf soundRecord sound rawOf ones onesIn
+  clear-marks = rw full
+
+  -- the slowest reader is still in the term, or a partition is not due: 20
+  clear-early : outcomeTold (clearOf (thirdAt 65504 false) log (pos 0) .answer) ≡ is (pos 20) []
+  unfolding clearOf clearVerdict notDue readingOf soundRecord sound rawOf ones onesIn
+  clear-early = rw full
+
+  clear-fresh : outcomeTold (clearOf (tailAt 0) log (pos 0) .answer) ≡ is (pos 20) []
+  unfolding clearOf clearVerdict notDue readingOf soundRecord sound rawOf ones onesIn
+  clear-fresh = rw full
 
 -- ---- numbers
 
@@ -352,3 +387,15 @@ module _ (rest : List ℕ) (full : length rest ≡ 196476) where
   availability : availabilityTold (availabilityOf (tailAt 0) (le4 96 ++ (replicate 128 0 ++ rest)) (pos 0) (pos 0) (pos 64)) ≡ is (pos 0) (pos 274877906976 ∷ [])
   unfolding availabilityOf availabilityJudge scanVerdict availableFrom readingOf soundRecord sound rawOf ones onesIn le4 u16 u32 frameAt frameLength
   availability = simp full
+
+-- opened at the lowest id: the tails below it have the largest and the one before
+lowest-opened : openedRecord (pos 65536) (pos 96) (negsuc 2147483647) (pos 5) (pos 6) .tails ≡ negsuc 9223372036854775807 ∷ pos 9223372028264841216 ∷ pos 9223372032559808512 ∷ []
+unfolding openedRecord rawOf
+lowest-opened = refl
+
+-- one term past the largest id, and one term before the initial one
+position-over : positionOf 2147483648 2147483647 65536 64 ≡ pos 65600
+position-over = refl
+
+position-before : positionOf 6 7 65536 0 ≡ negsuc 65535
+position-before = refl

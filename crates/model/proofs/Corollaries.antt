@@ -1,19 +1,18 @@
 -- The theorems of specs/Corollaries.antt.
 use mathlib.Core.Path.{_≡_, refl, sym, ap, _∙_, subst}
-use mathlib.Core.Bool.{Bool, true, false, cond}
+use mathlib.Core.Bool.{Bool, true, false, cond, not}
 use mathlib.Core.Logic.{inl, inr}
 use Prim.Native.Nat.{ℕ, zero, suc, _+_, _-_, _*_, _%_}
 use mathlib.Core.List.{List, [], _∷_}
 use native.Mathlib.Omega.{arith}
-use lib.Dec.{ltb}
 use lib.ListN.{length, drop}
-use lib.IntN.{ℤ}
+use lib.IntN.{ℤ, pos}
 use Rattle.model.specs.declared.LogRecord.{LogRecord}
 use Rattle.model.specs.declared.RecordReply.{RecordReply}
 use Rattle.model.specs.declared.Claim.{Claim}
 use Rattle.model.specs.declared.Reading.{Reading}
 use Rattle.model.specs.declared.Error.{Error}
-use Rattle.model.specs.declared.Error.the-variants.{IllegalRecord, AdminAction, MaxPositionExceeded, LastTerm}
+use Rattle.model.specs.declared.Error.the-variants.{IllegalRecord}
 use Rattle.model.specs.declared.Verdict.{Verdict}
 use Rattle.model.specs.declared.Verdict.the-variants.{Pass, Refuse}
 use Rattle.model.specs.declared.ReadVerdict.{ReadVerdict}
@@ -28,46 +27,29 @@ use Rattle.model.specs.declared.Frame.the-variants.{Absent, Unsound, Pad
 use Rattle.model.specs.declared.Polled.the-variants.{Fragments}
 use Rattle.model.specs.Bytes.{word, long}
 use Rattle.model.specs.FrameDescriptor.{align, space, frameAt, flagsAt, ends}
-use Rattle.model.specs.LogBufferDescriptor.{partitionOf, reading, greatest, lastTerm, soundRecord, withLimit, withClosed}
+use Rattle.model.specs.LogBufferDescriptor.{partitionOf, reading, active, soundRecord, withLimit, withClosed, withMark, withSlowest, isReady}
 use Rattle.model.specs.BufferClaim.{claimCheck, writeSpan, writeOutcome, writeOver, outcomeOf, commitOf, changedBy, commitBytes, abortBytes}
-use Rattle.model.specs.Publication.{changeOf, place, fits, onTrip, tripError, offerVerdict, offeredBy, nextBy, logBy, offerOf, offerBytes, claimVerdict, claimedBy, claimOf, claimBytes}
+use Rattle.model.specs.Publication.{changeOf, replyBy, raiseVerdict, raiseOf, clearVerdict, clearOf, clearedBy, clearBytes, place, fits, tripError, needOf, offerVerdict, offeredBy, nextBy, logBy, offerOf, offerBytes, claimVerdict, claimedBy, claimOf, claimBytes}
+use Rattle.model.specs.TermAppender.{claimRecord}
 use Rattle.model.specs.TermReader.{Walked, still, over, walk, natural, goodEntries, numbers, laid}
 use Rattle.model.specs.Image.{Image, pollVerdict, pollReply, PollReply, pollOf}
-use Rattle.model.specs.History.{offer, claim, fill, commit, abort, setLimit, close, World, step, isTrip}
+use Rattle.model.specs.History.{offer, claim, fill, commit, abort, setLimit, close, clear, raise, World, step}
 use Rattle.model.specs.Corollaries.{NoTwoAlike, NothingRare, RefusedWith, RefusalsChangeNothing, LieTo, bodiesOf, PollPassed, PollsCountFrames, NeedArithmetic}
 use Rattle.model.proofs.Cut.{need-sum}
+use Rattle.model.proofs.RuleLaws.{tripsBy, offer-trips, claim-trips}
 use Rattle.model.proofs.Choice.{le-case}
-use Rattle.model.proofs.Demand as Demand
+use Rattle.model.proofs.Season as Season
 use Rattle.model.proofs.Rising.{clash}
 
 pub no-two-alike : NoTwoAlike
 unfolding NoTwoAlike
-no-two-alike log term mtu initial session stream fresh calls = Demand.no-two-alike log term mtu initial session stream fresh calls
+no-two-alike log term mtu initial session stream fresh calls = Season.no-two-alike log term mtu initial session stream fresh calls
 
 pub nothing-rare : NothingRare
 unfolding NothingRare
-nothing-rare log term mtu initial session stream fresh calls given short = Demand.usual log term mtu initial session stream fresh calls given short
+nothing-rare log term mtu initial session stream fresh calls given = Season.usual log term mtu initial session stream fresh calls given
 
 -- ---- refusals change nothing
-
--- what a trip is refused with is a trip's number
-trip-is : (v : Reading) → isTrip (tripError v) ≡ true
-unfolding onTrip
-trip-is v = go (ltb (greatest v) (place v + v .offset)) (lastTerm (v .count))
-  where
-    go : (a b : Bool) → isTrip (cond a MaxPositionExceeded (cond b LastTerm AdminAction)) ≡ true
-    go true b = refl
-    go false true = refl
-    go false false = refl
-
--- so an append that is let through is refused with no other
-offer-trips : (v : Reading) (b : Bool) (p : ℤ) (e : Error) → cond b (OfferPosition p) (OfferRefused (tripError v)) ≡ OfferRefused e → isTrip e ≡ false → ⊥
-offer-trips v true p e h t = let z : _≡_ {A = ℕ} 0 1 = cc in omega arith
-offer-trips v false p e h t = let q : tripError v ≡ e = cc in clash (isTrip e) (ap isTrip (sym q) ∙ trip-is v) t
-
-claim-trips : (v : Reading) (b : Bool) (p : ℤ) (k : Claim) (e : Error) → cond b (ClaimPosition p k) (ClaimRefused (tripError v)) ≡ ClaimRefused e → isTrip e ≡ false → ⊥
-claim-trips v true p k e h t = let z : _≡_ {A = ℕ} 0 1 = cc in omega arith
-claim-trips v false p k e h t = let q : tripError v ≡ e = cc in clash (isTrip e) (ap isTrip (sym q) ∙ trip-is v) t
 
 module _ (w : World) where
   abbrev r : LogRecord
@@ -79,13 +61,29 @@ module _ (w : World) where
   abbrev Same : LogRecord → List ℕ → Type 0
   Same next log = _≡_ {A = World} (record { record· = next; log = log }) w
 
-  offer-same : (needed : ℕ) (new : List ℕ) (x : Verdict) (e : Error) → offeredBy v needed x ≡ OfferRefused e → isTrip e ≡ false → Same (nextBy r v needed x) (logBy r v (w .log) new needed x)
-  offer-same needed new (Refuse q) e h t = refl
-  offer-same needed new Pass e h t = absurd (offer-trips v (fits v needed) _ e h t)
+  offer-same : (needed : ℕ) (new : List ℕ) (x : Verdict) (e : Error) → tripsBy v needed x ≡ false → offeredBy r v needed x ≡ OfferRefused e → Same (nextBy r v needed x) (logBy r v (w .log) new needed x)
+  offer-same needed new (Refuse q) e t h = refl
+  offer-same needed new Pass e t h = go (fits v needed) refl
+    where
+      go : (b : Bool) → fits v needed ≡ b → Same (nextBy r v needed Pass) (logBy r v (w .log) new needed Pass)
+      go true f = let z : OfferPosition _ ≡ OfferRefused e = sym (ap (λ (b : Bool). cond b (OfferPosition (pos (place v + needed))) (OfferRefused (tripError v (isReady r)))) f) ∙ h in absurd (let y : _≡_ {A = ℕ} 0 1 = cc in omega arith)
+      go false f = clash (not (fits v needed)) (ap not f) t
 
-  claim-same : (m : ℕ) (new : List ℕ) (x : Verdict) (e : Error) → claimedBy r v m x ≡ ClaimRefused e → isTrip e ≡ false → Same (nextBy r v (space m) x) (logBy r v (w .log) new (space m) x)
-  claim-same m new (Refuse q) e h t = refl
-  claim-same m new Pass e h t = absurd (claim-trips v (fits v (space m)) _ _ e h t)
+  claim-same : (m : ℕ) (new : List ℕ) (x : Verdict) (e : Error) → tripsBy v (space m) x ≡ false → claimedBy r v m x ≡ ClaimRefused e → Same (nextBy r v (space m) x) (logBy r v (w .log) new (space m) x)
+  claim-same m new (Refuse q) e t h = refl
+  claim-same m new Pass e t h = go (fits v (space m)) refl
+    where
+      go : (b : Bool) → fits v (space m) ≡ b → Same (nextBy r v (space m) Pass) (logBy r v (w .log) new (space m) Pass)
+      go true f = let z : ClaimPosition _ _ ≡ ClaimRefused e = sym (ap (λ (b : Bool). cond b (ClaimPosition (pos (place v + space m)) (claimRecord v (active r) m)) (ClaimRefused (tripError v (isReady r)))) f) ∙ h in absurd (let y : _≡_ {A = ℕ} 0 1 = cc in omega arith)
+      go false f = clash (not (fits v (space m))) (ap not f) t
+
+  clear-same : (k : ℕ) (x : Verdict) (e : Error) → replyBy r (withMark r k true) x .answer ≡ Refused e → Same (replyBy r (withMark r k true) x .next) (clearedBy v (w .log) k x)
+  clear-same k Pass e h = absurd (let z : _≡_ {A = ℕ} 0 1 = cc in omega arith)
+  clear-same k (Refuse q) e h = refl
+
+  raise-same : (p : ℤ) (x : Verdict) (e : Error) → replyBy r (withSlowest r p) x .answer ≡ Refused e → Same (replyBy r (withSlowest r p) x .next) (w .log)
+  raise-same p Pass e h = absurd (let z : _≡_ {A = ℕ} 0 1 = cc in omega arith)
+  raise-same p (Refuse q) e h = refl
 
   check-same : (new : List ℕ) (x : Verdict) (e : Error) → outcomeOf x ≡ Refused e → Same r (changedBy (w .log) new x)
   check-same new (Refuse q) e h = refl
@@ -101,14 +99,20 @@ module _ (w : World) where
   change-same next false e h = refl
 
 pub refusals-change-nothing : RefusalsChangeNothing
-unfolding RefusalsChangeNothing step offerOf offerBytes claimOf claimBytes commitOf commitBytes abortBytes changeOf
-refusals-change-nothing w (offer m re) e h t = offer-same w _ _ (offerVerdict (reading (w .record·)) (length (w .log)) (length m)) e h t
-refusals-change-nothing w (claim n) e h t = claim-same w (word n) _ (claimVerdict (reading (w .record·)) (length (w .log)) (word n)) e h t
-refusals-change-nothing w (fill k b) e h t = fill-same w b (writeSpan (w .record·) (w .log) k (length b)) e h
-refusals-change-nothing w (commit k) e h t = check-same w _ (claimCheck (w .record·) (w .log) k) e h
-refusals-change-nothing w (abort k) e h t = check-same w _ (claimCheck (w .record·) (w .log) k) e h
-refusals-change-nothing w (setLimit n) e h t = change-same w (withLimit (w .record·) n) (soundRecord (reading (withLimit (w .record·) n))) e h
-refusals-change-nothing w close e h t = change-same w (withClosed (w .record·)) (soundRecord (reading (withClosed (w .record·)))) e h
+unfolding RefusalsChangeNothing step offerOf offerBytes claimOf claimBytes clearOf clearBytes raiseOf commitOf commitBytes abortBytes changeOf
+refusals-change-nothing w (offer m re) e h =
+    let v = reading (w .record·) in
+    offer-same w (needOf v (length m)) _ (offerVerdict v (length (w .log)) (length m)) e (sym (offer-trips v (isReady (w .record·)) (length (w .log)) (length m)) ∙ h .0) (h .1)
+refusals-change-nothing w (claim n) e h =
+    let v = reading (w .record·) in
+    claim-same w (word n) _ (claimVerdict v (length (w .log)) (word n)) e (sym (claim-trips v (isReady (w .record·)) (length (w .log)) (word n)) ∙ h .0) (h .1)
+refusals-change-nothing w (fill k b) e h = fill-same w b (writeSpan (w .record·) (w .log) k (length b)) e h
+refusals-change-nothing w (commit k) e h = check-same w _ (claimCheck (w .record·) (w .log) k) e h
+refusals-change-nothing w (abort k) e h = check-same w _ (claimCheck (w .record·) (w .log) k) e h
+refusals-change-nothing w (setLimit n) e h = change-same w (withLimit (w .record·) n) (soundRecord (reading (withLimit (w .record·) n))) e h
+refusals-change-nothing w close e h = change-same w (withClosed (w .record·)) (soundRecord (reading (withClosed (w .record·)))) e h
+refusals-change-nothing w (clear k) e h = clear-same w (word k) (clearVerdict (reading (w .record·)) (length (w .log)) (word k)) e h
+refusals-change-nothing w (raise p) e h = raise-same w p (raiseVerdict (reading (w .record·)) (long p)) e h
 
 -- ---- polls count frames
 

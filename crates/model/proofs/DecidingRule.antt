@@ -13,18 +13,18 @@ use lib.IntN.{ℤ, pos}
 use Rattle.model.specs.declared.LogRecord.{LogRecord}
 use Rattle.model.specs.declared.Reading.{Reading}
 use Rattle.model.specs.declared.Error.{Error}
-use Rattle.model.specs.declared.Error.the-variants.{MaxPositionExceeded, LastTerm, AdminAction}
+use Rattle.model.specs.declared.Error.the-variants.{MaxPositionExceeded, LastTerm, NotCleared, AdminAction}
 use Rattle.model.specs.declared.Verdict.{Verdict}
 use Rattle.model.specs.declared.Verdict.the-variants.{Pass, Refuse}
 use Rattle.model.specs.declared.Offered.the-variants.{Position as OfferPosition, Refused as OfferRefused}
 use Rattle.model.specs.declared.Claimed.the-variants.{Position as ClaimPosition, Refused as ClaimRefused}
 use Rattle.model.specs.declared.Rule.{Rule}
-use Rattle.model.specs.declared.Rule.the-variants.{IllegalArgument as ByArgument, IllegalRecord as ByRecord, PublicationClosed as ByClosed, ExceedsMaxPayloadLength as ByPayload, CountOutOfStep, LimitPastMaxPosition, BackPressured as ByPressure, NotConnected as ByConnection, ExceedsMaxMessageLength as ByMessage, TailOverflow as ByTail, TripPastMaxPosition, LastTerm as ByLastTerm, TermRotated, Unfragmented, Fragmented, Claimed}
+use Rattle.model.specs.declared.Rule.the-variants.{IllegalArgument as ByArgument, IllegalRecord as ByRecord, PublicationClosed as ByClosed, ExceedsMaxPayloadLength as ByPayload, CountOutOfStep, LimitPastMaxPosition, BackPressured as ByPressure, NotConnected as ByConnection, ExceedsMaxMessageLength as ByMessage, TailOverflow as ByTail, TripPastMaxPosition, LastTerm as ByLastTerm, NotCleared as ByNotCleared, TermRotated, Unfragmented, Fragmented, Claimed}
 use Rattle.model.specs.Bytes.{word, long}
 use Rattle.model.specs.Errors.{numberOf}
 use Rattle.model.specs.Answers.{offeredTold, claimedTold}
 use Rattle.model.specs.FrameDescriptor.{space}
-use Rattle.model.specs.LogBufferDescriptor.{idPlus, idOf, offsetOf, rawOf, tailOf, readingOf, active, reading, payloadLimit, greatest, lastTerm, changed, withTail, withCount, nextTail, rotated}
+use Rattle.model.specs.LogBufferDescriptor.{idPlus, idOf, offsetOf, rawOf, tailOf, readingOf, active, reading, payloadLimit, greatest, lastTerm, isReady, changed, noted, withTail, withMark, withCount, nextTail, rotated}
 use Rattle.model.specs.TermAppender.{written, cut, claimed, claimRecord}
 use Rattle.model.specs.Rule.{ruleNumber, rulePlace, moves, order, firstOf, Asked, message, claim, needs, holds, decided}
 use Rattle.model.specs.Publication.{place, fits, onTrip, tripError, tripNext, appendNext, needOf, offerVerdict, offeredBy, nextBy, logBy, offerOf, offerBytes, claimVerdict, claimedBy, claimOf, claimBytes}
@@ -45,15 +45,15 @@ Rises n (x ∷ xs) = (rulePlace x ≡ n) × Rises (suc n) xs
 
 order-rises : Rises 1 order
 unfolding Rises order
-order-rises = (refl, (refl, (refl, (refl, (refl, (refl, (refl, (refl, (refl, (refl, (refl, (refl, (refl, (refl, (refl, (refl, tt))))))))))))))))
+order-rises = (refl, (refl, (refl, (refl, (refl, (refl, (refl, (refl, (refl, (refl, (refl, (refl, (refl, (refl, (refl, (refl, (refl, tt)))))))))))))))))
 
-order-long : length order ≡ 16
+order-long : length order ≡ 17
 unfolding order
 order-long = refl
 
 -- every rule stands in the order at its place
 abbrev Stands : Rule → Type 0
-Stands x = (getD order (rulePlace x - 1) Claimed ≡ x) × ((1 ≤ rulePlace x) × (rulePlace x < 17))
+Stands x = (getD order (rulePlace x - 1) Claimed ≡ x) × ((1 ≤ rulePlace x) × (rulePlace x < 18))
 
 stands : (x : Rule) → Stands x
 unfolding order
@@ -69,6 +69,7 @@ stands ByMessage = (refl, (omega arith, omega arith))
 stands ByTail = (refl, (omega arith, omega arith))
 stands TripPastMaxPosition = (refl, (omega arith, omega arith))
 stands ByLastTerm = (refl, (omega arith, omega arith))
+stands ByNotCleared = (refl, (omega arith, omega arith))
 stands TermRotated = (refl, (omega arith, omega arith))
 stands Unfragmented = (refl, (omega arith, omega arith))
 stands Fragmented = (refl, (omega arith, omega arith))
@@ -98,7 +99,7 @@ module _ (test : Rule → Bool) where
 
 -- a rotation leaves every tail but that of the next partition
 turned-tail : (x : LogRecord) (n i k : ℕ) → ¬ (k ≡ (n + 1) % 3) → tailOf (rotated x n i) k ≡ tailOf x k
-unfolding rotated nextTail withCount withTail changed
+unfolding rotated nextTail withCount withMark noted withTail changed
 turned-tail x n i k h =
     cond-case (λ (y : LogRecord). tailOf y k ≡ tailOf x k) (eqb (idPlus (idOf (tailOf x ((n + 1) % 3))) 2) i) (withTail x ((n + 1) % 3) (idPlus i 1) 0) x
     (λ q. getD-set-other (x .tails) ((n + 1) % 3) k (rawOf (idPlus i 1) 0) (pos 0) h) (λ q. refl)
@@ -122,26 +123,29 @@ module _ (r : LogRecord) (needed : ℕ) (three : length (r .tails) ≡ 3) (small
 
   appended-at : readingOf (appendNext r v needed) (active r) .offset ≡ v .offset + needed
   unfolding appendNext onTrip readingOf
-  appended-at = go (fits v needed) (ltb (greatest v) (place v + v .offset)) (lastTerm (v .count))
+  appended-at = go (fits v needed) (ltb (greatest v) (place v + v .offset)) (lastTerm (v .count)) (isReady r)
     where
-      go : (b g l : Bool) → at (cond b moved (cond g moved (cond l moved (rotated moved (v .count) (v .id))))) ≡ v .offset + needed
-      go true g l = moved-at
-      go false true l = moved-at
-      go false false true = moved-at
-      go false false false = ap offsetOf (turned-tail moved (v .count) (v .id) (active r) (λ q. omega arith)) ∙ moved-at
+      go : (b g l f : Bool) → at (cond b moved (cond g moved (cond l moved (cond f (rotated moved (v .count) (v .id)) moved)))) ≡ v .offset + needed
+      go true g l f = moved-at
+      go false true l f = moved-at
+      go false false true f = moved-at
+      go false false false false = moved-at
+      go false false false true = ap offsetOf (turned-tail moved (v .count) (v .id) (active r) (λ q. omega arith)) ∙ moved-at
 
 -- ---- number, tail, record and log, by the verdict
 
 -- a trip's rule has the refusal's number, and moves the tail
-trip-numbered : (v : Reading) → (numberOf (tripError v) ≡ ruleNumber (tripRule v)) × (moves (tripRule v) ≡ true)
+trip-numbered : (v : Reading) (ready : Bool) → (numberOf (tripError v ready) ≡ ruleNumber (tripRule v ready)) × (moves (tripRule v ready) ≡ true)
 unfolding onTrip
-trip-numbered v = go (ltb (greatest v) (place v + v .offset)) (lastTerm (v .count))
+trip-numbered v ready = go (ltb (greatest v) (place v + v .offset)) (lastTerm (v .count)) ready
   where
-    go : (g l : Bool) → (numberOf (cond g MaxPositionExceeded (cond l LastTerm AdminAction)) ≡ ruleNumber (cond g TripPastMaxPosition (cond l ByLastTerm TermRotated)))
-        × (moves (cond g TripPastMaxPosition (cond l ByLastTerm TermRotated)) ≡ true)
-    go true l = (refl, refl)
-    go false true = (refl, refl)
-    go false false = (refl, refl)
+    go : (g l f : Bool)
+        → (numberOf (cond g MaxPositionExceeded (cond l LastTerm (cond f AdminAction NotCleared))) ≡ ruleNumber (cond g TripPastMaxPosition (cond l ByLastTerm (cond f TermRotated ByNotCleared))))
+        × (moves (cond g TripPastMaxPosition (cond l ByLastTerm (cond f TermRotated ByNotCleared))) ≡ true)
+    go true l f = (refl, refl)
+    go false true f = (refl, refl)
+    go false false true = (refl, refl)
+    go false false false = (refl, refl)
 
 offered-numbered : (v : Reading) (m : ℕ) → (pos 0 ≡ ruleNumber (offeredRule v m)) × (moves (offeredRule v m) ≡ true)
 offered-numbered v m = go (leb m (payloadLimit v))
@@ -151,23 +155,24 @@ offered-numbered v m = go (leb m (payloadLimit v))
     go false = (refl, refl)
 
 -- the answer's number
-abbrev told : Reading → ℕ → Verdict → ℤ
-told v needed Pass = cond (fits v needed) (pos 0) (numberOf (tripError v))
-told v needed (Refuse e) = numberOf e
+abbrev told : Reading → Bool → ℕ → Verdict → ℤ
+told v ready needed Pass = cond (fits v needed) (pos 0) (numberOf (tripError v ready))
+told v ready needed (Refuse e) = numberOf e
 
-offered-told : (v : Reading) (needed : ℕ) (y : Verdict) → offeredTold (offeredBy v needed y) .number ≡ told v needed y
-offered-told v needed (Refuse e) = refl
-offered-told v needed Pass = go (fits v needed)
+offered-told : (r : LogRecord) (v : Reading) (needed : ℕ) (y : Verdict) → offeredTold (offeredBy r v needed y) .number ≡ told v (isReady r) needed y
+offered-told r v needed (Refuse e) = refl
+offered-told r v needed Pass = go (fits v needed)
   where
-    go : (b : Bool) → offeredTold (cond b (OfferPosition (pos (place v + needed))) (OfferRefused (tripError v))) .number ≡ cond b (pos 0) (numberOf (tripError v))
+    go : (b : Bool) → offeredTold (cond b (OfferPosition (pos (place v + needed))) (OfferRefused (tripError v (isReady r)))) .number ≡ cond b (pos 0) (numberOf (tripError v (isReady r)))
     go true = refl
     go false = refl
 
-claimed-told : (r : LogRecord) (v : Reading) (m : ℕ) (y : Verdict) → claimedTold (claimedBy r v m y) .number ≡ told v (space m) y
+claimed-told : (r : LogRecord) (v : Reading) (m : ℕ) (y : Verdict) → claimedTold (claimedBy r v m y) .number ≡ told v (isReady r) (space m) y
 claimed-told r v m (Refuse e) = refl
 claimed-told r v m Pass = go (fits v (space m))
   where
-    go : (b : Bool) → claimedTold (cond b (ClaimPosition (pos (place v + space m)) (claimRecord v (active r) m)) (ClaimRefused (tripError v))) .number ≡ cond b (pos 0) (numberOf (tripError v))
+    go : (b : Bool)
+        → claimedTold (cond b (ClaimPosition (pos (place v + space m)) (claimRecord v (active r) m)) (ClaimRefused (tripError v (isReady r)))) .number ≡ cond b (pos 0) (numberOf (tripError v (isReady r)))
     go true = refl
     go false = refl
 
@@ -175,16 +180,16 @@ module _ (r : LogRecord) (log new : List ℕ) (needed : ℕ) (accepted : Rule) (
   abbrev v· : Reading
   v· = reading r
 
-  passes : (b : Bool) → (cond b (pos 0) (numberOf (tripError v·)) ≡ ruleNumber (cond b accepted (tripRule v·))) × (moves (cond b accepted (tripRule v·)) ≡ true)
+  passes : (b : Bool) → (cond b (pos 0) (numberOf (tripError v· (isReady r))) ≡ ruleNumber (cond b accepted (tripRule v· (isReady r)))) × (moves (cond b accepted (tripRule v· (isReady r))) ≡ true)
   passes true = good
-  passes false = trip-numbered v·
+  passes false = trip-numbered v· (isReady r)
 
   record Left (y : Verdict) (x : Rule) : Type 0 where
-    numbered : told v· needed y ≡ ruleNumber x
+    numbered : told v· (isReady r) needed y ≡ ruleNumber x
     moved : moves x ≡ true → readingOf (nextBy r v· needed y) (active r) .offset ≡ v· .offset + needed
     still : moves x ≡ false → (nextBy r v· needed y ≡ r) × (logBy r v· log new needed y ≡ log)
 
-  by-verdict : (y : Verdict) (x : Rule) → Named (cond (fits v· needed) accepted (tripRule v·)) y x → Lets v· (length log) needed y → Left y x
+  by-verdict : (y : Verdict) (x : Rule) → Named (cond (fits v· needed) accepted (tripRule v· (isReady r))) y x → Lets v· (length log) needed y → Left y x
   by-verdict Pass x h l =
       let p = passes (fits v· needed) in
       let t = lets-through v· (length log) needed l in
@@ -197,22 +202,22 @@ module _ (r : LogRecord) (log new : List ℕ) (needed : ℕ) (accepted : Rule) (
 
 -- ---- the theorem
 
-module _ (v : Reading) (n : ℕ) where
+module _ (v : Reading) (ready : Bool) (n : ℕ) where
   -- a rule that holds stands no earlier than the one answered
-  first-of : (a : Asked) (x : Rule) → holds v n a x ≡ true → rulePlace (decided v n a) ≤ rulePlace x
+  first-of : (a : Asked) (x : Rule) → holds v ready n a x ≡ true → rulePlace (decided v ready n a) ≤ rulePlace x
   unfolding decided
-  first-of a x h = first-in-order (holds v n a) x h .1
+  first-of a x h = first-in-order (holds v ready n a) x h .1
 
   -- of any message one of the two rules that accept holds by itself, and of any claim the last
-  offer-applies : (m : ℕ) → holds v n (message m) (decided v n (message m)) ≡ true
+  offer-applies : (m : ℕ) → holds v ready n (message m) (decided v ready n (message m)) ≡ true
   unfolding decided holds
   offer-applies m =
-      test-case (leb m (payloadLimit v)) (λ e. first-in-order (holds v n (message m)) Unfragmented e .0)
-      (λ e. first-in-order (holds v n (message m)) Fragmented (lt-ltb (payloadLimit v) m (leb-false m (payloadLimit v) e)) .0)
+      test-case (leb m (payloadLimit v)) (λ e. first-in-order (holds v ready n (message m)) Unfragmented e .0)
+      (λ e. first-in-order (holds v ready n (message m)) Fragmented (lt-ltb (payloadLimit v) m (leb-false m (payloadLimit v) e)) .0)
 
-  claim-applies : (m : ℕ) → holds v n (claim m) (decided v n (claim m)) ≡ true
+  claim-applies : (m : ℕ) → holds v ready n (claim m) (decided v ready n (claim m)) ≡ true
   unfolding decided holds
-  claim-applies m = first-in-order (holds v n (claim m)) Claimed refl .0
+  claim-applies m = first-in-order (holds v ready n (claim m)) Claimed refl .0
 
 pub deciding-rule : DecidingRule
 unfolding offerOf offerBytes claimOf claimBytes
@@ -223,11 +228,11 @@ deciding-rule =
           let n = length m in
           let y = offerVerdict v (length log) n in
           let l = by-verdict r log (written v log (active r * v .term) (v .offset) (cut (payloadLimit v) (long reserved) m)) (needOf v n) (offeredRule v n) (offered-numbered v n) three y
-          (decided v (length log) (message n)) (offer-named v (length log) n) (offer-lets v (length log) n) in
+          (decided v (isReady r) (length log) (message n)) (offer-named v (isReady r) (length log) n) (offer-lets v (length log) n) in
           record {
-            applies = offer-applies v (length log) n;
-            first = first-of v (length log) (message n);
-            numbered = offered-told v (needOf v n) y ∙ l .numbered;
+            applies = offer-applies v (isReady r) (length log) n;
+            first = first-of v (isReady r) (length log) (message n);
+            numbered = offered-told r v (needOf v n) y ∙ l .numbered;
             moved = l .moved;
             some = need-some (payloadLimit v) n;
             still = l .still;
@@ -236,11 +241,11 @@ deciding-rule =
           let v = reading r in
           let n = word m in
           let y = claimVerdict v (length log) n in
-          let l = by-verdict r log (claimed v log (active r * v .term) n) (space n) Claimed (refl, refl) three y (decided v (length log) (claim n)) (claim-named v (length log) n)
+          let l = by-verdict r log (claimed v log (active r * v .term) n) (space n) Claimed (refl, refl) three y (decided v (isReady r) (length log) (claim n)) (claim-named v (isReady r) (length log) n)
           (claim-lets v (length log) n) in
           record {
-            applies = claim-applies v (length log) n;
-            first = first-of v (length log) (claim n);
+            applies = claim-applies v (isReady r) (length log) n;
+            first = first-of v (isReady r) (length log) (claim n);
             numbered = claimed-told r v n y ∙ l .numbered;
             moved = l .moved;
             some = omega arith;

@@ -39,6 +39,8 @@ ranged offset count initial term mtu limit =
       «publication_limit» = limit;
       «end_of_stream_position» = pos 9223372036854775807;
       «is_closed» = false;
+      «slowest_position» = pos 0;
+      «is_cleared» = false ∷ true ∷ true ∷ [];
     }
 
 abbrev sounds : LogRecord → Bool
@@ -282,6 +284,8 @@ module _ (log : List ℕ) (full : length log ≡ 196608) where
         «publication_limit» = pos 0;
         «end_of_stream_position» = p;
         «is_closed» = false;
+        «slowest_position» = pos 0;
+        «is_cleared» = false ∷ true ∷ true ∷ [];
       }
 
   at-the-end : endTold (endOfStreamOf (ending (pos 64)) log at64) ≡ is (pos 0) (pos 1 ∷ [])

@@ -7,7 +7,7 @@ use native.Mathlib.Omega.{arith}
 use borrow.Author.Tests.{le-leb, lt-ltb, le-ltb, eq-eqb}
 use lib.Dec.{leb}
 use lib.ListN.{length, take, drop, length-append, length-drop}
-use lib.Seq.{take-at, drop-drop}
+use lib.Seq.{take-at, drop-at, drop-drop}
 use lib.IntN.{ℤ, pos}
 use mir.Syntax.{w32}
 use mir.Val.{toZ}
@@ -31,7 +31,7 @@ use Rattle.model.proofs.Choice.{cond-true}
 use Rattle.model.proofs.Both.{both-true}
 use Rattle.model.proofs.Fields.{u32-low}
 use Rattle.model.proofs.Cells.{Cell, cell, stored, head, flen, fsize, solidAt, solid, enc, bytes, sizes, length-enc, fsize-32}
-use Rattle.model.proofs.Walking.{Small, AllSmall, Clear, entsOf, u32-enc, drop-next}
+use Rattle.model.proofs.Walking.{Small, AllSmall, Clear, entsOf, u32-enc}
 use Rattle.model.proofs.OneSession.{fragsOf, Asm, take-in, takes-in, takes-lost}
 use Rattle.model.proofs.Assembling.{sid, Same, drops, joins-alike}
 
@@ -82,14 +82,14 @@ module _ (r : LogRecord) (log : List ℕ) (snd : Sound (reading r) (length log))
   abbrev c· : Shape
   c· = shapeOf (reading r)
 
-  module _ (k at fl re : ℕ) (b rest : List ℕ) (s : Sessions) (buffer : List ℕ) (small : length buffer ≤ 2147483647) (third : k ≤ 2) (on : at % 32 ≡ 0)
-      (frame : drop (k * T + at) log ≡ enc c· (k * T + at) (cell committed fl re b) ++ rest)
+  module _ (k base at fl re : ℕ) (b rest : List ℕ) (s : Sessions) (buffer : List ℕ) (small : length buffer ≤ 2147483647) (third : k ≤ 2) (on : at % 32 ≡ 0)
+      (frame : drop (k * T + at) log ≡ enc c· (base + at) (cell committed fl re b) ++ rest)
       (tiny : Small (cell committed fl re b)) (room : fsize (cell committed fl re b) ≤ T - at) where
     abbrev long : ℕ
     long = length b + 32
 
     shows : u32 (drop (k * T + at) log) ≡ long
-    shows = ap u32 frame ∙ length-is c· (k * T + at) fl re b rest tiny
+    shows = ap u32 frame ∙ length-is c· (base + at) fl re b rest tiny
 
     aligned : align long ≤ T - at
     unfolding fsize flen
@@ -102,7 +102,7 @@ module _ (r : LogRecord) (log : List ℕ) (snd : Sound (reading r) (length log))
     reaches : k * T + at + 4 ≤ length log
     unfolding fsize flen
     reaches =
-        omega (arith, length-drop (k * T + at) log, ap length frame, length-append (enc c· (k * T + at) (cell committed fl re b)) rest, length-enc c· (k * T + at) (cell committed fl re b))
+        omega (arith, length-drop (k * T + at) log, ap length frame, length-append (enc c· (base + at) (cell committed fl re b)) rest, length-enc c· (base + at) (cell committed fl re b))
 
     framed : goodFrame log (k * T + at) ≡ true
     framed =
@@ -130,7 +130,7 @@ module _ (r : LogRecord) (log : List ℕ) (snd : Sound (reading r) (length log))
     body-is : take (u32 (drop (k * T + at) log) - 32) (drop 32 (drop (k * T + at) log)) ≡ b
     body-is =
         let n : u32 (drop (k * T + at) log) - 32 ≡ length b = omega (arith, shows) in
-        ap₂ (λ (m : ℕ) (l : List ℕ). take m (drop 32 l)) n frame ∙ body-enc c· (k * T + at) fl re b rest
+        ap₂ (λ (m : ℕ) (l : List ℕ). take m (drop 32 l)) n frame ∙ body-enc c· (base + at) fl re b rest
 
     pub given : assembleOf r log s buffer (pos k) (pos at) ≡ says (length b) (sid c·) fl b
     unfolding assembleOf
@@ -139,15 +139,27 @@ module _ (r : LogRecord) (log : List ℕ) (snd : Sound (reading r) (length log))
         ap (assembleBy s buffer (drop (k * T + at) log) at) passes
         ∙ ap₂ (λ (m : ℕ) (body : List ℕ). says m (i32 (drop 12 (drop (k * T + at) log))) (flagsAt (drop (k * T + at) log)) body) n body-is
         ∙ ap₂ (λ (z : ℤ) (flags : ℕ). says (length b) z flags b)
-        (ap (λ (l : List ℕ). i32 (drop 12 l)) frame ∙ session-enc c· (k * T + at) fl re b rest)
-        (ap flagsAt frame ∙ flags-enc c· (k * T + at) fl re b rest)
+        (ap (λ (l : List ℕ). i32 (drop 12 l)) frame ∙ session-enc c· (base + at) fl re b rest)
+        (ap flagsAt frame ∙ flags-enc c· (base + at) fl re b rest)
 
     -- the body in the log
     pub body-at : take (length b) (drop (k * T + (at + 32)) log) ≡ b
     body-at =
         let q : k * T + at + 32 ≡ k * T + (at + 32) = omega arith in
         ap (λ (n : ℕ). take (length b) (drop n log)) (sym q) ∙ ap (take (length b)) (sym (drop-drop 32 (k * T + at) log))
-        ∙ ap (λ (l : List ℕ). take (length b) (drop 32 l)) frame ∙ body-enc c· (k * T + at) fl re b rest
+        ∙ ap (λ (l : List ℕ). take (length b) (drop 32 l)) frame ∙ body-enc c· (base + at) fl re b rest
+
+  drop-on : (c : Shape) (k base at : ℕ) (f : Cell) (fs : List Cell) (t : List ℕ) → drop (k * T + at) log ≡ bytes c (base + at) (f ∷ fs) ++ t
+      → drop (k * T + (at + fsize f)) log ≡ bytes c (base + (at + fsize f)) fs ++ t
+  unfolding bytes
+  drop-on c k base at f fs t e =
+      let i : k * T + (at + fsize f) ≡ k * T + at + fsize f = omega arith in
+      let j : base + at + fsize f ≡ base + (at + fsize f) = omega arith in
+      ap (λ (n : ℕ). drop n log) i
+      ∙ sym (drop-drop (fsize f) (k * T + at) log)
+      ∙ ap (drop (fsize f)) (e ∙ append-assoc (enc c (base + at) f) (bytes c (base + at + fsize f) fs) t)
+      ∙ drop-at (enc c (base + at) f) (bytes c (base + at + fsize f) fs ++ t) (fsize f) (length-enc c (base + at) f)
+      ∙ ap (λ (n : ℕ). bytes c n fs ++ t) j
 
   -- ---- entries one after another
 
@@ -166,20 +178,20 @@ module _ (r : LogRecord) (log : List ℕ) (snd : Sound (reading r) (length log))
     pub same : Same c· size (p .sessions) (p .buffer) (a .held)
     pub out : p .out ≡ a .out
 
-  module _ (size k : ℕ) (small : size ≤ 2147483647) (third : k ≤ 2) where
+  module _ (size k base : ℕ) (small : size ≤ 2147483647) (third : k ≤ 2) where
     abbrev part : ℕ
     part = size / 16
 
     one-fed : (at fl re : ℕ) (b rest : List ℕ) (p : Replaying) (a : Asm) → at % 32 ≡ 0
-        → drop (k * T + at) log ≡ enc c· (k * T + at) (cell committed fl re b) ++ rest → Small (cell committed fl re b) → fsize (cell committed fl re b) ≤ T - at
+        → drop (k * T + at) log ≡ enc c· (base + at) (cell committed fl re b) ++ rest → Small (cell committed fl re b) → fsize (cell committed fl re b) ≤ T - at
         → Like size p a → Like size (feed r log k p (pos (at + 32))) (take-in part a (fl, b)) × (feed r log k p (pos (at + 32)) .image ≡ p .image)
     unfolding feed
     one-fed at fl re b rest p a on frame tiny room l =
         let q : at + 32 - 32 ≡ at = omega arith in
-        let g = given k at fl re b rest (p .sessions) (p .buffer) (omega (arith, l .same .long)) third on frame tiny room in
+        let g = given k base at fl re b rest (p .sessions) (p .buffer) (omega (arith, l .same .long)) third on frame tiny room in
         let w = ap (λ (n : ℕ). assembleOf r log (p .sessions) (p .buffer) (pos k) (pos n)) q ∙ g in
-        let j = joins-alike c· size (p .sessions) (p .buffer) (a .held) (l .same) (a .out) (a .lost) log (k * T) (at + 32) fl b (body-at k at fl re b rest (p .sessions) (p .buffer) (omega (arith, l .same .long)) third on frame tiny room) in
-        let y = says k at fl re b rest (p .sessions) (p .buffer) (omega (arith, l .same .long)) third on frame tiny room (length b) (sid c·) fl b in (
+        let j = joins-alike c· size (p .sessions) (p .buffer) (a .held) (l .same) (a .out) (a .lost) log (k * T) (at + 32) fl b (body-at k base at fl re b rest (p .sessions) (p .buffer) (omega (arith, l .same .long)) third on frame tiny room) in
+        let y = says k base at fl re b rest (p .sessions) (p .buffer) (omega (arith, l .same .long)) third on frame tiny room (length b) (sid c·) fl b in (
           subst (λ (y : Assembly). Like size (after log (k * T) p y) (take-in part a (fl, b))) (sym w)
               (subst (λ (n : ℕ). Like size (after log (k * T) p y) (take-in (n / 16) a (fl, b))) (l .same .long)
               (record { same = j .0; out = ap (λ (o : List (List ℕ)). o ++ handedOut log (k * T) (y .buffer) (y .answer)) (l .out) ∙ j .1 })),
@@ -187,36 +199,34 @@ module _ (r : LogRecord) (log : List ℕ) (snd : Sound (reading r) (length log))
         )
 
     pub all-fed : (at : ℕ) (fs : List Cell) (t : List ℕ) (p : Replaying) (a : Asm) → at % 32 ≡ 0 → Clear fs → AllSmall fs → sizes fs ≤ T - at
-        → drop (k * T + at) log ≡ bytes c· (k * T + at) fs ++ t → Like size p a
+        → drop (k * T + at) log ≡ bytes c· (base + at) fs ++ t → Like size p a
         → Like size (feedEach k (entsOf at fs) p) (takes-in part a (fragsOf fs)) × (feedEach k (entsOf at fs) p .image ≡ p .image)
     unfolding feedEach entsOf fragsOf takes-in Clear AllSmall sizes bytes
     all-fed at [] t p a on clear tiny room e l = (l, refl)
     all-fed at (cell open· fl re b ∷ fs) t p a on clear tiny room e l = absurd clear
     all-fed at (cell committed fl re b ∷ fs) t p a on clear tiny room e l =
         let f = cell committed fl re b in
-        let here = one-fed at fl re b (bytes c· (k * T + at + fsize f) fs ++ t) p a on (e ∙ append-assoc (enc c· (k * T + at) f) (bytes c· (k * T + at + fsize f) fs) t) (tiny .0) (omega arith) l in
-        let q : k * T + at + fsize f ≡ k * T + (at + fsize f) = omega arith in
+        let here = one-fed at fl re b (bytes c· (base + at + fsize f) fs ++ t) p a on (e ∙ append-assoc (enc c· (base + at) f) (bytes c· (base + at + fsize f) fs) t) (tiny .0) (omega arith) l in
         let go = all-fed (at + fsize f) fs t (feed r log k p (pos (at + 32))) (take-in part a (fl, b)) (omega (arith, fsize-32 f)) clear (tiny .1) (omega arith)
-        (subst (λ (n : ℕ). drop n log ≡ bytes c· n fs ++ t) q (drop-next c· (k * T + at) f fs t log e)) (here .0) in
+        (drop-on c· k base at f fs t e) (here .0) in
         (go .0, go .1 ∙ here .1)
     all-fed at (cell aborted fl re b ∷ fs) t p a on clear tiny room e l =
         let f = cell aborted fl re b in
-        let q : k * T + at + fsize f ≡ k * T + (at + fsize f) = omega arith in
-        all-fed (at + fsize f) fs t p a (omega (arith, fsize-32 f)) clear (tiny .1) (omega arith) (subst (λ (n : ℕ). drop n log ≡ bytes c· n fs ++ t) q (drop-next c· (k * T + at) f fs t log e)) l
+        all-fed (at + fsize f) fs t p a (omega (arith, fsize-32 f)) clear (tiny .1) (omega arith) (drop-on c· k base at f fs t e) l
 
     -- a frame that the real assembler refuses is one that the other lost
     refused-lost : (at fl re : ℕ) (b rest : List ℕ) (p : Replaying) (a : Asm) (on : at % 32 ≡ 0)
-        (frame : drop (k * T + at) log ≡ enc c· (k * T + at) (cell committed fl re b) ++ rest) (tiny : Small (cell committed fl re b)) (room : fsize (cell committed fl re b) ≤ T - at)
+        (frame : drop (k * T + at) log ≡ enc c· (base + at) (cell committed fl re b) ++ rest) (tiny : Small (cell committed fl re b)) (room : fsize (cell committed fl re b) ≤ T - at)
         (l : Like size p a) (e : Error) → assembleOf r log (p .sessions) (p .buffer) (pos k) (pos at) .answer ≡ AssemblyRefused e → take-in part a (fl, b) .lost ≡ true
     refused-lost at fl re b rest p a on frame tiny room l e h =
-        let g = given k at fl re b rest (p .sessions) (p .buffer) (omega (arith, l .same .long)) third on frame tiny room in
-        let j = joins-alike c· size (p .sessions) (p .buffer) (a .held) (l .same) (a .out) (a .lost) log (k * T) (at + 32) fl b (body-at k at fl re b rest (p .sessions) (p .buffer) (omega (arith, l .same .long)) third on frame tiny room) in
+        let g = given k base at fl re b rest (p .sessions) (p .buffer) (omega (arith, l .same .long)) third on frame tiny room in
+        let j = joins-alike c· size (p .sessions) (p .buffer) (a .held) (l .same) (a .out) (a .lost) log (k * T) (at + 32) fl b (body-at k base at fl re b rest (p .sessions) (p .buffer) (omega (arith, l .same .long)) third on frame tiny room) in
         let q = dropped (at + 32) (length b) (partLength (length (p .buffer))) (joining (p .sessions) (sid c·) fl (length b) (partLength (length (p .buffer)))) e (ap (λ (y : Assembly). y .answer) (sym g) ∙ h) in
         subst (λ (n : ℕ). take-in (n / 16) a (fl, b) .lost ≡ true) (l .same .long) (j .2 q)
 
     -- of frames with one body to hand out
     pub one-lost : (at : ℕ) (fs : List Cell) (t : List ℕ) (p : Replaying) (a : Asm) → at % 32 ≡ 0 → Clear fs → AllSmall fs → sizes fs ≤ T - at
-        → drop (k * T + at) log ≡ bytes c· (k * T + at) fs ++ t → Like size p a
+        → drop (k * T + at) log ≡ bytes c· (base + at) fs ++ t → Like size p a
         → (m n : ℕ) → entsOf at fs ≡ (m, n) ∷ [] → (e : Error) → assembleOf r log (p .sessions) (p .buffer) (pos k) (pos (m - 32)) .answer ≡ AssemblyRefused e
         → takes-in part a (fragsOf fs) .lost ≡ true
     unfolding entsOf fragsOf takes-in Clear AllSmall sizes bytes
@@ -227,9 +237,8 @@ module _ (r : LogRecord) (log : List ℕ) (snd : Sound (reading r) (length log))
         let first : at + 32 ≡ m = ap first-of s in
         let place : m - 32 ≡ at = omega arith in
         takes-lost part (take-in part a (fl, b)) (fragsOf fs)
-        (refused-lost at fl re b (bytes c· (k * T + at + fsize f) fs ++ t) p a on (e ∙ append-assoc (enc c· (k * T + at) f) (bytes c· (k * T + at + fsize f) fs) t) (tiny .0) (omega arith) l q
+        (refused-lost at fl re b (bytes c· (base + at + fsize f) fs ++ t) p a on (e ∙ append-assoc (enc c· (base + at) f) (bytes c· (base + at + fsize f) fs) t) (tiny .0) (omega arith) l q
         (ap (λ (x : ℕ). assembleOf r log (p .sessions) (p .buffer) (pos k) (pos x) .answer) (sym place) ∙ h))
     one-lost at (cell aborted fl re b ∷ fs) t p a on clear tiny room e l m n s q h =
         let f = cell aborted fl re b in
-        let j : k * T + at + fsize f ≡ k * T + (at + fsize f) = omega arith in
-        one-lost (at + fsize f) fs t p a (omega (arith, fsize-32 f)) clear (tiny .1) (omega arith) (subst (λ (n : ℕ). drop n log ≡ bytes c· n fs ++ t) j (drop-next c· (k * T + at) f fs t log e)) l m n s q h
+        one-lost (at + fsize f) fs t p a (omega (arith, fsize-32 f)) clear (tiny .1) (omega arith) (drop-on c· k base at f fs t e) l m n s q h

@@ -21,16 +21,16 @@ use Rattle.model.specs.declared.Claim.{Claim}
 use Rattle.model.specs.declared.Reading.{Reading}
 use Rattle.model.specs.Bytes.{word, long, splice, zeros}
 use Rattle.model.specs.FrameDescriptor.{space, negated}
-use Rattle.model.specs.LogBufferDescriptor.{idPlus, idMinus, reading, payloadLimit, sound, Sound}
+use Rattle.model.specs.LogBufferDescriptor.{idPlus, idMinus, payloadLimit, greatest, sound, Sound}
 use Rattle.model.specs.TermAppender.{header, Fragment, cutFrom, cut, need, written, padded, claimed, claimRecord}
-use Rattle.model.specs.History.{World, Shape, shapeOf, State, open·, committed, aborted, Extent, message, claimed·, padding, sizeOf, sizeAll, padTo, startOf, Among}
+use Rattle.model.specs.History.{Shape, shapeOf, State, open·, committed, aborted, Extent, message, claimed·, padding, sizeOf, sizeAll, padTo, termOf, startOf, Among}
 use Rattle.model.proofs.Choice.{split, cond-true, cond-false, eq-yes, eq-no, le-case}
 use Rattle.model.proofs.Splice.{length-zeros}
 use Rattle.model.proofs.Sound.{term-32, sound-by}
 use Rattle.model.proofs.Cells.{Cell, cell, stored, typ, head, flen, enc, bytes, sizes, length-bytes, bytes-append, sizes-append, flen-ge, fsize-ge, sizes-32}
 use Rattle.model.proofs.Walking.{Small, AllSmall, Fits}
 use Rattle.model.proofs.OneSession.{cells, frames, flat}
-use Rattle.model.proofs.Tails.{count-of, Tails, with-tail}
+use Rattle.model.proofs.Tails.{count-of, with-tail}
 use Rattle.model.proofs.Writing.{fits-in, fits-append, puts, head-is, put-head, fsize-zeros}
 use Rattle.model.proofs.Around.{Pads, message-size, size-all, pads-snoc, size-snoc, flat-snoc, IsClaim, At, at-append, at-new}
 
@@ -51,7 +51,7 @@ pub record Fixed (v : Reading) : Type 0 where
 pub record Known (c : Shape) (h : List Extent) (k : Claim) : Type 0 where
   pub at : At c (startOf c k) (word (k .length) - 32) h
   pub long : 32 ≤ word (k .length)
-  pub place : word (k .partition) * c .term + word (k .offset) ≡ startOf c k
+  pub place : word (k .partition) ≡ termOf c k % 3
 
 unfoldable pub AllKnown : Shape → List Extent → List Claim → Type 0
 AllKnown c h [] = Unit {0}
@@ -77,25 +77,20 @@ pub record Holds (c : Shape) (v : Reading) (log : List ℕ) (h : List Extent) (k
   pub is : shapeOf v ≡ c
   pub fixed : Fixed v
   pub here : v .id ≡ idPlus (v .initial) (v .count)
-  pub low : v .count < 3
+  pub low : v .count < 2147483648
   pub size : sizes (flat c h) ≡ v .count * c .term + min (v .offset) (c .term)
-  pub bytes-are : log ≡ bytes c 0 (flat c h) ++ zeros (3 * c .term - sizes (flat c h))
+  pub bytes-are : log ≡ bytes c 0 (flat c h) ++ zeros (2147483648 * c .term - sizes (flat c h))
   pub fits : Fits (c .term) (c .term) (flat c h)
   pub whole : v .offset % 32 ≡ 0
   pub most : v .offset ≤ 2147483647
   pub bound : v .limit ≤ 4611686018427387904
+  pub slow-high : v .slowest ≤ greatest v
+  pub slow-32 : v .slowest % 32 ≡ 0
   pub pads : Pads h
   pub known : AllKnown c h ks
 
-pub record Inv (c : Shape) (w : World) (h : List Extent) (ks : List Claim) : Type 0 where
-  pub tails : Tails (w .record·)
-  pub holds : Holds c (reading (w .record·)) (w .log) h ks
-
-below-three : (k T : ℕ) → k < 3 → k * T + T ≤ 3 * T
-below-three k T h = omega (arith, mul-le-mul-right T h)
-
-three-below : (k T : ℕ) → k * T < 3 * T → k < 3
-three-below k T h = split 3 k (λ l. absurd (omega (arith, mul-le-mul-right T l))) (λ l. l)
+below-all : (k T : ℕ) → k < 2147483648 → k * T + T ≤ 2147483648 * T
+below-all k T h = omega (arith, mul-le-mul-right T h)
 
 -- ---- frames of messages
 
@@ -144,13 +139,13 @@ module _ (v : Reading) (log : List ℕ) (h : List Extent) (ks : List Claim) (i :
   pay-high = omega (arith, i .fixed .mtu-high)
 
   -- row 2 is met
-  long-log : length log ≡ 3 * T
+  pub long-log : length log ≡ 2147483648 * T
   long-log =
-      ap length (i .bytes-are) ∙ length-append (bytes c· 0 (flat c· h)) (zeros (3 * T - sizes (flat c· h)))
-      ∙ omega (arith, length-bytes c· 0 (flat c· h), length-zeros (3 * T - sizes (flat c· h)), i .size, below-three (v .count) T (i .low))
+      ap length (i .bytes-are) ∙ length-append (bytes c· 0 (flat c· h)) (zeros (2147483648 * T - sizes (flat c· h)))
+      ∙ omega (arith, length-bytes c· 0 (flat c· h), length-zeros (2147483648 * T - sizes (flat c· h)), i .size, below-all (v .count) T (i .low))
 
-  pub is-sound : Sound v (length log)
-  is-sound =
+  pub is-sound : (n : ℕ) → n ≡ 3 * T → Sound v n
+  is-sound n e =
       record {
         term-low = i .fixed .term-low;
         term-high = i .fixed .term-high;
@@ -160,22 +155,21 @@ module _ (v : Reading) (log : List ℕ) (h : List Extent) (ks : List Claim) (i :
         mtu-32 = i .fixed .mtu-32;
         count-high = omega (arith, i .low);
         limit-high = i .bound;
+        slowest-high = i .slow-high;
+        slowest-32 = i .slow-32;
         offset-32 = i .whole;
         offset-high = i .most;
-        three = long-log;
+        three = e;
       }
 
-  pub sound-is : sound v (length log) ≡ true
-  sound-is =
-      sym (sound-by v (length log) (i .fixed .term-low) (i .fixed .term-high) (i .fixed .one-bit) (i .fixed .mtu-low) (i .fixed .mtu-high) (i .fixed .mtu-32)
-      (omega (arith, i .low)) (i .bound) (i .whole) (i .most))
-      ∙ eq-true long-log
-    where
-      eq-true : length log ≡ 3 * v .term → eqb (length log) (3 * v .term) ≡ true
-      eq-true e = eq-eqb (length log) (3 * v .term) e
+  pub sound-is : (n : ℕ) → n ≡ 3 * T → sound v n ≡ true
+  sound-is n e =
+      sym (sound-by v n (i .fixed .term-low) (i .fixed .term-high) (i .fixed .one-bit) (i .fixed .mtu-low) (i .fixed .mtu-high) (i .fixed .mtu-32)
+      (omega (arith, i .low)) (i .bound) (i .slow-high) (i .slow-32) (i .whole) (i .most))
+      ∙ eq-eqb n (3 * v .term) e
 
   even : T % 32 ≡ 0
-  even = term-32 v (length log) is-sound
+  even = term-32 v (3 * T) (is-sound (3 * T) refl)
 
   pub history-size : sizeAll c· h ≡ v .count * T + min (v .offset) T
   history-size = size-all c· (omega (arith, pay-low)) pay-32 h (i .pads) ∙ i .size
@@ -183,8 +177,8 @@ module _ (v : Reading) (log : List ℕ) (h : List Extent) (ks : List Claim) (i :
   front-long : v .offset ≤ T → length (bytes c· 0 (flat c· h)) ≡ v .count * T + v .offset
   front-long l = omega (arith, length-bytes c· 0 (flat c· h), i .size)
 
-  enough : (n : ℕ) → v .offset + n ≤ T → n ≤ 3 * T - sizes (flat c· h)
-  enough n l = omega (arith, i .size, below-three (v .count) T (i .low))
+  enough : (n : ℕ) → v .offset + n ≤ T → n ≤ 2147483648 * T - sizes (flat c· h)
+  enough n l = omega (arith, i .size, below-all (v .count) T (i .low))
 
   -- ---- frames behind the last, in the term
 
@@ -204,17 +198,17 @@ module _ (v : Reading) (log : List ℕ) (h : List Extent) (ks : List Claim) (i :
         (fits-append T 0 (flat c· h) gs pos-T (subst (λ (n : ℕ). Fits T n (flat c· h)) (sym full) (i .fits))
         (subst (λ (n : ℕ). Fits T (T - n) gs) (sym here) (fits-in T (T - v .offset) gs s (omega arith)))))
 
-    grown-log : (log′ : List ℕ) → log′ ≡ (bytes c· 0 (flat c· h) ++ bytes c· (v .count * T + v .offset) gs) ++ zeros (3 * T - sizes (flat c· h) - sizes gs)
-        → log′ ≡ bytes c· 0 (flat c· h′) ++ zeros (3 * T - sizes (flat c· h′))
+    grown-log : (log′ : List ℕ) → log′ ≡ (bytes c· 0 (flat c· h) ++ bytes c· (v .count * T + v .offset) gs) ++ zeros (2147483648 * T - sizes (flat c· h) - sizes gs)
+        → log′ ≡ bytes c· 0 (flat c· h′) ++ zeros (2147483648 * T - sizes (flat c· h′))
     grown-log log′ q =
         q
         ∙ ap₂ (λ (p n : ℕ). (bytes c· 0 (flat c· h) ++ bytes c· p gs) ++ zeros n) (omega (arith, at-end)) (omega (arith, grown-size, at-end))
-        ∙ ap (λ (b : List ℕ). b ++ zeros (3 * T - sizes (flat c· h′))) (sym (bytes-append c· 0 (flat c· h) gs) ∙ ap (bytes c· 0) (sym e))
+        ∙ ap (λ (b : List ℕ). b ++ zeros (2147483648 * T - sizes (flat c· h′))) (sym (bytes-append c· 0 (flat c· h) gs) ∙ ap (bytes c· 0) (sym e))
 
     -- with a tail that stands at the end
     grow : (count id offset : ℕ) (log′ : List ℕ) (ks′ : List Claim)
-        → log′ ≡ (bytes c· 0 (flat c· h) ++ bytes c· (v .count * T + v .offset) gs) ++ zeros (3 * T - sizes (flat c· h) - sizes gs)
-        → id ≡ idPlus (v .initial) count → count < 3 → count * T + min offset T ≡ v .count * T + (v .offset + sizes gs)
+        → log′ ≡ (bytes c· 0 (flat c· h) ++ bytes c· (v .count * T + v .offset) gs) ++ zeros (2147483648 * T - sizes (flat c· h) - sizes gs)
+        → id ≡ idPlus (v .initial) count → count < 2147483648 → count * T + min offset T ≡ v .count * T + (v .offset + sizes gs)
         → offset % 32 ≡ 0 → offset ≤ 2147483647 → Pads h′ → AllKnown c· h′ ks′ → Holds c· (with-tail v count id offset) log′ h′ ks′
     grow count id offset log′ ks′ q d k p m o b a =
         record {
@@ -228,6 +222,8 @@ module _ (v : Reading) (log : List ℕ) (h : List Extent) (ks : List Claim) (i :
           whole = m;
           most = o;
           bound = i .bound;
+          slow-high = i .slow-high;
+          slow-32 = i .slow-32;
           pads = b;
           known = a;
         }
@@ -236,10 +232,10 @@ module _ (v : Reading) (log : List ℕ) (h : List Extent) (ks : List Claim) (i :
 
   offer-log : (re : ℕ) (m : List ℕ) → v .offset + sizes (cells (cut pay re m)) ≤ T
       → written v log (v .count * T) (v .offset) (cut pay re m)
-      ≡ (bytes c· 0 (flat c· h) ++ bytes c· (v .count * T + v .offset) (cells (cut pay re m))) ++ zeros (3 * T - sizes (flat c· h) - sizes (cells (cut pay re m)))
+      ≡ (bytes c· 0 (flat c· h) ++ bytes c· (v .count * T + v .offset) (cells (cut pay re m))) ++ zeros (2147483648 * T - sizes (flat c· h) - sizes (cells (cut pay re m)))
   offer-log re m l =
       ap (λ (x : List ℕ). written v x (v .count * T) (v .offset) (cut pay re m)) (i .bytes-are)
-      ∙ puts v (v .count) (i .here) (v .offset) (3 * T - sizes (flat c· h)) (bytes c· 0 (flat c· h)) (cut pay re m) (front-long (omega arith)) l (enough (sizes (cells (cut pay re m))) l)
+      ∙ puts v (v .count) (i .here) (v .offset) (2147483648 * T - sizes (flat c· h)) (bytes c· 0 (flat c· h)) (cut pay re m) (front-long (omega arith)) l (enough (sizes (cells (cut pay re m))) l)
 
   -- the fragments of a message take what it needs, at least 32, and are small
   need-size : (re : ℕ) (m : List ℕ) → sizes (cells (cut pay re m)) ≡ need pay (length m)
@@ -286,12 +282,12 @@ module _ (v : Reading) (log : List ℕ) (h : List Extent) (ks : List Claim) (i :
 
   claim-log : (n : ℕ) → v .offset + space n ≤ T
       → claimed v log (v .count * T) n
-      ≡ (bytes c· 0 (flat c· h) ++ bytes c· (v .count * T + v .offset) (cell open· 192 0 (zeros n) ∷ [])) ++ zeros (3 * T - sizes (flat c· h) - sizes (cell open· 192 0 (zeros n) ∷ []))
+      ≡ (bytes c· 0 (flat c· h) ++ bytes c· (v .count * T + v .offset) (cell open· 192 0 (zeros n) ∷ [])) ++ zeros (2147483648 * T - sizes (flat c· h) - sizes (cell open· 192 0 (zeros n) ∷ []))
   unfolding claimed bytes sizes stored typ
   claim-log n l =
       let p = v .count * T + v .offset in
       ap₂ (λ (x y : List ℕ). splice x p y) (i .bytes-are) (head-is v (v .count) (i .here) (v .offset) (negated (n + 32)) 192 1)
-      ∙ put-head c· (v .count) (v .offset) (3 * T - sizes (flat c· h)) (bytes c· 0 (flat c· h)) open· 192 n (front-long (omega arith)) (omega arith) (enough (space n) l)
+      ∙ put-head c· (v .count) (v .offset) (2147483648 * T - sizes (flat c· h)) (bytes c· 0 (flat c· h)) open· 192 n (front-long (omega arith)) (omega arith) (enough (space n) l)
       ∙ ap₂ (λ (x : List ℕ) (m : ℕ). (bytes c· 0 (flat c· h) ++ x) ++ zeros m) (sym (append-nil (enc c· p (cell open· 192 0 (zeros n))))) (omega (arith, fsize-zeros open· 192 n))
 
   frames-claim : (b : List ℕ) → frames c· (claimed· open· b) ≡ cell open· 192 0 b ∷ []
@@ -308,27 +304,37 @@ module _ (v : Reading) (log : List ℕ) (h : List Extent) (ks : List Claim) (i :
   pub own-count : idMinus (v .id) (v .initial) ≡ v .count
   own-count = count-of v (i .fixed .initial-small) (omega (arith, i .low)) (i .here)
 
-  claim-starts : v .id < 4294967296 → v .offset ≤ T → (n : ℕ) → startOf c· (claimRecord v (v .count) n) ≡ sizeAll c· h
-  unfolding startOf claimRecord
-  claim-starts s l n =
-      ap (λ (d : ℕ). idMinus d (v .initial) * T + v .offset) (id-back s) ∙ ap (λ (d : ℕ). d * T + v .offset) own-count ∙ omega (arith, history-size)
+  claim-term : v .id < 4294967296 → (n : ℕ) → termOf c· (claimRecord v (v .count % 3) n) ≡ v .count
+  unfolding termOf claimRecord
+  claim-term s n = ap (λ (d : ℕ). idMinus d (v .initial)) (id-back s) ∙ own-count
+
+  claim-offset : (n : ℕ) → word (claimRecord v (v .count % 3) n .offset) ≡ v .offset
+  unfolding claimRecord
+  claim-offset n = refl
+
+  claim-starts : v .id < 4294967296 → v .offset ≤ T → (n : ℕ) → startOf c· (claimRecord v (v .count % 3) n) ≡ sizeAll c· h
+  unfolding startOf
+  claim-starts s l n = ap₂ (λ (d o : ℕ). d * T + o) (claim-term s n) (claim-offset n) ∙ omega (arith, history-size)
 
   is-claim : (n : ℕ) → IsClaim (n + 32 - 32) (claimed· open· (zeros n))
   unfolding IsClaim
   is-claim n = omega (arith, length-zeros n)
 
-  claim-spot : v .id < 4294967296 → (n : ℕ) → word (claimRecord v (v .count) n .partition) * T + word (claimRecord v (v .count) n .offset) ≡ startOf c· (claimRecord v (v .count) n)
-  unfolding startOf claimRecord
-  claim-spot s n = sym (ap (λ (d : ℕ). idMinus d (v .initial) * T + v .offset) (id-back s) ∙ ap (λ (d : ℕ). d * T + v .offset) own-count)
+  partition-is : (n : ℕ) → word (claimRecord v (v .count % 3) n .partition) ≡ v .count % 3
+  unfolding claimRecord
+  partition-is n = refl
 
-  claim-length : (n : ℕ) → word (claimRecord v (v .count) n .length) ≡ n + 32
+  claim-spot : v .id < 4294967296 → (n : ℕ) → word (claimRecord v (v .count % 3) n .partition) ≡ termOf c· (claimRecord v (v .count % 3) n) % 3
+  claim-spot s n = partition-is n ∙ ap (λ (d : ℕ). d % 3) (sym (claim-term s n))
+
+  claim-length : (n : ℕ) → word (claimRecord v (v .count % 3) n .length) ≡ n + 32
   unfolding claimRecord
   claim-length n = refl
 
-  claim-known : v .id < 4294967296 → v .offset ≤ T → (n : ℕ) → Known c· (h ++ (claimed· open· (zeros n) ∷ [])) (claimRecord v (v .count) n)
+  claim-known : v .id < 4294967296 → v .offset ≤ T → (n : ℕ) → Known c· (h ++ (claimed· open· (zeros n) ∷ [])) (claimRecord v (v .count % 3) n)
   claim-known s l n =
       record {
-        at = subst (λ (q : ℕ). At c· q (word (claimRecord v (v .count) n .length) - 32) (h ++ (claimed· open· (zeros n) ∷ []))) (sym (claim-starts s l n))
+        at = subst (λ (q : ℕ). At c· q (word (claimRecord v (v .count % 3) n .length) - 32) (h ++ (claimed· open· (zeros n) ∷ []))) (sym (claim-starts s l n))
             (subst (λ (m : ℕ). At c· (sizeAll c· h) (m - 32) (h ++ (claimed· open· (zeros n) ∷ []))) (sym (claim-length n)) (at-new c· (n + 32 - 32) h (claimed· open· (zeros n)) (is-claim n)));
         long = omega (arith, claim-length n);
         place = claim-spot s n;
@@ -347,15 +353,15 @@ module _ (v : Reading) (log : List ℕ) (h : List Extent) (ks : List Claim) (i :
   both-known g k a b = (a, b)
 
   pub claim-holds : v .id < 4294967296 → (n : ℕ) → n ≤ pay → v .offset + space n ≤ T → v .offset + space n ≤ 2147483647
-      → Holds c· (with-tail v (v .count) (v .id) (v .offset + space n)) (claimed v log (v .count * T) n) (h ++ (claimed· open· (zeros n) ∷ [])) (claimRecord v (v .count) n ∷ ks)
+      → Holds c· (with-tail v (v .count) (v .id) (v .offset + space n)) (claimed v log (v .count * T) n) (h ++ (claimed· open· (zeros n) ∷ [])) (claimRecord v (v .count % 3) n ∷ ks)
   claim-holds s n p l o =
       let gs = cell open· 192 0 (zeros n) ∷ [] in
       let h′ = h ++ (claimed· open· (zeros n) ∷ []) in
       let e : sizes gs ≡ space n = one-size open· 192 n in
       grow gs h′ (flat-snoc c· h (claimed· open· (zeros n)) ∙ ap (λ (x : List Cell). flat c· h ++ x) (frames-claim (zeros n))) (one-small open· 192 n (omega (arith, pay-high))) (omega arith) (omega arith)
-      (v .count) (v .id) (v .offset + space n) (claimed v log (v .count * T) n) (claimRecord v (v .count) n ∷ ks) (claim-log n l) (i .here) (i .low)
+      (v .count) (v .id) (v .offset + space n) (claimed v log (v .count * T) n) (claimRecord v (v .count % 3) n ∷ ks) (claim-log n l) (i .here) (i .low)
       (omega arith) (omega (arith, i .whole)) o (no-pads (claimed· open· (zeros n)) (claim-pads (zeros n)))
-      (both-known h′ (claimRecord v (v .count) n) (claim-known s (omega arith) n) (known-on c· h h′ ks (λ q m a. at-append c· q m h (claimed· open· (zeros n) ∷ []) a) (i .known)))
+      (both-known h′ (claimRecord v (v .count % 3) n) (claim-known s (omega arith) n) (known-on c· h h′ ks (λ q m a. at-append c· q m h (claimed· open· (zeros n) ∷ []) a) (i .known)))
 
   claim-long : (n : ℕ) → sizeOf c· (claimed· open· (zeros n)) ≡ space n
   unfolding sizeOf
@@ -385,12 +391,12 @@ module _ (v : Reading) (log : List ℕ) (h : List Extent) (ks : List Claim) (i :
 
   pad-log : v .offset < T
       → splice log (v .count * T + v .offset) (header v (v .offset) (T - v .offset) 192 0)
-      ≡ (bytes c· 0 (flat c· h) ++ bytes c· (v .count * T + v .offset) (cell aborted 192 0 (zeros left) ∷ [])) ++ zeros (3 * T - sizes (flat c· h) - sizes (cell aborted 192 0 (zeros left) ∷ []))
+      ≡ (bytes c· 0 (flat c· h) ++ bytes c· (v .count * T + v .offset) (cell aborted 192 0 (zeros left) ∷ [])) ++ zeros (2147483648 * T - sizes (flat c· h) - sizes (cell aborted 192 0 (zeros left) ∷ []))
   unfolding bytes sizes stored typ
   pad-log l =
       let p = v .count * T + v .offset in
       ap₂ (λ (x y : List ℕ). splice x p y) (i .bytes-are) (head-is v (v .count) (i .here) (v .offset) (T - v .offset) 192 0 ∙ ap (λ (n : ℕ). head c· (v .offset) (c· .initial + v .count) n 192 0) (room-left l))
-      ∙ put-head c· (v .count) (v .offset) (3 * T - sizes (flat c· h)) (bytes c· 0 (flat c· h)) aborted 192 left (front-long (omega arith)) l (enough (space left) (omega (arith, space-left l)))
+      ∙ put-head c· (v .count) (v .offset) (2147483648 * T - sizes (flat c· h)) (bytes c· 0 (flat c· h)) aborted 192 left (front-long (omega arith)) l (enough (space left) (omega (arith, space-left l)))
       ∙ ap₂ (λ (x : List ℕ) (m : ℕ). (bytes c· 0 (flat c· h) ++ x) ++ zeros m) (sym (append-nil (enc c· p (cell aborted 192 0 (zeros left))))) (omega (arith, fsize-zeros aborted 192 left))
 
   frames-padding : frames c· (padding (T - v .offset)) ≡ cell aborted 192 0 (zeros left) ∷ []
@@ -401,7 +407,7 @@ module _ (v : Reading) (log : List ℕ) (h : List Extent) (ks : List Claim) (i :
   unfolding Pads
   padding-pads l = (omega (arith, i .whole, even), omega (arith, i .whole, even), tt)
 
-  pad-holds : v .offset < T → (count id offset : ℕ) → id ≡ idPlus (v .initial) count → count < 3 → count * T + min offset T ≡ v .count * T + T → offset % 32 ≡ 0 → offset ≤ 2147483647
+  pad-holds : v .offset < T → (count id offset : ℕ) → id ≡ idPlus (v .initial) count → count < 2147483648 → count * T + min offset T ≡ v .count * T + T → offset % 32 ≡ 0 → offset ≤ 2147483647
       → Holds c· (with-tail v count id offset) (splice log (v .count * T + v .offset) (header v (v .offset) (T - v .offset) 192 0)) (h ++ (padding (T - v .offset) ∷ [])) ks
   pad-holds l count id offset d k p m o =
       let gs = cell aborted 192 0 (zeros left) ∷ [] in
@@ -411,7 +417,7 @@ module _ (v : Reading) (log : List ℕ) (h : List Extent) (ks : List Claim) (i :
       (known-on c· h (h ++ (padding (T - v .offset) ∷ [])) ks (λ q n a. at-append c· q n h (padding (T - v .offset) ∷ []) a) (i .known))
 
   -- nothing is left of the term
-  full-holds : T ≤ v .offset → (count id offset : ℕ) → id ≡ idPlus (v .initial) count → count < 3 → count * T + min offset T ≡ v .count * T + T → offset % 32 ≡ 0 → offset ≤ 2147483647
+  full-holds : T ≤ v .offset → (count id offset : ℕ) → id ≡ idPlus (v .initial) count → count < 2147483648 → count * T + min offset T ≡ v .count * T + T → offset % 32 ≡ 0 → offset ≤ 2147483647
       → Holds c· (with-tail v count id offset) log h ks
   full-holds l count id offset d k p m o =
       record {
@@ -425,6 +431,8 @@ module _ (v : Reading) (log : List ℕ) (h : List Extent) (ks : List Claim) (i :
         whole = m;
         most = o;
         bound = i .bound;
+        slow-high = i .slow-high;
+        slow-32 = i .slow-32;
         pads = i .pads;
         known = i .known;
       }
@@ -447,7 +455,7 @@ module _ (v : Reading) (log : List ℕ) (h : List Extent) (ks : List Claim) (i :
   unfolding padded
   padded-some l = cond-true (ltb (v .offset) T) _ log (lt-ltb (v .offset) T l)
 
-  pub trip-holds : zero < v .offset → (count id offset : ℕ) → id ≡ idPlus (v .initial) count → count < 3 → count * T + min offset T ≡ v .count * T + T → offset % 32 ≡ 0 → offset ≤ 2147483647
+  pub trip-holds : zero < v .offset → (count id offset : ℕ) → id ≡ idPlus (v .initial) count → count < 2147483648 → count * T + min offset T ≡ v .count * T + T → offset % 32 ≡ 0 → offset ≤ 2147483647
       → Holds c· (with-tail v count id offset) (padded v log (v .count * T)) (padTo c· h) ks
   trip-holds z count id offset d k p m o =
       split T (v .offset)

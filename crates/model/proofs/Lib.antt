@@ -1,4 +1,4 @@
--- Laws about the definitions, and proofs. Cases holds the marked positions of document 01, Edges more worked cases; Demand proves demand 3.
+-- Laws about the definitions, and proofs. Cases holds the marked positions of document 01, Edges more worked cases; Season proves the season and demand 3.
 pub mod Anchors
 pub mod Cases
 pub mod Edges
@@ -12,22 +12,29 @@ pub mod SoundRecord
 pub mod RawTail
 pub mod Rotate
 pub mod Cut
--- demand 3
+-- frames, and the stream's log that they make
 pub mod Choice
 pub mod Cells
 pub mod Walking
+pub mod Rooms
 pub mod OneSession
 pub mod Assembling
-pub mod Feeding
-pub mod Replaying
 pub mod Tails
 pub mod Writing
 pub mod Around
-pub mod Keeping
 pub mod Rising
+pub mod Keeping
+-- the three partitions as a window on it
+pub mod Window
+pub mod Kept
 pub mod Calls
+pub mod Clearing
 pub mod Claims
-pub mod Demand
+pub mod Usual
+-- reading through the window
+pub mod Feeding
+pub mod Replaying
+pub mod Season
 pub mod Corollaries
 pub mod BlocksApart
 pub mod OneByteMore

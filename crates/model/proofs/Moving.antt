@@ -47,11 +47,12 @@ withPlace v id offset =
       id = id;
       offset = offset;
       closed = v .closed;
+      slowest = v .slowest;
     }
 
 pub place-sound : (v : Reading) (n id offset : ℕ) → Sound v n → offset % 32 ≡ 0 → offset ≤ 2147483647 → soundRecord (withPlace v id offset) ≡ true
 place-sound v n id offset s m h =
-    sym (sound-record-by (withPlace v id offset) (s .term-low) (s .term-high) (s .one-bit) (s .mtu-low) (s .mtu-high) (s .mtu-32) (s .count-high) (s .limit-high) m) ∙ le-leb _ _ h
+    sym (sound-record-by (withPlace v id offset) (s .term-low) (s .term-high) (s .one-bit) (s .mtu-low) (s .mtu-high) (s .mtu-32) (s .count-high) (s .limit-high) (s .slowest-high) (s .slowest-32) m) ∙ le-leb _ _ h
 
 module _ (r : LogRecord) (id offset : ℕ) (three : length (r .tails) ≡ 3) (hi : id < 4294967296) (ho : offset < 4294967296) where
   by-place : (a b : ℕ) → a ≡ id → b ≡ offset → withPlace (reading r) a b ≡ withPlace (reading r) id offset

@@ -25,7 +25,7 @@ use Rattle.model.specs.declared.Offered.the-variants.{Position, Refused 
 use Rattle.model.specs.declared.OfferReply.{OfferReply}
 use Rattle.model.specs.declared.Rule.{Rule}
 use Rattle.model.specs.Bytes.{word, long}
-use Rattle.model.specs.LogBufferDescriptor.{idMinus, reading, active, payloadLimit, greatest, sound, Sound, withTail, lastTerm, rotated, rotateLogOf}
+use Rattle.model.specs.LogBufferDescriptor.{idMinus, reading, active, payloadLimit, greatest, sound, Sound, withTail, lastTerm, isReady, rotated, rotateLogOf}
 use Rattle.model.specs.TermAppender.{written, cut, padded, course, replyBy, bytesBy}
 use Rattle.model.specs.Rule.{message, decided}
 use Rattle.model.specs.Publication.{refuseIf, place, needOf, tooLong, pressed, afterClosed, tailRoom, beforeAppend, offerVerdict, fits, onTrip, tripError, tripNext, appendNext, offeredBy, nextBy, logBy, offerOf, offerBytes}
@@ -176,21 +176,24 @@ module _ (v : Reading) (n m : ℕ) where
 abbrev pub Turns : LogRecord → Reading → ℤ → ℤ → Type 0
 Turns next v count id = lastTerm (v .count) ≡ false → rotateLogOf next count id ≡ record { next = rotated next (v .count) (v .id); answer = Done }
 
-module _ {ℓ} {X : Type ℓ} (v : Reading) (seven twelve six : X) where
-  pub trip-7 : greatest v < place v + v .offset → seven ≡ onTrip v seven twelve six
+module _ {ℓ} {X : Type ℓ} (v : Reading) (ready : Bool) (seven twelve nineteen six : X) where
+  pub trip-7 : greatest v < place v + v .offset → seven ≡ onTrip v ready seven twelve nineteen six
   unfolding onTrip
   trip-7 h = simp (lt-ltb _ _ h)
 
   module _ (h : place v + v .offset ≤ greatest v) where
-    trip-on : (b : Bool) → lastTerm (v .count) ≡ b → cond b twelve six ≡ onTrip v seven twelve six
+    trip-on : (b : Bool) → lastTerm (v .count) ≡ b → cond b twelve (cond ready six nineteen) ≡ onTrip v ready seven twelve nineteen six
     unfolding onTrip
-    trip-on b e = ap (λ (t : Bool). cond t twelve six) (sym e) ∙ simp (le-ltb _ _ h)
+    trip-on b e = ap (λ (t : Bool). cond t twelve (cond ready six nineteen)) (sym e) ∙ simp (le-ltb _ _ h)
 
-    pub trip-12 : v .count ≡ 2147483647 → twelve ≡ onTrip v seven twelve six
+    pub trip-12 : v .count ≡ 2147483647 → twelve ≡ onTrip v ready seven twelve nineteen six
     trip-12 k = trip-on true (eq-eqb _ _ k)
 
-    pub trip-6 : lastTerm (v .count) ≡ false → six ≡ onTrip v seven twelve six
-    trip-6 k = trip-on false k
+    pub trip-19 : lastTerm (v .count) ≡ false → ready ≡ false → nineteen ≡ onTrip v ready seven twelve nineteen six
+    trip-19 k e = ap (λ (t : Bool). cond t six nineteen) (sym e) ∙ trip-on false k
+
+    pub trip-6 : lastTerm (v .count) ≡ false → ready ≡ true → six ≡ onTrip v ready seven twelve nineteen six
+    trip-6 k e = ap (λ (t : Bool). cond t six nineteen) (sym e) ∙ trip-on false k
 
 pub not-last : (v : Reading) → (v .count ≡ 2147483647 → ⊥) → lastTerm (v .count) ≡ false
 not-last v k = ne-eqb _ _ k
@@ -198,13 +201,13 @@ not-last v k = ne-eqb _ _ k
 -- ---- the append, and what its answer leads to
 
 -- for a message of m bytes
-abbrev pub afterBy : Reading → ℕ → LogRecord → Appended → OfferReply
-afterBy v m next (Offset end) = record { next = next; answer = Position (pos (v .count * v .term + end)); rule = offeredRule v m }
-afterBy v m next Tripped = record { next = tripNext next v; answer = Declined (tripError v); rule = tripRule v }
-afterBy v m next (Refused e) = record { next = next; answer = Declined e; rule = refusedRule e }
+abbrev pub afterBy : Reading → Bool → ℕ → LogRecord → Appended → OfferReply
+afterBy v ready m next (Offset end) = record { next = next; answer = Position (pos (v .count * v .term + end)); rule = offeredRule v m }
+afterBy v ready m next Tripped = record { next = tripNext next v ready; answer = Declined (tripError v ready); rule = tripRule v ready }
+afterBy v ready m next (Refused e) = record { next = next; answer = Declined e; rule = refusedRule e }
 
-abbrev pub after : Reading → ℕ → AppendReply → OfferReply
-after v m a = afterBy v m (a .next) (a .answer)
+abbrev pub after : Reading → Bool → ℕ → AppendReply → OfferReply
+after v ready m a = afterBy v ready m (a .next) (a .answer)
 
 pub refused-is : (r : LogRecord) (log m : List ℕ) (reserved : ℤ) (e : Error) → beforeAppend (reading r) (length log) (length m) Pass ≡ Refuse e
     → (record { next = r; answer = Declined e; rule = refusedRule e } ≡ offerOf r log m) × (log ≡ offerBytes r log m reserved)
@@ -213,8 +216,8 @@ refused-is r log m reserved e h =
     let v = reading r in
     let needed = needOf v (length m) in
     let q : offerVerdict v (length log) (length m) ≡ Refuse e = before-refuse v (length log) (length m) (tailRoom v needed) e h in (
-      ap (λ (x : Rule). record { next = r; answer = Declined e; rule = x }) (offer-rule-refused v (length log) (length m) e q)
-          ∙ sym (ap (λ (x : Verdict). record { next = nextBy r v needed x; answer = offeredBy v needed x; rule = decided v (length log) (message (length m)) }) q),
+      ap (λ (x : Rule). record { next = r; answer = Declined e; rule = x }) (offer-rule-refused v (isReady r) (length log) (length m) e q)
+          ∙ sym (ap (λ (x : Verdict). record { next = nextBy r v needed x; answer = offeredBy r v needed x; rule = decided v (isReady r) (length log) (message (length m)) }) q),
       sym (ap (logBy r v log (written v log (active r * v .term) (v .offset) (cut (payloadLimit v) (long reserved) m)) needed) q),
     )
 
@@ -232,17 +235,17 @@ module _ (r : LogRecord) (log m : List ℕ) (reserved : ℤ) where
   new· = written v· log (active r * v· .term) (v· .offset) (cut (payloadLimit v·) (long reserved) m)
 
   abbrev rule· : Rule
-  rule· = decided v· (length log) (message (length m))
+  rule· = decided v· (isReady r) (length log) (message (length m))
 
   abbrev reply· : Verdict → OfferReply
-  reply· x = record { next = nextBy r v· nd· x; answer = offeredBy v· nd· x; rule = rule· }
+  reply· x = record { next = nextBy r v· nd· x; answer = offeredBy r v· nd· x; rule = rule· }
 
   abbrev moved· : LogRecord
   moved· = withTail r (active r) (v· .id) (v· .offset + nd·)
 
   -- what an offer that passes leaves and answers, by whether it fits
   abbrev passed· : Bool → OfferReply
-  passed· b = record { next = cond b moved· (tripNext moved· v·); answer = cond b (Position (pos (place v· + nd·))) (Declined (tripError v·)); rule = rule· }
+  passed· b = record { next = cond b moved· (tripNext moved· v· (isReady r)); answer = cond b (Position (pos (place v· + nd·))) (Declined (tripError v· (isReady r))); rule = rule· }
 
   pass-is : (b : Bool) → fits v· nd· ≡ b → reply· Pass ≡ passed· b
   unfolding appendNext
@@ -250,25 +253,25 @@ module _ (r : LogRecord) (log m : List ℕ) (reserved : ℤ) where
 
   -- by the two tests that an append makes of a sound reading at its own term
   both : (a b : Bool) → leb (v· .offset + nd·) 2147483647 ≡ a → leb (v· .offset + nd·) (v· .term) ≡ b → x· ≡ cond a (cond b Fit Trip) (Deny TailOverflow) → offerVerdict v· (length log) (length m) ≡ tailRoom v· nd·
-      → (after v· (length m) (replyBy r v· (active r) nd· x·) ≡ offerOf r log m) × (bytesBy v· (active r) log new· x· ≡ offerBytes r log m reserved)
+      → (after v· (isReady r) (length m) (replyBy r v· (active r) nd· x·) ≡ offerOf r log m) × (bytesBy v· (active r) log new· x· ≡ offerBytes r log m reserved)
   unfolding offerOf offerBytes
   both false b ea eb ex ev =
       let w : offerVerdict v· (length log) (length m) ≡ Refuse TailOverflow = ev ∙ ap (λ (t : Bool). refuseIf t TailOverflow Pass) (lt-ltb 2147483647 (v· .offset + nd·) (leb-false (v· .offset + nd·) 2147483647 ea)) in (
-        ap (λ (x : Course). after v· (length m) (replyBy r v· (active r) nd· x)) ex
-            ∙ ap (λ (x : Rule). record { next = r; answer = Declined TailOverflow; rule = x }) (offer-rule-refused v· (length log) (length m) TailOverflow w) ∙ sym (ap reply· w),
+        ap (λ (x : Course). after v· (isReady r) (length m) (replyBy r v· (active r) nd· x)) ex
+            ∙ ap (λ (x : Rule). record { next = r; answer = Declined TailOverflow; rule = x }) (offer-rule-refused v· (isReady r) (length log) (length m) TailOverflow w) ∙ sym (ap reply· w),
         ap (bytesBy v· (active r) log new·) ex ∙ sym (ap (logBy r v· log new· nd·) w),
       )
   both true false ea eb ex ev =
       let w : offerVerdict v· (length log) (length m) ≡ Pass = ev ∙ ap (λ (t : Bool). refuseIf t TailOverflow Pass) (le-ltb 2147483647 (v· .offset + nd·) (leb-true (v· .offset + nd·) 2147483647 ea)) in (
-        ap (λ (x : Course). after v· (length m) (replyBy r v· (active r) nd· x)) ex
-            ∙ ap (λ (x : Rule). record { next = tripNext moved· v·; answer = Declined (tripError v·); rule = x }) (offer-rule-passed v· (length log) (length m) false eb w) ∙ sym (ap reply· w ∙ pass-is false eb),
+        ap (λ (x : Course). after v· (isReady r) (length m) (replyBy r v· (active r) nd· x)) ex
+            ∙ ap (λ (x : Rule). record { next = tripNext moved· v· (isReady r); answer = Declined (tripError v· (isReady r)); rule = x }) (offer-rule-passed v· (isReady r) (length log) (length m) false eb w) ∙ sym (ap reply· w ∙ pass-is false eb),
         ap (bytesBy v· (active r) log new·) ex ∙ sym (ap (logBy r v· log new· nd·) w ∙ ap (λ (t : Bool). cond t new· (padded v· log (active r * v· .term))) eb),
       )
   both true true ea eb ex ev =
       let w : offerVerdict v· (length log) (length m) ≡ Pass = ev ∙ ap (λ (t : Bool). refuseIf t TailOverflow Pass) (le-ltb 2147483647 (v· .offset + nd·) (leb-true (v· .offset + nd·) 2147483647 ea)) in
       let s : v· .count * v· .term + (v· .offset + nd·) ≡ place v· + nd· = omega arith in (
-        ap (λ (x : Course). after v· (length m) (replyBy r v· (active r) nd· x)) ex
-            ∙ ap₂ (λ (p : ℕ) (x : Rule). record { next = moved·; answer = Position (pos p); rule = x }) s (offer-rule-passed v· (length log) (length m) true eb w) ∙ sym (ap reply· w ∙ pass-is true eb),
+        ap (λ (x : Course). after v· (isReady r) (length m) (replyBy r v· (active r) nd· x)) ex
+            ∙ ap₂ (λ (p : ℕ) (x : Rule). record { next = moved·; answer = Position (pos p); rule = x }) s (offer-rule-passed v· (isReady r) (length log) (length m) true eb w) ∙ sym (ap reply· w ∙ pass-is true eb),
         ap (bytesBy v· (active r) log new·) ex ∙ sym (ap (logBy r v· log new· nd·) w ∙ ap (λ (t : Bool). cond t new· (padded v· log (active r * v· .term))) eb),
       )
 
@@ -278,7 +281,7 @@ module _ (r : LogRecord) (log m : List ℕ) (reserved : ℤ) where
 
   -- an offer that nothing refuses before its append is the append, and what its answer leads to
   pub offer-is : beforeAppend v· (length log) (length m) Pass ≡ Pass
-      → (after v· (length m) (appendReply r log (active r) (payloadLimit v·) m (v· .id)) ≡ offerOf r log m)
+      → (after v· (isReady r) (length m) (appendReply r log (active r) (payloadLimit v·) m (v· .id)) ≡ offerOf r log m)
       × (appendBytes r log (active r) (payloadLimit v·) m (long reserved) (v· .id) ≡ offerBytes r log m reserved)
   offer-is h =
       both (leb (v· .offset + nd·) 2147483647) (leb (v· .offset + nd·) (v· .term)) refl refl (way (passed v· (length log) (length m) h .is-sound))

@@ -21,7 +21,7 @@ use Rattle.model.specs.declared.Claimed.{Claimed}
 use Rattle.model.specs.declared.Claimed.the-variants.{Position as ClaimPosition, Refused as ClaimRefused}
 use Rattle.model.specs.Bytes.{word}
 use Rattle.model.specs.FrameDescriptor.{align, space}
-use Rattle.model.specs.LogBufferDescriptor.{reading, active, payloadLimit, Sound}
+use Rattle.model.specs.LogBufferDescriptor.{reading, active, payloadLimit, Sound, isReady}
 use Rattle.model.specs.TermAppender.{Fragment, cutFrom, cut, need, claimRecord}
 use Rattle.model.specs.Publication.{place, fits, tripError, needOf, offerVerdict, offeredBy, offerOf, claimVerdict, claimedBy, claimOf}
 use Rattle.model.specs.OneByteMore.{frames, rise, OneByteMore, OneByteMoreClaimed}
@@ -114,11 +114,11 @@ message-need pay m longer l d e = go (length m) refl
 
 -- ---- what an accepted append is answered
 
-offered-at : (v : Reading) (needed : ℕ) (x : Verdict) (p : ℤ) → offeredBy v needed x ≡ OfferPosition p → (x ≡ Pass) × (p ≡ pos (place v + needed))
-offered-at v needed (Refuse e) p h = absurd (let y : _≡_ {A = ℕ} 0 1 = cc in omega arith)
-offered-at v needed Pass p h = (refl, go (fits v needed) h)
+offered-at : (r : LogRecord) (v : Reading) (needed : ℕ) (x : Verdict) (p : ℤ) → offeredBy r v needed x ≡ OfferPosition p → (x ≡ Pass) × (p ≡ pos (place v + needed))
+offered-at r v needed (Refuse e) p h = absurd (let y : _≡_ {A = ℕ} 0 1 = cc in omega arith)
+offered-at r v needed Pass p h = (refl, go (fits v needed) h)
   where
-    go : (b : Bool) → cond b (OfferPosition (pos (place v + needed))) (OfferRefused (tripError v)) ≡ OfferPosition p → p ≡ pos (place v + needed)
+    go : (b : Bool) → cond b (OfferPosition (pos (place v + needed))) (OfferRefused (tripError v (isReady r))) ≡ OfferPosition p → p ≡ pos (place v + needed)
     go true h = cc
     go false h = absurd (let y : _≡_ {A = ℕ} 0 1 = cc in omega arith)
 
@@ -126,7 +126,7 @@ claimed-at : (r : LogRecord) (v : Reading) (n : ℕ) (x : Verdict) (p : ℤ) (k 
 claimed-at r v n (Refuse e) p k h = absurd (let y : _≡_ {A = ℕ} 0 1 = cc in omega arith)
 claimed-at r v n Pass p k h = go (fits v (space n)) h
   where
-    go : (b : Bool) → cond b (ClaimPosition (pos (place v + space n)) (claimRecord v (active r) n)) (ClaimRefused (tripError v)) ≡ ClaimPosition p k → p ≡ pos (place v + space n)
+    go : (b : Bool) → cond b (ClaimPosition (pos (place v + space n)) (claimRecord v (active r) n)) (ClaimRefused (tripError v (isReady r))) ≡ ClaimPosition p k → p ≡ pos (place v + space n)
     go true h = cc
     go false h = absurd (let y : _≡_ {A = ℕ} 0 1 = cc in omega arith)
 
@@ -138,8 +138,8 @@ pub one-byte-more : OneByteMore
 unfolding OneByteMore offerOf
 one-byte-more r log m longer p q e ep eq =
     let v = reading r in
-    let a = offered-at v (needOf v (length m)) (offerVerdict v (length log) (length m)) p ep in
-    let b = offered-at v (needOf v (length longer)) (offerVerdict v (length log) (length longer)) q eq in
+    let a = offered-at r v (needOf v (length m)) (offerVerdict v (length log) (length m)) p ep in
+    let b = offered-at r v (needOf v (length longer)) (offerVerdict v (length log) (length longer)) q eq in
     let s = lets-through v (length log) (needOf v (length m)) (subst (Lets v (length log) (needOf v (length m))) (a .0) (offer-lets v (length log) (length m))) .is-sound in
     apart p q _ _ _ (a .1) (b .1)
     (omega (arith, message-need (payloadLimit v) m longer (omega (arith, s .mtu-low)) (omega (arith, s .mtu-low, s .mtu-32)) e))

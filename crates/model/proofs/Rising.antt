@@ -22,17 +22,18 @@ use Rattle.model.specs.declared.Offered.{Offered}
 use Rattle.model.specs.declared.Offered.the-variants.{Position as OfferPosition, Refused as OfferRefused}
 use Rattle.model.specs.declared.Claimed.{Claimed}
 use Rattle.model.specs.declared.Claimed.the-variants.{Position as ClaimPosition, Refused as ClaimRefused}
-use Rattle.model.specs.Bytes.{word}
+use Rattle.model.specs.Bytes.{word, long}
 use Rattle.model.specs.FrameDescriptor.{space}
-use Rattle.model.specs.LogBufferDescriptor.{idPlus, idMinus, reading, active, payloadLimit, greatest, soundRecord, sound, Sound, lastTerm, withTail, withLimit, withClosed, rotated}
+use Rattle.model.specs.LogBufferDescriptor.{idPlus, idMinus, reading, active, payloadLimit, greatest, soundRecord, sound, Sound, lastTerm, withTail, withLimit, withClosed, withSlowest, withMark, isReady, rotated}
 use Rattle.model.specs.TermAppender.{need, claimRecord}
-use Rattle.model.specs.Publication.{changeOf, place, pressed, afterClosed, tailRoom, fits, onTrip, tripError, tripNext, appendNext, tooLong, needOf, beforeAppend, offerVerdict, offeredBy, nextBy, offerOf, claimVerdict, claimedBy, claimOf}
-use Rattle.model.specs.History.{Call, offer, claim, fill, commit, abort, setLimit, close, Answer, offered, claimed, outcome, World, step, answers, left}
+use Rattle.model.specs.Publication.{changeOf, place, pressed, afterClosed, tailRoom, fits, onTrip, tripError, tripNext, appendNext, tooLong, needOf, beforeAppend, offerVerdict, offeredBy, nextBy, offerOf, claimVerdict, claimedBy, claimOf, replyBy, raiseVerdict, raiseOf, clearVerdict, clearOf}
+use Rattle.model.specs.History.{Call, offer, claim, fill, commit, abort, setLimit, close, clear, raise, Answer, offered, claimed, outcome, World, step, answers, left}
 use Rattle.model.specs.Corollaries.{RisesBy, Rising}
 use Rattle.model.proofs.Choice.{cond-case, split}
 use Rattle.model.proofs.Sound.{sound-true, id-small}
 use Rattle.model.proofs.Cut.{need-some}
-use Rattle.model.proofs.Tails.{with-tail, Tails, moved-reading, moved-tails, rotated-reading, rotated-tails, limit-reading, closed-reading, limit-tails, closed-tails, reached}
+use Rattle.model.proofs.RuleLaws.{tripsBy, offer-trips, claim-trips}
+use Rattle.model.proofs.Tails.{with-tail, Tails, moved-reading, moved-tails, rotated-reading, rotated-tails, limit-reading, closed-reading, limit-tails, closed-tails, marked-reading, marked-tails, raised-reading, raised-tails, reached}
 
 -- ---- a ladder that passes
 
@@ -104,8 +105,8 @@ ClaimReaches low high (ClaimPosition p k) = (p ≡ pos high) × (low < high)
 ClaimReaches low high (ClaimRefused e) = Unit {0}
 
 abbrev pub Reaches : ℕ → ℕ → Answer → Type 0
-Reaches low high (offered a) = OfferReaches low high a
-Reaches low high (claimed a) = ClaimReaches low high a
+Reaches low high (offered t a) = OfferReaches low high a
+Reaches low high (claimed t a) = ClaimReaches low high a
 Reaches low high (outcome a) = Unit {0}
 
 pub record Up (r : LogRecord) (a : Answer) (next : LogRecord) : Type 0 where
@@ -130,7 +131,7 @@ module _ (r : LogRecord) (n needed : ℕ) (h : Tails r) (t : Through (reading r)
   abbrev moved : LogRecord
   moved = withTail r (active r) (reading r .id) (reading r .offset + needed)
 
-  read-moved : reading moved ≡ with-tail v (v .count) (v .id) o
+  pub read-moved : reading moved ≡ with-tail v (v .count) (v .id) o
   read-moved = moved-reading r h o small
 
   reached-moved : reached (reading moved) ≡ v .count * v .term + min o (v .term)
@@ -150,10 +151,10 @@ module _ (r : LogRecord) (n needed : ℕ) (h : Tails r) (t : Through (reading r)
     abbrev over : LogRecord
     over = rotated moved (v .count) (v .id)
 
-    same-over : over ≡ rotated moved (reading moved .count) (reading moved .id)
+    pub same-over : over ≡ rotated moved (reading moved .count) (reading moved .id)
     same-over = ap₂ (rotated moved) (sym (ap (λ (x : Reading). x .count) read-moved)) (sym (ap (λ (x : Reading). x .id) read-moved))
 
-    count-low : reading moved .count < 2147483647
+    pub count-low : reading moved .count < 2147483647
     count-low = subst (λ (x : Reading). x .count < 2147483647) (sym read-moved) not-last
 
     pub read-over : reading over ≡ with-tail v (v .count + 1) (idPlus (v .id) 1) 0
@@ -170,14 +171,15 @@ module _ (r : LogRecord) (n needed : ℕ) (h : Tails r) (t : Through (reading r)
         record { tails = over-tails; above = omega arith; reaches = q }
 
   -- a trip, whatever is answered that is no position
-  trip-up : (a : Answer) → ((high : ℕ) → Reaches (reached v) high a) → Up r a (tripNext moved v)
+  trip-up : (ready : Bool) (a : Answer) → ((high : ℕ) → Reaches (reached v) high a) → Up r a (tripNext moved v ready)
   unfolding onTrip
-  trip-up a q = go (ltb (greatest v) (place v + v .offset)) (lastTerm (v .count)) refl
+  trip-up ready a q = go (ltb (greatest v) (place v + v .offset)) (lastTerm (v .count)) ready refl
     where
-      go : (b d : Bool) → lastTerm (v .count) ≡ d → Up r a (cond b moved (cond d moved (rotated moved (v .count) (v .id))))
-      go true d e = moved-up a (q _)
-      go false true e = moved-up a (q _)
-      go false false e = over-up e a (q _)
+      go : (b d f : Bool) → lastTerm (v .count) ≡ d → Up r a (cond b moved (cond d moved (cond f (rotated moved (v .count) (v .id)) moved)))
+      go true d f e = moved-up a (q _)
+      go false true f e = moved-up a (q _)
+      go false false true e = over-up e a (q _)
+      go false false false e = moved-up a (q _)
 
 -- ---- each call
 
@@ -189,30 +191,30 @@ module _ (r : LogRecord) (log : List ℕ) (h : Tails r) where
   pay-low n s = omega (arith, s .mtu-low)
 
   offer-fits : (m : ℕ) (b : Bool) → fits v· (needOf v· m) ≡ b → Through v· (length log) (needOf v· m)
-      → Up r (offered (cond b (OfferPosition (pos (place v· + needOf v· m))) (OfferRefused (tripError v·))))
-      (cond b (withTail r (active r) (v· .id) (v· .offset + needOf v· m)) (tripNext (withTail r (active r) (v· .id) (v· .offset + needOf v· m)) v·))
+      → Up r (offered (not b) (cond b (OfferPosition (pos (place v· + needOf v· m))) (OfferRefused (tripError v· (isReady r)))))
+      (cond b (withTail r (active r) (v· .id) (v· .offset + needOf v· m)) (tripNext (withTail r (active r) (v· .id) (v· .offset + needOf v· m)) v· (isReady r)))
   offer-fits m true f t =
       let u = fits-up r (length log) (needOf v· m) h t (need-some (payloadLimit v·) m) (leb-true _ _ f) in
-      moved-up r (length log) (needOf v· m) h t (offered (OfferPosition (pos (place v· + needOf v· m)))) (ap pos (sym (u .0)), u .1)
-  offer-fits m false f t = trip-up r (length log) (needOf v· m) h t (offered (OfferRefused (tripError v·))) (λ n. tt)
+      moved-up r (length log) (needOf v· m) h t (offered false (OfferPosition (pos (place v· + needOf v· m)))) (ap pos (sym (u .0)), u .1)
+  offer-fits m false f t = trip-up r (length log) (needOf v· m) h t (isReady r) (offered true (OfferRefused (tripError v· (isReady r)))) (λ n. tt)
 
-  offer-by : (m : ℕ) (x : Verdict) → Lets v· (length log) (needOf v· m) x → Up r (offered (offeredBy v· (needOf v· m) x)) (nextBy r v· (needOf v· m) x)
+  offer-by : (m : ℕ) (x : Verdict) → Lets v· (length log) (needOf v· m) x → Up r (offered (tripsBy v· (needOf v· m) x) (offeredBy r v· (needOf v· m) x)) (nextBy r v· (needOf v· m) x)
   unfolding appendNext
   offer-by m Pass l = offer-fits m (fits v· (needOf v· m)) refl (lets-through v· (length log) (needOf v· m) l)
-  offer-by m (Refuse e) l = stays r (offered (OfferRefused e)) h tt
+  offer-by m (Refuse e) l = stays r (offered false (OfferRefused e)) h tt
 
   claim-fits : (m : ℕ) (b : Bool) → fits v· (space m) ≡ b → Through v· (length log) (space m)
-      → Up r (claimed (cond b (ClaimPosition (pos (place v· + space m)) (claimRecord v· (active r) m)) (ClaimRefused (tripError v·))))
-      (cond b (withTail r (active r) (v· .id) (v· .offset + space m)) (tripNext (withTail r (active r) (v· .id) (v· .offset + space m)) v·))
+      → Up r (claimed (not b) (cond b (ClaimPosition (pos (place v· + space m)) (claimRecord v· (active r) m)) (ClaimRefused (tripError v· (isReady r)))))
+      (cond b (withTail r (active r) (v· .id) (v· .offset + space m)) (tripNext (withTail r (active r) (v· .id) (v· .offset + space m)) v· (isReady r)))
   claim-fits m true f t =
       let u = fits-up r (length log) (space m) h t (omega arith) (leb-true _ _ f) in
-      moved-up r (length log) (space m) h t (claimed (ClaimPosition (pos (place v· + space m)) (claimRecord v· (active r) m))) (ap pos (sym (u .0)), u .1)
-  claim-fits m false f t = trip-up r (length log) (space m) h t (claimed (ClaimRefused (tripError v·))) (λ n. tt)
+      moved-up r (length log) (space m) h t (claimed false (ClaimPosition (pos (place v· + space m)) (claimRecord v· (active r) m))) (ap pos (sym (u .0)), u .1)
+  claim-fits m false f t = trip-up r (length log) (space m) h t (isReady r) (claimed true (ClaimRefused (tripError v· (isReady r)))) (λ n. tt)
 
-  claim-by : (m : ℕ) (x : Verdict) → Lets v· (length log) (space m) x → Up r (claimed (claimedBy r v· m x)) (nextBy r v· (space m) x)
+  claim-by : (m : ℕ) (x : Verdict) → Lets v· (length log) (space m) x → Up r (claimed (tripsBy v· (space m) x) (claimedBy r v· m x)) (nextBy r v· (space m) x)
   unfolding appendNext
   claim-by m Pass l = claim-fits m (fits v· (space m)) refl (lets-through v· (length log) (space m) l)
-  claim-by m (Refuse e) l = stays r (claimed (ClaimRefused e)) h tt
+  claim-by m (Refuse e) l = stays r (claimed false (ClaimRefused e)) h tt
 
   change-up : (next : LogRecord) → Tails next → reached v· ≤ reached (reading next) → Up r (outcome (changeOf r next .answer)) (changeOf r next .next)
   unfolding changeOf
@@ -223,15 +225,28 @@ module _ (r : LogRecord) (log : List ℕ) (h : Tails r) where
       go true = record { tails = t; above = l; reaches = tt }
       go false = stays r (outcome (Refused IllegalRecord)) h tt
 
+  reply-up : (next : LogRecord) (x : Verdict) → Tails next → reached v· ≤ reached (reading next) → Up r (outcome (replyBy r next x .answer)) (replyBy r next x .next)
+  reply-up next Pass t l = record { tails = t; above = l; reaches = tt }
+  reply-up next (Refuse e) t l = stays r (outcome (Refused e)) h tt
+
   pub step-up : (y : Call) → Up r (step (record { record· = r; log = log }) y .answer) (step (record { record· = r; log = log }) y .next .record·)
-  unfolding step offerOf claimOf
-  step-up (offer m re) = offer-by (length m) (offerVerdict v· (length log) (length m)) (offer-lets v· (length log) (length m))
-  step-up (claim n) = claim-by (word n) (claimVerdict v· (length log) (word n)) (claim-lets v· (length log) (word n))
+  unfolding step offerOf claimOf clearOf raiseOf
+  step-up (offer m re) =
+      let y = offerVerdict v· (length log) (length m) in
+      let n = needOf v· (length m) in
+      subst (λ (t : Bool). Up r (offered t (offeredBy r v· n y)) (nextBy r v· n y)) (sym (offer-trips v· (isReady r) (length log) (length m))) (offer-by (length m) y (offer-lets v· (length log) (length m)))
+  step-up (claim n) =
+      let y = claimVerdict v· (length log) (word n) in
+      subst (λ (t : Bool). Up r (claimed t (claimedBy r v· (word n) y)) (nextBy r v· (space (word n)) y)) (sym (claim-trips v· (isReady r) (length log) (word n))) (claim-by (word n) y (claim-lets v· (length log) (word n)))
   step-up (fill k b) = stays r _ h tt
   step-up (commit k) = stays r _ h tt
   step-up (abort k) = stays r _ h tt
   step-up (setLimit n) = change-up (withLimit r n) (limit-tails r h n) (subst (λ (x : Reading). reached v· ≤ reached x) (sym (limit-reading r h n)) (le-refl _))
   step-up close = change-up (withClosed r) (closed-tails r h) (subst (λ (x : Reading). reached v· ≤ reached x) (sym (closed-reading r h)) (le-refl _))
+  step-up (clear k) =
+      reply-up (withMark r (word k) true) (clearVerdict v· (length log) (word k)) (marked-tails r h (word k) true) (subst (λ (x : Reading). reached v· ≤ reached x) (sym (marked-reading r h (word k) true)) (le-refl _))
+  step-up (raise p) =
+      reply-up (withSlowest r p) (raiseVerdict v· (long p)) (raised-tails r h p) (subst (λ (x : Reading). reached v· ≤ reached x) (sym (raised-reading r h p)) (le-refl _))
 
 -- ---- a list of calls
 
@@ -242,14 +257,14 @@ run-up w (x ∷ xs) t = let s = step-up (w .record·) (w .log) t x in le-trans (
 
 -- positions that rise from a bound also rise from a lower one
 lowered : (low low′ : ℕ) (a : Answer) (P : ℕ → Type 0) → low′ ≤ low → (P low → P low′) → RisesBy low a P → RisesBy low′ a P
-lowered low low′ (offered a) P l f q = go a q
+lowered low low′ (offered t a) P l f q = go a q
   where
-    go : (b : Offered) → RisesBy low (offered b) P → RisesBy low′ (offered b) P
+    go : (b : Offered) → RisesBy low (offered t b) P → RisesBy low′ (offered t b) P
     go (OfferPosition p) q = (q .0, q .1, omega (arith, q .2), q .3)
     go (OfferRefused e) q = f q
-lowered low low′ (claimed a) P l f q = go a q
+lowered low low′ (claimed t a) P l f q = go a q
   where
-    go : (b : Claimed) → RisesBy low (claimed b) P → RisesBy low′ (claimed b) P
+    go : (b : Claimed) → RisesBy low (claimed t b) P → RisesBy low′ (claimed t b) P
     go (ClaimPosition p k) q = (q .0, q .1, omega (arith, q .2), q .3)
     go (ClaimRefused e) q = f q
 lowered low low′ (outcome a) P l f q = f q
@@ -261,14 +276,14 @@ rises-from low low′ (t ∷ ts) l r = lowered low low′ (t .1) (λ (n : ℕ). 
 
 -- each call's answer, and then those of the calls after it
 rises-by : (low high : ℕ) (a : Answer) (ts : List (Call × Answer)) → low ≤ high → Reaches low high a → Rising high ts → RisesBy low a (λ n. Rising n ts)
-rises-by low high (offered a) ts l q r = go a q
+rises-by low high (offered t a) ts l q r = go a q
   where
-    go : (b : Offered) → OfferReaches low high b → RisesBy low (offered b) (λ n. Rising n ts)
+    go : (b : Offered) → OfferReaches low high b → RisesBy low (offered t b) (λ n. Rising n ts)
     go (OfferPosition p) q = (high, q .0, q .1, r)
     go (OfferRefused e) q = rises-from high low ts l r
-rises-by low high (claimed a) ts l q r = go a q
+rises-by low high (claimed t a) ts l q r = go a q
   where
-    go : (b : Claimed) → ClaimReaches low high b → RisesBy low (claimed b) (λ n. Rising n ts)
+    go : (b : Claimed) → ClaimReaches low high b → RisesBy low (claimed t b) (λ n. Rising n ts)
     go (ClaimPosition p k) q = (high, q .0, q .1, r)
     go (ClaimRefused e) q = rises-from high low ts l r
 rises-by low high (outcome a) ts l q r = rises-from high low ts l r

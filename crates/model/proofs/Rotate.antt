@@ -14,15 +14,15 @@ use Rattle.model.specs.declared.Verdict.{Verdict}
 use Rattle.model.specs.declared.Verdict.the-variants.{Pass, Refuse}
 use Rattle.model.specs.declared.Outcome.the-variants.{Done}
 use Rattle.model.specs.Bytes.{word}
-use Rattle.model.specs.LogBufferDescriptor.{idPlus, readingOf, reading, soundRecord, withTail, withCount, nextTail, rotated, lastTerm, rotateVerdict, rotateBy, rotateLogOf}
+use Rattle.model.specs.LogBufferDescriptor.{idPlus, readingOf, reading, soundRecord, withTail, withCount, withMark, due, nextTail, rotated, lastTerm, rotateVerdict, rotateBy, rotateLogOf}
 
 -- ---- the next tail
 
-pub next-set : (r : LogRecord) (count id : ℕ) → idPlus (readingOf r ((count + 1) % 3) .id) 2 ≡ id → withTail r ((count + 1) % 3) (idPlus id 1) 0 ≡ nextTail r count id
+pub next-set : (r : LogRecord) (count id : ℕ) → idPlus (readingOf r ((count + 1) % 3) .id) 2 ≡ id → withMark (withTail r ((count + 1) % 3) (idPlus id 1) 0) (due count) false ≡ nextTail r count id
 unfolding nextTail readingOf
 next-set r count id h = simp (eq-eqb _ _ h)
 
-pub next-kept : (r : LogRecord) (count id : ℕ) → (idPlus (readingOf r ((count + 1) % 3) .id) 2 ≡ id → ⊥) → r ≡ nextTail r count id
+pub next-kept : (r : LogRecord) (count id : ℕ) → (idPlus (readingOf r ((count + 1) % 3) .id) 2 ≡ id → ⊥) → withMark r (due count) false ≡ nextTail r count id
 unfolding nextTail readingOf
 next-kept r count id h = simp (ne-eqb _ _ h)
 

@@ -10,7 +10,7 @@ use lib.Dec.{eqb, leb}
 use lib.Count.{ones, trailingZeros}
 use Rattle.model.specs.declared.LogRecord.{LogRecord}
 use Rattle.model.specs.declared.Reading.{Reading}
-use Rattle.model.specs.LogBufferDescriptor.{readingOf, soundRecord, sound, Sound}
+use Rattle.model.specs.LogBufferDescriptor.{readingOf, greatest, soundRecord, sound, Sound}
 use Rattle.model.proofs.Power.{power, shift-low}
 use Rattle.model.proofs.Both.{and-true}
 
@@ -26,7 +26,9 @@ sound-true v n h =
     let p6 = and-true (eqb (v .mtu % 32) 0) _ (p5 .1) in
     let p7 = and-true (leb (v .count) 2147483647) _ (p6 .1) in
     let p8 = and-true (leb (v .limit) 4611686018427387904) _ (p7 .1) in
-    let p9 = and-true (eqb (v .offset % 32) 0) _ (p8 .1) in
+    let p9 = and-true (leb (v .slowest) (greatest v)) _ (p8 .1) in
+    let p10 = and-true (eqb (v .slowest % 32) 0) _ (p9 .1) in
+    let p11 = and-true (eqb (v .offset % 32) 0) _ (p10 .1) in
     record {
       term-low = leb-true _ _ (p1 .0);
       term-high = leb-true _ _ (p2 .0);
@@ -36,8 +38,10 @@ sound-true v n h =
       mtu-32 = eqb-true _ _ (p6 .0);
       count-high = leb-true _ _ (p7 .0);
       limit-high = leb-true _ _ (p8 .0);
-      offset-32 = eqb-true _ _ (p9 .0);
-      offset-high = leb-true _ _ (p9 .1);
+      slowest-high = leb-true _ _ (p9 .0);
+      slowest-32 = eqb-true _ _ (p10 .0);
+      offset-32 = eqb-true _ _ (p11 .0);
+      offset-high = leb-true _ _ (p11 .1);
       three = eqb-true _ _ (p0 .1);
     }
 
@@ -50,10 +54,10 @@ not-sound v n never = go (sound v n) refl
 
 -- where all but the length of the log is as it should be
 pub sound-by : (v : Reading) (n : ℕ) → 65536 ≤ v .term → v .term ≤ 1073741824 → ones (v .term) ≡ 1 → 64 ≤ v .mtu → v .mtu ≤ 65504 → v .mtu % 32 ≡ 0
-    → v .count ≤ 2147483647 → v .limit ≤ 4611686018427387904 → v .offset % 32 ≡ 0 → v .offset ≤ 2147483647 → eqb n (3 * v .term) ≡ sound v n
+    → v .count ≤ 2147483647 → v .limit ≤ 4611686018427387904 → v .slowest ≤ greatest v → v .slowest % 32 ≡ 0 → v .offset % 32 ≡ 0 → v .offset ≤ 2147483647 → eqb n (3 * v .term) ≡ sound v n
 unfolding sound soundRecord
-sound-by v n h1 h2 h3 h4 h5 h6 h7 h8 h9 h10 =
-    simp (le-leb _ _ h1, le-leb _ _ h2, eq-eqb _ _ h3, le-leb _ _ h4, le-leb _ _ h5, eq-eqb _ _ h6, le-leb _ _ h7, le-leb _ _ h8, eq-eqb _ _ h9, le-leb _ _ h10)
+sound-by v n h1 h2 h3 h4 h5 h6 h7 h8 h9 h10 h11 h12 =
+    simp (le-leb _ _ h1, le-leb _ _ h2, eq-eqb _ _ h3, le-leb _ _ h4, le-leb _ _ h5, eq-eqb _ _ h6, le-leb _ _ h7, le-leb _ _ h8, le-leb _ _ h9, eq-eqb _ _ h10, eq-eqb _ _ h11, le-leb _ _ h12)
 
 mul-32 : (r : ℕ) → 16 ≤ r → 2 ^ r % 32 ≡ 0
 mul-32 r h =

@@ -6,7 +6,7 @@ use borrow.Author.Tests.{le-leb, eq-eqb}
 use lib.Dec.{eqb, leb}
 use lib.Count.{ones}
 use Rattle.model.specs.declared.Reading.{Reading}
-use Rattle.model.specs.LogBufferDescriptor.{soundRecord, sound, Sound}
+use Rattle.model.specs.LogBufferDescriptor.{greatest, soundRecord, sound, Sound}
 use Rattle.model.proofs.Sound.{sound-true, not-sound}
 use Rattle.model.proofs.Both.{and-yes}
 
@@ -31,7 +31,7 @@ not-sound-record v never = not-sound v (3 * v .term) never ∙ sound-whole v
 
 -- where all but the last range holds
 pub sound-record-by : (v : Reading) → 65536 ≤ v .term → v .term ≤ 1073741824 → ones (v .term) ≡ 1 → 64 ≤ v .mtu → v .mtu ≤ 65504 → v .mtu % 32 ≡ 0
-    → v .count ≤ 2147483647 → v .limit ≤ 4611686018427387904 → v .offset % 32 ≡ 0 → leb (v .offset) 2147483647 ≡ soundRecord v
+    → v .count ≤ 2147483647 → v .limit ≤ 4611686018427387904 → v .slowest ≤ greatest v → v .slowest % 32 ≡ 0 → v .offset % 32 ≡ 0 → leb (v .offset) 2147483647 ≡ soundRecord v
 unfolding soundRecord
-sound-record-by v h1 h2 h3 h4 h5 h6 h7 h8 h9 =
-    simp (le-leb _ _ h1, le-leb _ _ h2, eq-eqb _ _ h3, le-leb _ _ h4, le-leb _ _ h5, eq-eqb _ _ h6, le-leb _ _ h7, le-leb _ _ h8, eq-eqb _ _ h9)
+sound-record-by v h1 h2 h3 h4 h5 h6 h7 h8 h9 h10 h11 =
+    simp (le-leb _ _ h1, le-leb _ _ h2, eq-eqb _ _ h3, le-leb _ _ h4, le-leb _ _ h5, eq-eqb _ _ h6, le-leb _ _ h7, le-leb _ _ h8, le-leb _ _ h9, eq-eqb _ _ h10, eq-eqb _ _ h11)

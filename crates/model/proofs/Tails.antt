@@ -1,7 +1,7 @@
 -- The record through the calls: what is read of it after a tail moved and after a rotation, that the tails stay in step, and the
 -- publisher's position as a natural number.
 use mathlib.Core.Path.{_≡_, refl, sym, ap, ap₂, _∙_, subst}
-use mathlib.Core.Bool.{Bool, true, cond}
+use mathlib.Core.Bool.{Bool, true, false, cond}
 use Prim.Native.Nat.{ℕ, zero, suc, _+_, _-_, _*_, _%_, _≤_, _<_, min}
 use native.Mathlib.Omega.{arith}
 use borrow.Author.Tests.{le-ltb}
@@ -14,7 +14,7 @@ use mir.Facts.{ofZ-toZ, toZ-pos}
 use Rattle.model.specs.declared.LogRecord.{LogRecord}
 use Rattle.model.specs.declared.Reading.{Reading}
 use Rattle.model.specs.Bytes.{word, long}
-use Rattle.model.specs.LogBufferDescriptor.{idPlus, idMinus, idOf, offsetOf, rawOf, tailOf, readingOf, active, reading, publisherPosition, changed, withTail, withCount, withLimit, withClosed, nextTail, rotated}
+use Rattle.model.specs.LogBufferDescriptor.{idPlus, idMinus, idOf, offsetOf, rawOf, tailOf, readingOf, active, reading, publisherPosition, changed, withTail, withCount, withLimit, withClosed, noted, withSlowest, withMark, isMarked, due, nextTail, rotated}
 use Rattle.model.proofs.Choice.{eq-yes}
 use Rattle.model.proofs.RawTail.{raw-id, raw-offset}
 use Rattle.model.proofs.Sound.{id-small}
@@ -23,11 +23,15 @@ use Rattle.model.proofs.Sound.{id-small}
 
 abbrev pub with-tail : Reading → ℕ → ℕ → ℕ → Reading
 with-tail v count id offset =
-    record { term = v .term; mtu = v .mtu; count = count; initial = v .initial; session = v .session; stream = v .stream; connected = v .connected; limit = v .limit; id = id; offset = offset; closed = v .closed }
+    record { term = v .term; mtu = v .mtu; count = count; initial = v .initial; session = v .session; stream = v .stream; connected = v .connected; limit = v .limit; id = id; offset = offset; closed = v .closed; slowest = v .slowest }
 
 abbrev pub with-rest : Reading → ℕ → Bool → Reading
 with-rest v limit closed =
-    record { term = v .term; mtu = v .mtu; count = v .count; initial = v .initial; session = v .session; stream = v .stream; connected = v .connected; limit = limit; id = v .id; offset = v .offset; closed = closed }
+    record { term = v .term; mtu = v .mtu; count = v .count; initial = v .initial; session = v .session; stream = v .stream; connected = v .connected; limit = limit; id = v .id; offset = v .offset; closed = closed; slowest = v .slowest }
+
+abbrev pub with-slow : Reading → ℕ → Reading
+with-slow v slowest =
+    record { term = v .term; mtu = v .mtu; count = v .count; initial = v .initial; session = v .session; stream = v .stream; connected = v .connected; limit = v .limit; id = v .id; offset = v .offset; closed = v .closed; slowest = slowest }
 
 -- ---- the tails stay in step: the next partition's id is two behind, the last one's one behind
 
@@ -99,14 +103,14 @@ module _ (r : LogRecord) (h : Tails r) (below : reading r .count < 2147483647) w
   abbrev k· : ℕ
   k· = (reading r .count + 1) % 3
 
-  turned : nextTail r n· i· ≡ withTail r k· (idPlus i· 1) 0
+  turned : nextTail r n· i· ≡ withMark (withTail r k· (idPlus i· 1) 0) k· false
   unfolding nextTail
-  turned = eq-yes (idPlus (idOf (tailOf r k·)) 2) i· _ r (h .next)
+  turned = ap (λ (x : LogRecord). withMark x k· false) (eq-yes (idPlus (idOf (tailOf r k·)) 2) i· (withTail r k· (idPlus i· 1) 0) r (h .next))
 
   abbrev over : LogRecord
   over = rotated r n· i·
 
-  rotated-is : over ≡ withCount (withTail r k· (idPlus i· 1) 0) (n· + 1)
+  rotated-is : over ≡ withCount (withMark (withTail r k· (idPlus i· 1) 0) k· false) (n· + 1)
   unfolding rotated
   rotated-is = ap (λ (x : LogRecord). withCount x (n· + 1)) turned
 
@@ -116,8 +120,8 @@ module _ (r : LogRecord) (h : Tails r) (below : reading r .count < 2147483647) w
   within : k· < length (r .tails)
   within = omega (arith, h .three)
 
-  read-over : reading (withCount (withTail r k· (idPlus i· 1) 0) (n· + 1)) ≡ with-tail (reading r) (n· + 1) (idPlus i· 1) 0
-  unfolding readingOf withTail withCount changed
+  read-over : reading (withCount (withMark (withTail r k· (idPlus i· 1) 0) k· false) (n· + 1)) ≡ with-tail (reading r) (n· + 1) (idPlus i· 1) 0
+  unfolding readingOf withTail withCount withMark noted changed
   read-over =
       ap (λ (n : ℕ). with-tail (reading r) n (idOf (getD (set (r .tails) k· (rawOf (idPlus i· 1) 0)) (n % 3) (pos 0))) (offsetOf (getD (set (r .tails) k· (rawOf (idPlus i· 1) 0)) (n % 3) (pos 0)))) counted
       ∙ ap₂ (λ (i f : ℕ). with-tail (reading r) (n· + 1) i f)
@@ -128,11 +132,11 @@ module _ (r : LogRecord) (h : Tails r) (below : reading r .count < 2147483647) w
   rotated-reading = ap reading rotated-is ∙ read-over
 
   over-other : (j : ℕ) → ¬ (j ≡ k·) → tailOf over j ≡ tailOf r j
-  unfolding withTail withCount changed
+  unfolding withTail withCount withMark noted changed
   over-other j n = ap (λ (x : LogRecord). tailOf x j) rotated-is ∙ getD-set-other (r .tails) k· j (rawOf (idPlus i· 1) 0) (pos 0) n
 
   over-three : length (over .tails) ≡ 3
-  unfolding withTail withCount changed
+  unfolding withTail withCount withMark noted changed
   over-three = ap (λ (x : LogRecord). length (x .tails)) rotated-is ∙ length-set (r .tails) k· (rawOf (idPlus i· 1) 0) ∙ h .three
 
   pub rotated-tails : Tails over
@@ -153,6 +157,60 @@ module _ (r : LogRecord) (h : Tails r) (below : reading r .count < 2147483647) w
             ∙ ap (λ (z : ℤ). idPlus (idOf z) 1) (over-other (n· % 3) (λ (q : n· % 3 ≡ k·). omega arith)) ∙ omega arith;
         high = omega arith;
       }
+
+-- ---- the marks
+
+pub moved-marks : (r : LogRecord) (k id o j : ℕ) → isMarked (withTail r k id o) j ≡ isMarked r j
+unfolding withTail changed
+moved-marks r k id o j = refl
+
+module _ (r : LogRecord) (h : Tails r) (below : reading r .count < 2147483647) where
+  pub rotated-mark : (j : ℕ) → ¬ (j ≡ due (reading r .count)) → isMarked (rotated r (reading r .count) (reading r .id)) j ≡ isMarked r j
+  unfolding withTail withCount withMark noted changed
+  rotated-mark j n = ap (λ (x : LogRecord). isMarked x j) (rotated-is r h below) ∙ getD-set-other (r .«is_cleared») (due (reading r .count)) j false false n
+
+  pub rotated-marked : length (r .«is_cleared») ≡ 3 → isMarked (rotated r (reading r .count) (reading r .id)) (due (reading r .count)) ≡ false
+  unfolding withTail withCount withMark noted changed
+  rotated-marked e = ap (λ (x : LogRecord). isMarked x (due (reading r .count))) (rotated-is r h below) ∙ getD-set-same (r .«is_cleared») (due (reading r .count)) false false (omega arith)
+
+  pub rotated-long : length (rotated r (reading r .count) (reading r .id) .«is_cleared») ≡ length (r .«is_cleared»)
+  unfolding withTail withCount withMark noted changed
+  rotated-long = ap (λ (x : LogRecord). length (x .«is_cleared»)) (rotated-is r h below) ∙ length-set (r .«is_cleared») (due (reading r .count)) false
+
+-- ---- a partition marked, the slowest reader raised
+
+module _ (r : LogRecord) (h : Tails r) where
+  pub marked-reading : (k : ℕ) (b : Bool) → reading (withMark r k b) ≡ reading r
+  unfolding readingOf withMark noted
+  marked-reading k b = refl
+
+  pub marked-tails : (k : ℕ) (b : Bool) → Tails (withMark r k b)
+  unfolding readingOf withMark noted
+  marked-tails k b = record { three = h .three; here = h .here; next = h .next; last = h .last; high = h .high }
+
+  pub marked-same : (k : ℕ) (b : Bool) → k < length (r .«is_cleared») → isMarked (withMark r k b) k ≡ b
+  unfolding withMark noted
+  marked-same k b l = getD-set-same (r .«is_cleared») k b false l
+
+  pub marked-other : (k : ℕ) (b : Bool) (j : ℕ) → ¬ (j ≡ k) → isMarked (withMark r k b) j ≡ isMarked r j
+  unfolding withMark noted
+  marked-other k b j n = getD-set-other (r .«is_cleared») k j b false n
+
+  pub marked-long : (k : ℕ) (b : Bool) → length (withMark r k b .«is_cleared») ≡ length (r .«is_cleared»)
+  unfolding withMark noted
+  marked-long k b = length-set (r .«is_cleared») k b
+
+  pub raised-reading : (p : ℤ) → reading (withSlowest r p) ≡ with-slow (reading r) (long p)
+  unfolding readingOf withSlowest noted
+  raised-reading p = refl
+
+  pub raised-tails : (p : ℤ) → Tails (withSlowest r p)
+  unfolding readingOf withSlowest noted
+  raised-tails p = record { three = h .three; here = h .here; next = h .next; last = h .last; high = h .high }
+
+  pub raised-marks : (p : ℤ) (j : ℕ) → isMarked (withSlowest r p) j ≡ isMarked r j
+  unfolding withSlowest noted
+  raised-marks p j = refl
 
 -- ---- limit and close
 

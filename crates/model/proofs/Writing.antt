@@ -19,7 +19,7 @@ use Rattle.model.proofs.Choice.{split}
 use Rattle.model.proofs.Splice.{length-zeros, zeros-add, splice-mid, splice-zeros}
 use Rattle.model.proofs.Cells.{Cell, cell, stored, typ, head, flen, fsize, solidAt, solid, enc, bytes, sizes, length-head, length-solid, length-enc, flen-ge, fsize-ge}
 use Rattle.model.proofs.Walking.{Small, AllSmall, Fits, norm}
-use Rattle.model.proofs.Replaying.{norm-pos, room-next}
+use Rattle.model.proofs.Rooms.{norm-pos, room-next}
 use Rattle.model.proofs.OneSession.{cellOf, cells}
 
 -- ---- frames in terms

@@ -24,10 +24,10 @@ use Rattle.model.specs.Bytes.{word, long}
 use Rattle.model.specs.Answers.{Told, refused, framesTold, readTold, scannedTold, gapTold, availabilityTold, polledTold, peekedTold, blockTold, assembledTold}
 use Rattle.model.specs.DataFrameHeader.{headerAt}
 use Rattle.model.specs.FrameDescriptor.{frameAt, isUnsound, unsoundLength}
-use Rattle.model.specs.LogBufferDescriptor.{partitionOf, reading, sound, goodPartition, goodOffset, withinTerm}
+use Rattle.model.specs.LogBufferDescriptor.{partitionOf, reading, sound, goodPartition, goodOffset, withinTerm, goodPosition}
 use Rattle.model.specs.TermReader.{walk, firstUnsound, natural, goodEntries, goodActions, goodControl, goodWalk, goodHandler, goodStart, framesBy, framesOf, readWalk, readBy, readOf}
 use Rattle.model.specs.TermScan.{scanFrom, scanBy, scanOf, goodMark, rebuild, gapAt, gapBy, gapOf, availableFrom, availabilityBy, availabilityOf}
-use Rattle.model.specs.Image.{Image, goodPosition, endOffset, walkAt, unsoundAt, polledBy, pollOf, boundedPollOf, controlledPollOf, peekWalk, peekedBy, peekOf, blockEnd, blockLength, blockBy, blockPollOf}
+use Rattle.model.specs.Image.{Image, endOffset, walkAt, unsoundAt, polledBy, pollOf, boundedPollOf, controlledPollOf, peekWalk, peekedBy, peekOf, blockEnd, blockLength, blockBy, blockPollOf}
 use Rattle.model.specs.FragmentAssembler.{Sessions, goodAssembly, assembleBy, assembleOf}
 use Rattle.model.specs.Replay.{ReplayState, pollOne, assembleOne, nextOf}
 

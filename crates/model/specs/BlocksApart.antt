@@ -14,7 +14,7 @@ use Rattle.model.specs.Bytes.{word}
 use Rattle.model.specs.FrameDescriptor.{space}
 use Rattle.model.specs.TermAppender.{need}
 use Rattle.model.specs.Publication.{openOf}
-use Rattle.model.specs.History.{Call, offer, claim, fill, commit, abort, setLimit, close, Answer, offered, claimed, outcome, answers}
+use Rattle.model.specs.History.{Call, offer, claim, fill, commit, abort, setLimit, close, clear, raise, Answer, offered, claimed, outcome, answers}
 use Rattle.model.specs.Demand.{opened, shape}
 
 -- ---- bytes
@@ -28,6 +28,8 @@ takes payload (commit k) = 0
 takes payload (abort k) = 0
 takes payload (setLimit n) = 0
 takes payload close = 0
+takes payload (clear k) = 0
+takes payload (raise p) = 0
 
 -- Given where the last accepted one ended: this one's position is higher by at least what it takes, and both are multiples of 32.
 abbrev pub Takes : ℕ → ℕ → ℕ → Type 0
@@ -42,8 +44,8 @@ ApartClaimed size low (ClaimPosition p k) rest = (n : ℕ) × (p ≡ pos n) × T
 ApartClaimed size low (ClaimRefused e) rest = rest low
 
 abbrev pub ApartBy : ℕ → ℕ → Answer → (ℕ → Type 0) → Type 0
-ApartBy size low (offered a) rest = ApartOffered size low a rest
-ApartBy size low (claimed a) rest = ApartClaimed size low a rest
+ApartBy size low (offered t a) rest = ApartOffered size low a rest
+ApartBy size low (claimed t a) rest = ApartClaimed size low a rest
 ApartBy size low (outcome a) rest = rest low
 
 unfoldable pub Apart : ℕ → ℕ → List (Call × Answer) → Type 0
@@ -66,8 +68,8 @@ FreeClaimed each free (ClaimPosition p k) rest = (n : ℕ) × (p ≡ pos n) × (
 FreeClaimed each free (ClaimRefused e) rest = rest free
 
 abbrev pub FreeBy : ℕ → ℕ → Answer → (ℕ → Type 0) → Type 0
-FreeBy each free (offered a) rest = FreeOffered each free a rest
-FreeBy each free (claimed a) rest = FreeClaimed each free a rest
+FreeBy each free (offered t a) rest = FreeOffered each free a rest
+FreeBy each free (claimed t a) rest = FreeClaimed each free a rest
 FreeBy each free (outcome a) rest = rest free
 
 unfoldable pub Free : ℕ → ℕ → List (Call × Answer) → Type 0

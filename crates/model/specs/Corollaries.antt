@@ -3,17 +3,16 @@
 use mathlib.Core.Path.{_≡_}
 use mathlib.Core.Logic.{_⊎_}
 use Prim.Native.Nat.{ℕ, _+_, _-_, _*_, _/_, _%_, _<_, _≤_}
-use mathlib.Core.Bool.{Bool, true, false}
+use mathlib.Core.Bool.{Bool, true, false, not}
 use mathlib.Core.List.{List, [], _∷_}
 use lib.ListN.{length, drop}
 use lib.IntN.{ℤ, pos}
-use lib.Signed.{ltZ}
 use Rattle.model.specs.declared.LogRecord.{LogRecord}
 use Rattle.model.specs.declared.Frame.{Frame}
 use Rattle.model.specs.declared.Frame.the-variants.{Absent, Unsound, Padding, Data}
 use Rattle.model.specs.declared.Polled.the-variants.{Fragments}
 use Rattle.model.specs.declared.Error.{Error}
-use Rattle.model.specs.declared.Error.the-variants.{IllegalArgument, IllegalRecord, PositionOutOfRange, ExceedsMaxPayloadLength, PublicationClosed, AdminAction, MaxPositionExceeded, BackPressured, NotConnected, ExceedsMaxMessageLength, TailOverflow, LastTerm, ActionPossiblyDelayed, ClaimMismatch, NewPositionOutOfRange, NewPositionNotAligned, AssemblyFull, FrameTooShort, FramePastTerm}
+use Rattle.model.specs.declared.Error.the-variants.{IllegalArgument, IllegalRecord, PositionOutOfRange, ExceedsMaxPayloadLength, PublicationClosed, AdminAction, MaxPositionExceeded, BackPressured, NotConnected, ExceedsMaxMessageLength, TailOverflow, LastTerm, ActionPossiblyDelayed, ClaimMismatch, NewPositionOutOfRange, NewPositionNotAligned, AssemblyFull, NotCleared, NotDue, FrameTooShort, FramePastTerm}
 use Rattle.model.specs.declared.Outcome.{Outcome}
 use Rattle.model.specs.declared.Outcome.the-variants.{Done, Refused}
 use Rattle.model.specs.declared.Offered.{Offered}
@@ -22,12 +21,12 @@ use Rattle.model.specs.declared.Claimed.{Claimed}
 use Rattle.model.specs.declared.Claimed.the-variants.{Position as ClaimPosition, Refused as ClaimRefused}
 use Rattle.model.specs.Bytes.{long}
 use Rattle.model.specs.FrameDescriptor.{align, frameAt}
-use Rattle.model.specs.LogBufferDescriptor.{partitionOf, reading, publisherPosition}
+use Rattle.model.specs.LogBufferDescriptor.{partitionOf, reading}
 use Rattle.model.specs.TermAppender.{need}
 use Rattle.model.specs.Publication.{openOf}
 use Rattle.model.specs.TermReader.{laid}
 use Rattle.model.specs.Image.{Image, movedTo, pollOf}
-use Rattle.model.specs.History.{Call, offer, claim, fill, commit, abort, setLimit, close, Answer, offered, claimed, outcome, World, step, answers, left, isTrip, AllGiven}
+use Rattle.model.specs.History.{Call, offer, claim, fill, commit, abort, setLimit, close, clear, raise, Answer, offered, claimed, outcome, World, step, answers, noTerms, AllGiven}
 use Rattle.model.specs.Demand.{opened, shape}
 
 -- ---- no two alike: each position answered to an accepted offer or claim is greater than all before it
@@ -41,8 +40,8 @@ RisesClaimed low (ClaimPosition p k) rest = (n : ℕ) × (p ≡ pos n) × (low <
 RisesClaimed low (ClaimRefused e) rest = rest low
 
 abbrev pub RisesBy : ℕ → Answer → (ℕ → Type 0) → Type 0
-RisesBy low (offered a) rest = RisesOffered low a rest
-RisesBy low (claimed a) rest = RisesClaimed low a rest
+RisesBy low (offered t a) rest = RisesOffered low a rest
+RisesBy low (claimed t a) rest = RisesClaimed low a rest
 RisesBy low (outcome a) rest = rest low
 
 unfoldable pub Rising : ℕ → List (Call × Answer) → Type 0
@@ -55,44 +54,46 @@ NoTwoAlike =
     (log : List ℕ) (term mtu initial session stream : ℤ) → openOf log term mtu initial session stream .answer ≡ Done
     → (calls : List Call) → Rising 0 (answers (opened log term mtu initial session stream) calls)
 
--- ---- refusals that cannot come: 7, 9 and 13, and 2 but from a limit change
+-- ---- refusals that cannot come in a season: 9 and 13, 2 but from a limit change, and 6 without a trip
 
-abbrev pub rare : Error → Bool
-rare IllegalArgument = false
-rare IllegalRecord = true
-rare PositionOutOfRange = false
-rare ExceedsMaxPayloadLength = false
-rare PublicationClosed = false
-rare AdminAction = false
-rare MaxPositionExceeded = true
-rare BackPressured = false
-rare NotConnected = true
-rare ExceedsMaxMessageLength = false
-rare TailOverflow = false
-rare LastTerm = false
-rare ActionPossiblyDelayed = true
-rare ClaimMismatch = false
-rare NewPositionOutOfRange = false
-rare NewPositionNotAligned = false
-rare AssemblyFull = false
-rare (FrameTooShort place) = false
-rare (FramePastTerm place) = false
+abbrev pub rare : Bool → Error → Bool
+rare tripped IllegalArgument = false
+rare tripped IllegalRecord = true
+rare tripped PositionOutOfRange = false
+rare tripped ExceedsMaxPayloadLength = false
+rare tripped PublicationClosed = false
+rare tripped AdminAction = not tripped
+rare tripped MaxPositionExceeded = false
+rare tripped BackPressured = false
+rare tripped NotConnected = true
+rare tripped ExceedsMaxMessageLength = false
+rare tripped TailOverflow = false
+rare tripped LastTerm = false
+rare tripped ActionPossiblyDelayed = true
+rare tripped ClaimMismatch = false
+rare tripped NewPositionOutOfRange = false
+rare tripped NewPositionNotAligned = false
+rare tripped AssemblyFull = false
+rare tripped NotCleared = false
+rare tripped NotDue = false
+rare tripped (FrameTooShort place) = false
+rare tripped (FramePastTerm place) = false
 
-abbrev pub UsualOffered : Offered → Type 0
-UsualOffered (OfferPosition p) = Unit {0}
-UsualOffered (OfferRefused e) = rare e ≡ false
+abbrev pub UsualOffered : Bool → Offered → Type 0
+UsualOffered t (OfferPosition p) = Unit {0}
+UsualOffered t (OfferRefused e) = rare t e ≡ false
 
-abbrev pub UsualClaimed : Claimed → Type 0
-UsualClaimed (ClaimPosition p k) = Unit {0}
-UsualClaimed (ClaimRefused e) = rare e ≡ false
+abbrev pub UsualClaimed : Bool → Claimed → Type 0
+UsualClaimed t (ClaimPosition p k) = Unit {0}
+UsualClaimed t (ClaimRefused e) = rare t e ≡ false
 
 abbrev pub UsualOutcome : Outcome → Type 0
 UsualOutcome Done = Unit {0}
-UsualOutcome (Refused e) = rare e ≡ false
+UsualOutcome (Refused e) = rare false e ≡ false
 
 abbrev pub UsualAnswer : Answer → Type 0
-UsualAnswer (offered a) = UsualOffered a
-UsualAnswer (claimed a) = UsualClaimed a
+UsualAnswer (offered t a) = UsualOffered t a
+UsualAnswer (claimed t a) = UsualClaimed t a
 UsualAnswer (outcome a) = UsualOutcome a
 
 abbrev pub Usual : Call → Answer → Type 0
@@ -103,29 +104,30 @@ Usual (commit k) a = UsualAnswer a
 Usual (abort k) a = UsualAnswer a
 Usual (setLimit n) a = Unit {0}
 Usual close a = UsualAnswer a
+Usual (clear k) a = UsualAnswer a
+Usual (raise p) a = UsualAnswer a
 
 unfoldable pub AllUsual : List (Call × Answer) → Type 0
 AllUsual [] = Unit {0}
 AllUsual (t ∷ ts) = Usual (t .0) (t .1) × AllUsual ts
 
--- under the premises of demand 3
+-- under the premises of a season
 unfoldable pub NothingRare : Type 0
 NothingRare =
     (log : List ℕ) (term mtu initial session stream : ℤ) → openOf log term mtu initial session stream .answer ≡ Done
-    → (calls : List Call) → AllGiven [] (opened log term mtu initial session stream) calls
-    → ltZ (publisherPosition (reading (left (opened log term mtu initial session stream) calls .record·))) (pos (3 * shape (opened log term mtu initial session stream) .term)) ≡ true
+    → (calls : List Call) → AllGiven (shape (opened log term mtu initial session stream)) [] noTerms (opened log term mtu initial session stream) calls
     → AllUsual (answers (opened log term mtu initial session stream) calls)
 
--- ---- a call that is refused, and not with 6, 7 or 12, leaves record and log as they were
+-- ---- a call that is refused without a trip leaves record and log as they were
 
 abbrev pub RefusedWith : Answer → Error → Type 0
-RefusedWith (offered a) e = a ≡ OfferRefused e
-RefusedWith (claimed a) e = a ≡ ClaimRefused e
+RefusedWith (offered t a) e = (t ≡ false) × (a ≡ OfferRefused e)
+RefusedWith (claimed t a) e = (t ≡ false) × (a ≡ ClaimRefused e)
 RefusedWith (outcome a) e = a ≡ Refused e
 
 -- for every record and log, sound or not
 unfoldable pub RefusalsChangeNothing : Type 0
-RefusalsChangeNothing = (w : World) (y : Call) (e : Error) → RefusedWith (step w y .answer) e → isTrip e ≡ false → step w y .next ≡ w
+RefusalsChangeNothing = (w : World) (y : Call) (e : Error) → RefusedWith (step w y .answer) e → step w y .next ≡ w
 
 -- ---- the fragments that a poll answers are the data frames that it passed
 

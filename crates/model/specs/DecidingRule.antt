@@ -13,15 +13,15 @@ use Rattle.model.specs.declared.OfferReply.{OfferReply}
 use Rattle.model.specs.declared.ClaimReply.{ClaimReply}
 use Rattle.model.specs.Bytes.{word}
 use Rattle.model.specs.Answers.{offeredTold, claimedTold}
-use Rattle.model.specs.LogBufferDescriptor.{readingOf, active, reading}
+use Rattle.model.specs.LogBufferDescriptor.{readingOf, active, reading, isReady}
 use Rattle.model.specs.Rule.{ruleNumber, rulePlace, moves, Asked, message, claim, needs, holds}
 use Rattle.model.specs.Publication.{offerOf, offerBytes, claimOf, claimBytes}
 
 -- What is asked for on this record and log is decided by this rule, with this number, and leaves this record and this log.
 pub record Decides (r : LogRecord) (log : List ℕ) (a : Asked) (rule : Rule) (number : ℤ) (next : LogRecord) (left : List ℕ) : Type 0 where
   -- its test holds, and that of no rule before it
-  pub applies : holds (reading r) (length log) a rule ≡ true
-  pub first : (x : Rule) → holds (reading r) (length log) a x ≡ true → rulePlace rule ≤ rulePlace x
+  pub applies : holds (reading r) (isReady r) (length log) a rule ≡ true
+  pub first : (x : Rule) → holds (reading r) (isReady r) (length log) a x ≡ true → rulePlace rule ≤ rulePlace x
   -- its number is the answer's
   pub numbered : number ≡ ruleNumber rule
   -- tripped or accepted: the tail of the partition that was active has moved by the need, which is 32 at least

@@ -2,7 +2,7 @@
 use Prim.Native.Nat.{ℕ}
 use lib.IntN.{ℤ, pos}
 use Rattle.model.specs.declared.Error.{Error}
-use Rattle.model.specs.declared.Error.the-variants.{IllegalArgument, IllegalRecord, PositionOutOfRange, ExceedsMaxPayloadLength, PublicationClosed, AdminAction, MaxPositionExceeded, BackPressured, NotConnected, ExceedsMaxMessageLength, TailOverflow, LastTerm, ActionPossiblyDelayed, ClaimMismatch, NewPositionOutOfRange, NewPositionNotAligned, AssemblyFull, FrameTooShort, FramePastTerm}
+use Rattle.model.specs.declared.Error.the-variants.{IllegalArgument, IllegalRecord, PositionOutOfRange, ExceedsMaxPayloadLength, PublicationClosed, AdminAction, MaxPositionExceeded, BackPressured, NotConnected, ExceedsMaxMessageLength, TailOverflow, LastTerm, ActionPossiblyDelayed, ClaimMismatch, NewPositionOutOfRange, NewPositionNotAligned, AssemblyFull, NotCleared, NotDue, FrameTooShort, FramePastTerm}
 
 abbrev pub numberOf : Error → ℤ
 numberOf IllegalArgument = pos 1
@@ -22,6 +22,8 @@ numberOf ClaimMismatch = pos 14
 numberOf NewPositionOutOfRange = pos 15
 numberOf NewPositionNotAligned = pos 16
 numberOf AssemblyFull = pos 18
+numberOf NotCleared = pos 19
+numberOf NotDue = pos 20
 numberOf (FrameTooShort place) = pos 22
 numberOf (FramePastTerm place) = pos 23
 
@@ -44,5 +46,7 @@ placeOf ClaimMismatch = 0
 placeOf NewPositionOutOfRange = 0
 placeOf NewPositionNotAligned = 0
 placeOf AssemblyFull = 0
+placeOf NotCleared = 0
+placeOf NotDue = 0
 placeOf (FrameTooShort place) = place
 placeOf (FramePastTerm place) = place

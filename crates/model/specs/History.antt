@@ -2,7 +2,7 @@
 -- Read Replay next.
 use mathlib.Core.Path.{_≡_}
 use mathlib.Core.Logic.{_⊎_}
-use Prim.Native.Nat.{ℕ, _+_, _-_, _*_, _%_}
+use Prim.Native.Nat.{ℕ, _+_, _-_, _*_, _%_, _≤_}
 use mathlib.Core.Bool.{Bool, true, false, cond}
 use mathlib.Core.List.{List, [], _∷_, _++_}
 use lib.Dec.{eqb, leb}
@@ -12,7 +12,7 @@ use Rattle.model.specs.declared.LogRecord.{LogRecord}
 use Rattle.model.specs.declared.Claim.{Claim}
 use Rattle.model.specs.declared.Reading.{Reading}
 use Rattle.model.specs.declared.Error.{Error}
-use Rattle.model.specs.declared.Error.the-variants.{IllegalArgument, IllegalRecord, PositionOutOfRange, ExceedsMaxPayloadLength, PublicationClosed, AdminAction, MaxPositionExceeded, BackPressured, NotConnected, ExceedsMaxMessageLength, TailOverflow, LastTerm, ActionPossiblyDelayed, ClaimMismatch, NewPositionOutOfRange, NewPositionNotAligned, AssemblyFull, FrameTooShort, FramePastTerm}
+use Rattle.model.specs.declared.Error.the-variants.{IllegalArgument, IllegalRecord, PositionOutOfRange, ExceedsMaxPayloadLength, PublicationClosed, AdminAction, MaxPositionExceeded, BackPressured, NotConnected, ExceedsMaxMessageLength, TailOverflow, LastTerm, ActionPossiblyDelayed, ClaimMismatch, NewPositionOutOfRange, NewPositionNotAligned, AssemblyFull, NotCleared, NotDue, FrameTooShort, FramePastTerm}
 use Rattle.model.specs.declared.Outcome.{Outcome}
 use Rattle.model.specs.declared.Outcome.the-variants.{Done, Refused}
 use Rattle.model.specs.declared.Offered.{Offered}
@@ -24,7 +24,8 @@ use Rattle.model.specs.FrameDescriptor.{space}
 use Rattle.model.specs.LogBufferDescriptor.{idMinus, payloadLimit}
 use Rattle.model.specs.TermAppender.{need}
 use Rattle.model.specs.BufferClaim.{writeOf, writeBytes, commitOf, commitBytes, abortBytes}
-use Rattle.model.specs.Publication.{limitOf, closeOf, offerOf, offerBytes, claimOf, claimBytes}
+use Rattle.model.specs.Rule.{isTrip}
+use Rattle.model.specs.Publication.{limitOf, closeOf, raiseOf, clearOf, clearBytes, offerOf, offerBytes, claimOf, claimBytes}
 
 -- ---- calls
 
@@ -37,10 +38,13 @@ pub data Call : Type 0 where
   commit abort : Claim → Call
   setLimit : ℤ → Call
   close : Call
+  clear : ℤ → Call
+  raise : ℤ → Call
 
+-- An offer or a claim also answers whether it tripped: the rule that decided says so (R-10 of document 02).
 pub data Answer : Type 0 where
-  offered : Offered → Answer
-  claimed : Claimed → Answer
+  offered : Bool → Offered → Answer
+  claimed : Bool → Claimed → Answer
   outcome : Outcome → Answer
 
 -- what a call gets and leaves: the record and the log
@@ -56,12 +60,12 @@ pub record Step : Type 0 where
 unfoldable pub step : World → Call → Step
 step w (offer m reserved) =
     record {
-      answer = offered (offerOf (w .record·) (w .log) m .answer);
+      answer = offered (isTrip (offerOf (w .record·) (w .log) m .rule)) (offerOf (w .record·) (w .log) m .answer);
       next = record { record· = offerOf (w .record·) (w .log) m .next; log = offerBytes (w .record·) (w .log) m reserved };
     }
 step w (claim n) =
     record {
-      answer = claimed (claimOf (w .record·) (w .log) n .answer);
+      answer = claimed (isTrip (claimOf (w .record·) (w .log) n .rule)) (claimOf (w .record·) (w .log) n .answer);
       next = record { record· = claimOf (w .record·) (w .log) n .next; log = claimBytes (w .record·) (w .log) n };
     }
 step w (fill c b) =
@@ -74,6 +78,10 @@ step w (setLimit n) =
     record { answer = outcome (limitOf (w .record·) n .answer); next = record { record· = limitOf (w .record·) n .next; log = w .log } }
 step w close =
     record { answer = outcome (closeOf (w .record·) .answer); next = record { record· = closeOf (w .record·) .next; log = w .log } }
+step w (clear k) =
+    record { answer = outcome (clearOf (w .record·) (w .log) k .answer); next = record { record· = clearOf (w .record·) (w .log) k .next; log = clearBytes (w .record·) (w .log) k } }
+step w (raise p) =
+    record { answer = outcome (raiseOf (w .record·) p .answer); next = record { record· = raiseOf (w .record·) p .next; log = w .log } }
 
 -- each call gets the record and log that the last one left; the calls with their answers, and the world left
 unfoldable pub answers : World → List Call → List (Call × Answer)
@@ -117,37 +125,20 @@ unfoldable pub sizeAll : Shape → List Extent → ℕ
 sizeAll c [] = 0
 sizeAll c (e ∷ h) = sizeOf c e + sizeAll c h
 
--- one refused after a trip (6, 7, 12) adds padding to the term's end, none where the last extent ends there
-abbrev pub isTrip : Error → Bool
-isTrip IllegalArgument = false
-isTrip IllegalRecord = false
-isTrip PositionOutOfRange = false
-isTrip ExceedsMaxPayloadLength = false
-isTrip PublicationClosed = false
-isTrip AdminAction = true
-isTrip MaxPositionExceeded = true
-isTrip BackPressured = false
-isTrip NotConnected = false
-isTrip ExceedsMaxMessageLength = false
-isTrip TailOverflow = false
-isTrip LastTerm = true
-isTrip ActionPossiblyDelayed = false
-isTrip ClaimMismatch = false
-isTrip NewPositionOutOfRange = false
-isTrip NewPositionNotAligned = false
-isTrip AssemblyFull = false
-isTrip (FrameTooShort place) = false
-isTrip (FramePastTerm place) = false
-
 unfoldable pub padTo : Shape → List Extent → List Extent
 padTo c h = cond (eqb (sizeAll c h % c .term) 0) h (h ++ (padding (c .term - sizeAll c h % c .term) ∷ []))
 
-unfoldable pub afterRefusal : Shape → List Extent → Error → List Extent
-afterRefusal c h e = cond (isTrip e) (padTo c h) h
+-- one refused after a trip (6, 7, 12, 19) adds padding to the term's end, none where the last extent ends there
+abbrev pub afterRefusal : Shape → List Extent → Bool → List Extent
+afterRefusal c h tripped = cond tripped (padTo c h) h
+
+-- the term of a claim record
+unfoldable pub termOf : Shape → Claim → ℕ
+termOf c k = idMinus (word (k .«term_id»)) (c .initial)
 
 -- the position at which a claim's extent begins
 unfoldable pub startOf : Shape → Claim → ℕ
-startOf c k = idMinus (word (k .«term_id»)) (c .initial) * c .term + word (k .offset)
+startOf c k = termOf c k * c .term + word (k .offset)
 
 -- the history with the extent that begins at q changed by f
 unfoldable pub edit : Shape → (Extent → Extent) → ℕ → List Extent → List Extent
@@ -168,14 +159,14 @@ turned s (message reserved m) = message reserved m
 turned s (claimed· t body) = claimed· s body
 turned s (padding n) = padding n
 
-abbrev pub afterOffer : Shape → List Extent → List ℕ → ℤ → Offered → List Extent
-afterOffer c h m reserved (OfferPosition p) = h ++ (message reserved m ∷ [])
-afterOffer c h m reserved (OfferRefused e) = afterRefusal c h e
+abbrev pub afterOffer : Shape → List Extent → List ℕ → ℤ → Bool → Offered → List Extent
+afterOffer c h m reserved tripped (OfferPosition p) = h ++ (message reserved m ∷ [])
+afterOffer c h m reserved tripped (OfferRefused e) = afterRefusal c h tripped
 
 -- an open claim of as many zeros as it asks for
-abbrev pub afterClaim : Shape → List Extent → ℤ → Claimed → List Extent
-afterClaim c h n (ClaimPosition p k) = h ++ (claimed· open· (zeros (word n)) ∷ [])
-afterClaim c h n (ClaimRefused e) = afterRefusal c h e
+abbrev pub afterClaim : Shape → List Extent → ℤ → Bool → Claimed → List Extent
+afterClaim c h n tripped (ClaimPosition p k) = h ++ (claimed· open· (zeros (word n)) ∷ [])
+afterClaim c h n tripped (ClaimRefused e) = afterRefusal c h tripped
 
 abbrev pub afterDone : List Extent → List Extent → Outcome → List Extent
 afterDone h next Done = next
@@ -183,23 +174,25 @@ afterDone h next (Refused e) = h
 
 -- the history after one more call and its answer; all else, refusals too, changes nothing
 unfoldable pub tell : Shape → List Extent → Call → Answer → List Extent
-tell c h (offer m reserved) (offered a) = afterOffer c h m reserved a
-tell c h (offer m reserved) (claimed a) = h
+tell c h (offer m reserved) (offered t a) = afterOffer c h m reserved t a
+tell c h (offer m reserved) (claimed t a) = h
 tell c h (offer m reserved) (outcome a) = h
-tell c h (claim n) (offered a) = h
-tell c h (claim n) (claimed a) = afterClaim c h n a
+tell c h (claim n) (offered t a) = h
+tell c h (claim n) (claimed t a) = afterClaim c h n t a
 tell c h (claim n) (outcome a) = h
-tell c h (fill k b) (offered a) = h
-tell c h (fill k b) (claimed a) = h
+tell c h (fill k b) (offered t a) = h
+tell c h (fill k b) (claimed t a) = h
 tell c h (fill k b) (outcome a) = afterDone h (edit c (written· b) (startOf c k) h) a
-tell c h (commit k) (offered a) = h
-tell c h (commit k) (claimed a) = h
+tell c h (commit k) (offered t a) = h
+tell c h (commit k) (claimed t a) = h
 tell c h (commit k) (outcome a) = afterDone h (edit c (turned committed) (startOf c k) h) a
-tell c h (abort k) (offered a) = h
-tell c h (abort k) (claimed a) = h
+tell c h (abort k) (offered t a) = h
+tell c h (abort k) (claimed t a) = h
 tell c h (abort k) (outcome a) = afterDone h (edit c (turned aborted) (startOf c k) h) a
 tell c h (setLimit n) a = h
 tell c h close a = h
+tell c h (clear k) a = h
+tell c h (raise p) a = h
 
 unfoldable pub told : Shape → List Extent → List (Call × Answer) → List Extent
 told c h [] = h
@@ -227,24 +220,97 @@ learnt ks (ClaimPosition p k) = k ∷ ks
 learnt ks (ClaimRefused e) = ks
 
 abbrev pub learn : List Claim → Answer → List Claim
-learn ks (offered a) = ks
-learn ks (claimed a) = learnt ks a
+learn ks (offered t a) = ks
+learn ks (claimed t a) = learnt ks a
 learn ks (outcome a) = ks
 
 unfoldable pub Among : Claim → List Claim → Type 0
 Among k [] = ⊥
 Among k (l ∷ ks) = (k ≡ l) ⊎ Among k ks
 
--- lendings, commits and aborts get only claim records that claims on this log answered
-abbrev pub Given : List Claim → Call → Type 0
-Given ks (offer m reserved) = Unit {0}
-Given ks (claim n) = Unit {0}
-Given ks (fill k b) = Among k ks
-Given ks (commit k) = Among k ks
-Given ks (abort k) = Among k ks
-Given ks (setLimit n) = Unit {0}
-Given ks close = Unit {0}
+-- ---- the terms begun and cleared, as calls and answers tell them
 
-unfoldable pub AllGiven : List Claim → World → List Call → Type 0
-AllGiven ks w [] = Unit {0}
-AllGiven ks w (x ∷ xs) = Given ks x × AllGiven (learn ks (step w x .answer)) (step w x .next) xs
+-- the count of rotations, and the number of terms cleared: those below it
+pub record Terms : Type 0 where
+  pub turns : ℕ
+  pub cleared : ℕ
+
+abbrev pub noTerms : Terms
+noTerms = record { turns = 0; cleared = 0 }
+
+-- 6 after a trip begins a term
+abbrev pub turnedBy : Terms → Bool → Error → Terms
+turnedBy s tripped IllegalArgument = s
+turnedBy s tripped IllegalRecord = s
+turnedBy s tripped PositionOutOfRange = s
+turnedBy s tripped ExceedsMaxPayloadLength = s
+turnedBy s tripped PublicationClosed = s
+turnedBy s tripped AdminAction = record { turns = cond tripped (s .turns + 1) (s .turns); cleared = s .cleared }
+turnedBy s tripped MaxPositionExceeded = s
+turnedBy s tripped BackPressured = s
+turnedBy s tripped NotConnected = s
+turnedBy s tripped ExceedsMaxMessageLength = s
+turnedBy s tripped TailOverflow = s
+turnedBy s tripped LastTerm = s
+turnedBy s tripped ActionPossiblyDelayed = s
+turnedBy s tripped ClaimMismatch = s
+turnedBy s tripped NewPositionOutOfRange = s
+turnedBy s tripped NewPositionNotAligned = s
+turnedBy s tripped AssemblyFull = s
+turnedBy s tripped NotCleared = s
+turnedBy s tripped NotDue = s
+turnedBy s tripped (FrameTooShort place) = s
+turnedBy s tripped (FramePastTerm place) = s
+
+abbrev pub turnedOffer : Terms → Bool → Offered → Terms
+turnedOffer s tripped (OfferPosition p) = s
+turnedOffer s tripped (OfferRefused e) = turnedBy s tripped e
+
+abbrev pub turnedClaim : Terms → Bool → Claimed → Terms
+turnedClaim s tripped (ClaimPosition p k) = s
+turnedClaim s tripped (ClaimRefused e) = turnedBy s tripped e
+
+-- A clearing at a count of 2 or more clears the term two before the active one, and all before it are cleared already; at 0 and 1 it
+-- clears none.
+abbrev pub clearedIf : Terms → Outcome → Terms
+clearedIf s Done = record { turns = s .turns; cleared = s .turns - 1 }
+clearedIf s (Refused e) = s
+
+unfoldable pub tellTerms : Terms → Call → Answer → Terms
+tellTerms s (offer m reserved) (offered t a) = turnedOffer s t a
+tellTerms s (offer m reserved) (claimed t a) = s
+tellTerms s (offer m reserved) (outcome a) = s
+tellTerms s (claim n) (offered t a) = s
+tellTerms s (claim n) (claimed t a) = turnedClaim s t a
+tellTerms s (claim n) (outcome a) = s
+tellTerms s (fill k b) a = s
+tellTerms s (commit k) a = s
+tellTerms s (abort k) a = s
+tellTerms s (setLimit n) a = s
+tellTerms s close a = s
+tellTerms s (clear k) (offered t a) = s
+tellTerms s (clear k) (claimed t a) = s
+tellTerms s (clear k) (outcome a) = clearedIf s a
+tellTerms s (raise p) a = s
+
+unfoldable pub toldTerms : Terms → List (Call × Answer) → Terms
+toldTerms s [] = s
+toldTerms s (t ∷ ts) = toldTerms (tellTerms s (t .0) (t .1)) ts
+
+-- ---- what the calls are given
+
+-- Lendings, commits and aborts get only claim records that claims on this log answered, and none of a term that is cleared.
+abbrev pub Given : Shape → List Claim → Terms → Call → Type 0
+Given c ks s (offer m reserved) = Unit {0}
+Given c ks s (claim n) = Unit {0}
+Given c ks s (fill k b) = Among k ks × (s .cleared ≤ termOf c k)
+Given c ks s (commit k) = Among k ks × (s .cleared ≤ termOf c k)
+Given c ks s (abort k) = Among k ks × (s .cleared ≤ termOf c k)
+Given c ks s (setLimit n) = Unit {0}
+Given c ks s close = Unit {0}
+Given c ks s (clear k) = Unit {0}
+Given c ks s (raise p) = Unit {0}
+
+unfoldable pub AllGiven : Shape → List Claim → Terms → World → List Call → Type 0
+AllGiven c ks s w [] = Unit {0}
+AllGiven c ks s w (x ∷ xs) = Given c ks s x × AllGiven c (learn ks (step w x .answer)) (tellTerms s x (step w x .answer)) (step w x .next) xs

@@ -28,7 +28,7 @@ use Rattle.model.specs.declared.EndOfStream.the-variants.{Is, Refused as
 use Rattle.model.specs.Bytes.{long}
 use Rattle.model.specs.DataFrameHeader.{headerAt}
 use Rattle.model.specs.FrameDescriptor.{unsoundFrameAt}
-use Rattle.model.specs.LogBufferDescriptor.{partitionOf, reading, greatest, sound}
+use Rattle.model.specs.LogBufferDescriptor.{partitionOf, reading, greatest, goodPosition, sound}
 use Rattle.model.specs.TermReader.{Walked, walk, firstUnsound, natural, goodEntries, goodActions, goodControl, laid}
 use Rattle.model.specs.TermScan.{scanFrom}
 
@@ -49,10 +49,6 @@ movedTo i p = record { position = p; session = i .session; closed = i .closed; e
 
 abbrev pub refuseIf : Bool → Error → ReadVerdict → ReadVerdict
 refuseIf b e rest = cond b (Refuse e) rest
-
--- row 3: a position below zero shows above the greatest
-abbrev pub goodPosition : Reading → ℕ → Bool
-goodPosition v p = leb p (greatest v) && eqb (p % 32) 0
 
 -- 1, 2, closed, 3, and then `rest`
 unfoldable pub readable : Bool → Reading → ℕ → Image → ReadVerdict → ReadVerdict

@@ -7,7 +7,7 @@
 --    0                T               2T               3T
 use mathlib.Core.Path.{_≡_}
 use Prim.Native.Nat.{ℕ, _+_, _-_, _*_, _/_, _%_, _^_, _≤_, min}
-use mathlib.Core.Bool.{Bool, true, cond, _&&_}
+use mathlib.Core.Bool.{Bool, true, false, cond, _&&_}
 use mathlib.Core.List.{List}
 use lib.Dec.{eqb, leb, ltb}
 use lib.ListN.{getD, set}
@@ -107,6 +107,7 @@ readingOf r k =
       id = idOf (tailOf r k);
       offset = offsetOf (tailOf r k);
       closed = r .«is_closed»;
+      slowest = long (r .«slowest_position»);
     }
 
 -- the active partition, and the record read there
@@ -130,6 +131,10 @@ greatest v = v .term * 2147483648
 abbrev pub publisherPosition : Reading → ℤ
 publisherPosition v = positionOf (v .id) (v .initial) (v .term) (min (v .offset) (v .term))
 
+-- row 3: a position below zero shows above the greatest
+abbrev pub goodPosition : Reading → ℕ → Bool
+goodPosition v p = leb p (greatest v) && eqb (p % 32) 0
+
 -- ---- row 2
 
 -- The record's own ranges. An entry point hands the reading at the active partition, an appender the one at its own.
@@ -139,7 +144,8 @@ soundRecord v =
     && (leb 64 (v .mtu) && (leb (v .mtu) 65504 && (eqb (v .mtu % 32) 0
     && (leb (v .count) 2147483647
     && (leb (v .limit) 4611686018427387904
-    && (eqb (v .offset % 32) 0 && leb (v .offset) 2147483647))))))))
+    && (leb (v .slowest) (greatest v) && (eqb (v .slowest % 32) 0
+    && (eqb (v .offset % 32) 0 && leb (v .offset) 2147483647))))))))))
 
 -- and those of a lent log of n bytes: exactly three terms
 unfoldable pub sound : Reading → ℕ → Bool
@@ -155,6 +161,8 @@ pub record Sound (v : Reading) (n : ℕ) : Type 0 where
   pub mtu-32 : v .mtu % 32 ≡ 0
   pub count-high : v .count ≤ 2147483647
   pub limit-high : v .limit ≤ 4611686018427387904
+  pub slowest-high : v .slowest ≤ greatest v
+  pub slowest-32 : v .slowest % 32 ≡ 0
   pub offset-32 : v .offset % 32 ≡ 0
   pub offset-high : v .offset ≤ 2147483647
   pub three : n ≡ 3 * v .term
@@ -202,6 +210,8 @@ changed r tails count limit closed =
       «publication_limit» = limit;
       «end_of_stream_position» = r .«end_of_stream_position»;
       «is_closed» = closed;
+      «slowest_position» = r .«slowest_position»;
+      «is_cleared» = r .«is_cleared»;
     }
 
 -- the tail of partition k at (id, offset)
@@ -217,11 +227,49 @@ withLimit r n = changed r (r .tails) (r .«active_term_count») n (r .«is_close
 unfoldable pub withClosed : LogRecord → LogRecord
 withClosed r = changed r (r .tails) (r .«active_term_count») (r .«publication_limit») true
 
+-- and the slowest reader's position and the marks of cleared partitions
+unfoldable pub noted : LogRecord → ℤ → List Bool → LogRecord
+noted r slowest marks =
+    record {
+      tails = r .tails;
+      «active_term_count» = r .«active_term_count»;
+      «initial_term_id» = r .«initial_term_id»;
+      «term_length» = r .«term_length»;
+      «mtu_length» = r .«mtu_length»;
+      «session_id» = r .«session_id»;
+      «stream_id» = r .«stream_id»;
+      «is_connected» = r .«is_connected»;
+      «publication_limit» = r .«publication_limit»;
+      «end_of_stream_position» = r .«end_of_stream_position»;
+      «is_closed» = r .«is_closed»;
+      «slowest_position» = slowest;
+      «is_cleared» = marks;
+    }
+
+unfoldable pub withSlowest : LogRecord → ℤ → LogRecord
+withSlowest r p = noted r p (r .«is_cleared»)
+
+unfoldable pub withMark : LogRecord → ℕ → Bool → LogRecord
+withMark r k b = noted r (r .«slowest_position») (set (r .«is_cleared») k b)
+
+-- ---- the partition due next
+
+abbrev pub due : ℕ → ℕ
+due count = (count + 1) % 3
+
+abbrev pub isMarked : LogRecord → ℕ → Bool
+isMarked r k = getD (r .«is_cleared») k false
+
+-- it is marked as cleared
+abbrev pub isReady : LogRecord → Bool
+isReady r = isMarked r (due (word (r .«active_term_count»)))
+
 -- ---- rotation
 
--- the next partition's tail becomes (id + 1, 0) if its id is id - 2
+-- the next partition's tail becomes (id + 1, 0) if its id is id - 2; its mark goes in any case
 unfoldable pub nextTail : LogRecord → ℕ → ℕ → LogRecord
-nextTail r count id = cond (eqb (idPlus (idOf (tailOf r ((count + 1) % 3))) 2) id) (withTail r ((count + 1) % 3) (idPlus id 1) 0) r
+nextTail r count id =
+    withMark (cond (eqb (idPlus (idOf (tailOf r ((count + 1) % 3))) 2) id) (withTail r ((count + 1) % 3) (idPlus id 1) 0) r) (due count) false
 
 -- as an offer or a claim rotates: the count rises by 1 in any case
 unfoldable pub rotated : LogRecord → ℕ → ℕ → LogRecord

@@ -1,7 +1,7 @@
 -- The publication: opening, limit change, close, position, limit, window, offer and claim. Each refusal stands in document 01's order
--- ("Answers, by number", last paragraph), as R-3 of document 02 amends it, with what it leaves. Which check decided is Rule's. Read TermReader next.
-use Prim.Native.Nat.{ℕ, _+_, _*_}
-use mathlib.Core.Bool.{Bool, false, cond, _&&_, not}
+-- ("Answers, by number", last paragraph), as R-3 and R-4 of document 02 amend it, with what it leaves. Which check decided is Rule's. Read TermReader next.
+use Prim.Native.Nat.{ℕ, _+_, _-_, _*_}
+use mathlib.Core.Bool.{Bool, true, false, cond, _&&_, _||_, not}
 use mathlib.Core.List.{List, [], _∷_}
 use lib.Dec.{eqb, leb, ltb}
 use lib.ListN.{length, replicate}
@@ -9,7 +9,7 @@ use lib.IntN.{ℤ, pos, _-ℤ_}
 use Rattle.model.specs.declared.LogRecord.{LogRecord}
 use Rattle.model.specs.declared.Reading.{Reading}
 use Rattle.model.specs.declared.Error.{Error}
-use Rattle.model.specs.declared.Error.the-variants.{IllegalArgument, IllegalRecord, ExceedsMaxPayloadLength, PublicationClosed, AdminAction, MaxPositionExceeded, BackPressured, NotConnected, ExceedsMaxMessageLength, TailOverflow, LastTerm}
+use Rattle.model.specs.declared.Error.the-variants.{IllegalArgument, IllegalRecord, ExceedsMaxPayloadLength, PublicationClosed, AdminAction, MaxPositionExceeded, BackPressured, NotConnected, ExceedsMaxMessageLength, TailOverflow, LastTerm, PositionOutOfRange, NewPositionOutOfRange, NotCleared, NotDue}
 use Rattle.model.specs.declared.Verdict.{Verdict}
 use Rattle.model.specs.declared.Verdict.the-variants.{Pass, Refuse}
 use Rattle.model.specs.declared.Outcome.the-variants.{Done, Refused}
@@ -22,9 +22,9 @@ use Rattle.model.specs.declared.OfferReply.{OfferReply}
 use Rattle.model.specs.declared.Claimed.{Claimed}
 use Rattle.model.specs.declared.Claimed.the-variants.{Position as ClaimPosition, Refused as ClaimRefused}
 use Rattle.model.specs.declared.ClaimReply.{ClaimReply}
-use Rattle.model.specs.Bytes.{word, long, zeros}
+use Rattle.model.specs.Bytes.{word, long, splice, zeros}
 use Rattle.model.specs.FrameDescriptor.{space}
-use Rattle.model.specs.LogBufferDescriptor.{idMinus, rawOf, active, reading, payloadLimit, messageLimit, greatest, publisherPosition, soundRecord, sound, withTail, withLimit, withClosed, lastTerm, rotated}
+use Rattle.model.specs.LogBufferDescriptor.{idMinus, rawOf, active, reading, payloadLimit, messageLimit, greatest, publisherPosition, soundRecord, sound, goodPosition, goodPartition, firstRows, withTail, withLimit, withClosed, withSlowest, withMark, due, isReady, lastTerm, rotated}
 use Rattle.model.specs.TermAppender.{written, cut, need, padded, claimed, claimRecord}
 use Rattle.model.specs.Rule.{message, claim, decided}
 
@@ -49,6 +49,8 @@ openedRecord term mtu initial session stream =
       «publication_limit» = pos 0;
       «end_of_stream_position» = pos 9223372036854775807;
       «is_closed» = false;
+      «slowest_position» = pos 0;
+      «is_cleared» = false ∷ true ∷ true ∷ [];
     }
 
 -- What a refused opening answers: a record of zeros. It breaks row 2 (`no-record`, proofs/Edges.antt), so every call refuses it, with 2, or with
@@ -67,6 +69,8 @@ noRecord =
       «publication_limit» = pos 0;
       «end_of_stream_position» = pos 0;
       «is_closed» = false;
+      «slowest_position» = pos 0;
+      «is_cleared» = replicate 3 false;
     }
 
 unfoldable pub openVerdict : LogRecord → ℕ → Verdict
@@ -96,6 +100,41 @@ limitOf r n = changeOf r (withLimit r n)
 
 abbrev pub closeOf : LogRecord → RecordReply
 closeOf r = changeOf r (withClosed r)
+
+-- ---- the slowest reader: 2 (of the record as it stands), 3, 15
+
+unfoldable pub raiseVerdict : Reading → ℕ → Verdict
+raiseVerdict v p =
+    refuseIf (not (soundRecord v)) IllegalRecord
+    (refuseIf (not (goodPosition v p)) PositionOutOfRange
+    (refuseIf (ltb p (v .slowest)) NewPositionOutOfRange
+    Pass))
+
+abbrev pub replyBy : LogRecord → LogRecord → Verdict → RecordReply
+replyBy r next (Refuse e) = record { next = r; answer = Refused e }
+replyBy r next Pass = record { next = next; answer = Done }
+
+unfoldable pub raiseOf : LogRecord → ℤ → RecordReply
+raiseOf r p = replyBy r (withSlowest r p) (raiseVerdict (reading r) (long p))
+
+-- ---- clearing the partition due next: 1, 2, 20
+
+-- another partition, or one that the slowest reader may still read
+unfoldable pub notDue : Reading → ℕ → Bool
+notDue v k = not (eqb k (due (v .count))) || (leb 2 (v .count) && ltb (v .slowest) ((v .count - 1) * v .term))
+
+unfoldable pub clearVerdict : Reading → ℕ → ℕ → Verdict
+clearVerdict v n k = firstRows (goodPartition k) (sound v n) (refuseIf (notDue v k) NotDue Pass)
+
+unfoldable pub clearOf : LogRecord → List ℕ → ℤ → RecordReply
+clearOf r log k = replyBy r (withMark r (word k) true) (clearVerdict (reading r) (length log) (word k))
+
+abbrev pub clearedBy : Reading → List ℕ → ℕ → Verdict → List ℕ
+clearedBy v log k (Refuse e) = log
+clearedBy v log k Pass = splice log (k * v .term) (zeros (v .term))
+
+unfoldable pub clearBytes : LogRecord → List ℕ → ℤ → List ℕ
+clearBytes r log k = clearedBy (reading r) log (word k) (clearVerdict (reading r) (length log) (word k))
 
 -- ---- position, limit, window: 2, 5
 
@@ -135,21 +174,22 @@ tailRoom v needed = refuseIf (ltb 2147483647 (v .offset + needed)) TailOverflow 
 abbrev pub fits : Reading → ℕ → Bool
 fits v needed = leb (v .offset + needed) (v .term)
 
--- A trip: 7, 12, or rotated and 6. In 7's sum the offset counts twice: the position holds it already.
-unfoldable pub onTrip {ℓ} : {X : Type ℓ} → Reading → X → X → X → X
-onTrip v seven twelve six = cond (ltb (greatest v) (place v + v .offset)) seven (cond (lastTerm (v .count)) twelve six)
+-- A trip: 7, 12, 19 where the next partition is not marked (R-4), or rotated and 6. In 7's sum the offset counts twice: the position holds it already.
+unfoldable pub onTrip {ℓ} : {X : Type ℓ} → Reading → Bool → X → X → X → X → X
+onTrip v ready seven twelve nineteen six =
+    cond (ltb (greatest v) (place v + v .offset)) seven (cond (lastTerm (v .count)) twelve (cond ready six nineteen))
 
-abbrev pub tripError : Reading → Error
-tripError v = onTrip v MaxPositionExceeded LastTerm AdminAction
+abbrev pub tripError : Reading → Bool → Error
+tripError v ready = onTrip v ready MaxPositionExceeded LastTerm NotCleared AdminAction
 
-abbrev pub tripNext : LogRecord → Reading → LogRecord
-tripNext moved v = onTrip v moved moved (rotated moved (v .count) (v .id))
+abbrev pub tripNext : LogRecord → Reading → Bool → LogRecord
+tripNext moved v ready = onTrip v ready moved moved moved (rotated moved (v .count) (v .id))
 
 -- the record after the append: the tail moved, and after a trip that gives 6 rotated
 unfoldable pub appendNext : LogRecord → Reading → ℕ → LogRecord
 appendNext r v needed =
     cond (fits v needed) (withTail r (active r) (v .id) (v .offset + needed))
-    (tripNext (withTail r (active r) (v .id) (v .offset + needed)) v)
+    (tripNext (withTail r (active r) (v .id) (v .offset + needed)) v (isReady r))
 
 -- ---- offer
 
@@ -173,9 +213,9 @@ beforeAppend v n m rest =
 abbrev pub offerVerdict : Reading → ℕ → ℕ → Verdict
 offerVerdict v n m = beforeAppend v n m (tailRoom v (needOf v m))
 
-abbrev pub offeredBy : Reading → ℕ → Verdict → Offered
-offeredBy v needed (Refuse e) = OfferRefused e
-offeredBy v needed Pass = cond (fits v needed) (OfferPosition (pos (place v + needed))) (OfferRefused (tripError v))
+abbrev pub offeredBy : LogRecord → Reading → ℕ → Verdict → Offered
+offeredBy r v needed (Refuse e) = OfferRefused e
+offeredBy r v needed Pass = cond (fits v needed) (OfferPosition (pos (place v + needed))) (OfferRefused (tripError v (isReady r)))
 
 abbrev pub nextBy : LogRecord → Reading → ℕ → Verdict → LogRecord
 nextBy r v needed (Refuse e) = r
@@ -191,8 +231,8 @@ unfoldable pub offerOf : LogRecord → List ℕ → List ℕ → OfferReply
 offerOf r log m =
     record {
       next = nextBy r (reading r) (needOf (reading r) (length m)) (offerVerdict (reading r) (length log) (length m));
-      answer = offeredBy (reading r) (needOf (reading r) (length m)) (offerVerdict (reading r) (length log) (length m));
-      rule = decided (reading r) (length log) (message (length m));
+      answer = offeredBy r (reading r) (needOf (reading r) (length m)) (offerVerdict (reading r) (length log) (length m));
+      rule = decided (reading r) (isReady r) (length log) (message (length m));
     }
 
 unfoldable pub offerBytes : LogRecord → List ℕ → List ℕ → ℤ → List ℕ
@@ -216,7 +256,7 @@ claimVerdict v n m =
 
 abbrev pub claimedBy : LogRecord → Reading → ℕ → Verdict → Claimed
 claimedBy r v m (Refuse e) = ClaimRefused e
-claimedBy r v m Pass = cond (fits v (space m)) (ClaimPosition (pos (place v + space m)) (claimRecord v (active r) m)) (ClaimRefused (tripError v))
+claimedBy r v m Pass = cond (fits v (space m)) (ClaimPosition (pos (place v + space m)) (claimRecord v (active r) m)) (ClaimRefused (tripError v (isReady r)))
 
 -- the entry point: record, log, length
 unfoldable pub claimOf : LogRecord → List ℕ → ℤ → ClaimReply
@@ -224,7 +264,7 @@ claimOf r log m =
     record {
       next = nextBy r (reading r) (space (word m)) (claimVerdict (reading r) (length log) (word m));
       answer = claimedBy r (reading r) (word m) (claimVerdict (reading r) (length log) (word m));
-      rule = decided (reading r) (length log) (claim (word m));
+      rule = decided (reading r) (isReady r) (length log) (claim (word m));
     }
 
 unfoldable pub claimBytes : LogRecord → List ℕ → ℤ → List ℕ

@@ -1,6 +1,8 @@
--- A replay: polls from position 0 by a fresh image into a fresh assembler. Read Demand next.
+-- A replay: polls from a position by a fresh image into a fresh assembler, only while below the publisher's position. Read Demand next.
 use Prim.Native.Nat.{ℕ, zero, suc, _+_, _-_, _*_}
-use mathlib.Core.Bool.{cond}
+use mathlib.Core.Bool.{Bool, false, cond, not, _&&_}
+use mathlib.Core.Logic.{_⊎_}
+use lib.Signed.{ltZ}
 use lib.Dec.{eqb, leb}
 use mathlib.Core.Path.{_≡_}
 use mathlib.Core.List.{List, [], _∷_, _++_}
@@ -15,7 +17,7 @@ use Rattle.model.specs.declared.Assembled.the-variants.{Nothing, Fragmen
 use Rattle.model.specs.declared.Replayed.{Replayed}
 use Rattle.model.specs.declared.Replayed.the-variants.{InLog, InBuffer, End, Refused as ReplayRefused}
 use Rattle.model.specs.Bytes.{long}
-use Rattle.model.specs.LogBufferDescriptor.{reading, partitionOf}
+use Rattle.model.specs.LogBufferDescriptor.{reading, partitionOf, publisherPosition, goodPosition, sound}
 use Rattle.model.specs.TermReader.{natural}
 use Rattle.model.specs.Image.{Image, newImage, PollReply, pollOf}
 use Rattle.model.specs.FragmentAssembler.{Sessions, fresh, Assembly, assembleOf}
@@ -62,9 +64,17 @@ round r log limit slots p =
     (entriesOf (pollOf r log (p .image) slots limit .answer)) (pollOf r log (p .image) slots limit .slots)
     (withImage p (pollOf r log (p .image) slots limit .next))
 
--- from position 0 by a fresh image into a fresh assembler over a lent buffer
-abbrev pub start : ℤ → List ℕ → Replaying
-start session buffer = record { image = newImage (pos 0) session; sessions = fresh; buffer = buffer; out = [] }
+-- from a position by a fresh image into a fresh assembler over a lent buffer
+abbrev pub start : ℕ → ℤ → List ℕ → Replaying
+start from session buffer = record { image = newImage (pos from) session; sessions = fresh; buffer = buffer; out = [] }
+
+-- below the publisher's position
+abbrev pub isBelow : LogRecord → ℤ → Bool
+isBelow r p = ltZ p (publisherPosition (reading r))
+
+-- a poll only while below it
+unfoldable pub turn : LogRecord → List ℕ → ℤ → List ℤ → Replaying → Replaying
+turn r log limit slots p = cond (isBelow r (p .image .position)) (round r log limit slots p) p
 
 -- the polls of a replay, each with its own fragment limit and lent entries
 pub record Polls : Type 0 where
@@ -73,12 +83,21 @@ pub record Polls : Type 0 where
 
 unfoldable pub rounds : LogRecord → List ℕ → Polls → Replaying → ℕ → Replaying
 rounds r log ps p zero = p
-rounds r log ps p (suc n) = round r log (ps .limit n) (ps .slots n) (rounds r log ps p n)
+rounds r log ps p (suc n) = turn r log (ps .limit n) (ps .slots n) (rounds r log ps p n)
 
--- nothing comes and nothing moves
-pub record Quiet (r : LogRecord) (log : List ℕ) (ps : Polls) (p : Replaying) (n : ℕ) : Type 0 where
-  pub comes : pollOf r log (rounds r log ps p n .image) (ps .slots n) (ps .limit n) .answer ≡ Fragments 0 0
-  pub moves : pollOf r log (rounds r log ps p n .image) (ps .slots n) (ps .limit n) .next ≡ rounds r log ps p n .image
+-- nothing comes and nothing moves at the n-th poll
+pub record QuietPoll (r : LogRecord) (log : List ℕ) (ps : Polls) (p : Replaying) (n : ℕ) : Type 0 where
+  pub comes : pollOf r log (p .image) (ps .slots n) (ps .limit n) .answer ≡ Fragments 0 0
+  pub moves : pollOf r log (p .image) (ps .slots n) (ps .limit n) .next ≡ p .image
+
+-- the replay is over: not below the publisher's position, or quiet
+abbrev pub Quiet : LogRecord → List ℕ → Polls → Replaying → ℕ → Type 0
+Quiet r log ps p n = (isBelow r (rounds r log ps p n .image .position) ≡ false) ⊎ QuietPoll r log ps (rounds r log ps p n) n
+
+-- demand 3's own replay, of a stream short of three terms: polls wherever it stands
+unfoldable pub freeRounds : LogRecord → List ℕ → Polls → Replaying → ℕ → Replaying
+freeRounds r log ps p zero = p
+freeRounds r log ps p (suc n) = round r log (ps .limit n) (ps .slots n) (freeRounds r log ps p n)
 
 -- ---- message by message, as the crate `replay` runs it: polls of one fragment each, until one gives a message
 
@@ -115,30 +134,33 @@ assembleOne r log s =
     assembleOf r log (s .sessions) (s .buffer) (pos (partitionOf (long (s .image .position)) (reading r .term)))
     (pos (natural (getD (pollOne r log (s .image) .slots) 0 (pos 0)) - 32))
 
--- A log holds three terms: from their end on there is nothing to replay. Else nothing came and nothing moved, or only padding did, or a
--- fragment came.
+-- Nothing came and nothing moved, or only padding did, or a fragment came.
 abbrev pub turnBy : LogRecord → List ℕ → ReplayState → Polled → (ReplayState → NextReply) → NextReply
 turnBy r log s (Refused e) go = giving s (ReplayRefused e)
 turnBy r log s (Fragments n m) go =
-    cond (leb (3 * reading r .term) (long (s .image .position))) (giving s End)
-    (cond (eqb m 0)
+    cond (eqb m 0)
     (cond (eqb (long (pollOne r log (s .image) .next .position)) (long (s .image .position))) (giving s End)
     (go (record { image = pollOne r log (s .image) .next; sessions = s .sessions; buffer = s .buffer })))
     (givenBy (partitionOf (long (s .image .position)) (reading r .term) * reading r .term) s
-    (assembledTo (pollOne r log (s .image) .next) (assembleOne r log s)) (assembleOne r log s .answer) go))
+    (assembledTo (pollOne r log (s .image) .next) (assembleOne r log s)) (assembleOne r log s .answer) go)
+
+-- where rows 2 and 3 refuse nothing, from the publisher's position on there is nothing to replay
+abbrev pub isOver : LogRecord → List ℕ → ℤ → Bool
+isOver r log p = sound (reading r) (length log) && (goodPosition (reading r) (long p) && not (isBelow r p))
 
 unfoldable pub nextFrom : ℕ → LogRecord → List ℕ → ReplayState → NextReply
 nextFrom zero r log s = giving s End
-nextFrom (suc fuel) r log s = turnBy r log s (pollOne r log (s .image) .answer) (λ t. nextFrom fuel r log t)
+nextFrom (suc fuel) r log s =
+    cond (isOver r log (s .image .position)) (giving s End) (turnBy r log s (pollOne r log (s .image) .answer) (λ t. nextFrom fuel r log t))
 
--- Row 1, the lent buffer, is judged before anything else. Each turn that goes on moves, so the bytes of the log are enough turns.
+-- Row 1, the lent buffer, is judged before anything else. Each turn that goes on moves, and no replay passes more than three terms, so the bytes of the log are enough turns.
 unfoldable pub nextOf : LogRecord → List ℕ → ReplayState → NextReply
 nextOf r log s =
     cond (leb (length (s .buffer)) 2147483647) (nextFrom (suc (3 * reading r .term)) r log s) (giving s (ReplayRefused IllegalArgument))
 
--- from position 0 by a fresh image into a fresh assembler over a lent buffer
-abbrev pub fromStart : ℤ → List ℕ → ReplayState
-fromStart session buffer = record { image = newImage (pos 0) session; sessions = fresh; buffer = buffer }
+-- from a position by a fresh image into a fresh assembler over a lent buffer
+abbrev pub fromStart : ℤ → ℤ → List ℕ → ReplayState
+fromStart from session buffer = record { image = newImage from session; sessions = fresh; buffer = buffer }
 
 -- where so many calls leave it
 unfoldable pub standing : ℕ → LogRecord → List ℕ → ReplayState → ReplayState

@@ -8,7 +8,7 @@ use lib.Dec.{eqb, leb, ltb}
 use lib.IntN.{ℤ, pos}
 use Rattle.model.specs.declared.Reading.{Reading}
 use Rattle.model.specs.declared.Rule.{Rule}
-use Rattle.model.specs.declared.Rule.the-variants.{IllegalArgument, IllegalRecord, PublicationClosed, ExceedsMaxPayloadLength, CountOutOfStep, LimitPastMaxPosition, BackPressured, NotConnected, ExceedsMaxMessageLength, TailOverflow, TripPastMaxPosition, LastTerm, TermRotated, Unfragmented, Fragmented, Claimed}
+use Rattle.model.specs.declared.Rule.the-variants.{IllegalArgument, IllegalRecord, PublicationClosed, ExceedsMaxPayloadLength, CountOutOfStep, LimitPastMaxPosition, BackPressured, NotConnected, ExceedsMaxMessageLength, TailOverflow, TripPastMaxPosition, LastTerm, NotCleared, TermRotated, Unfragmented, Fragmented, Claimed}
 use Rattle.model.specs.FrameDescriptor.{space}
 use Rattle.model.specs.LogBufferDescriptor.{payloadLimit, messageLimit, greatest, sound, idMinus, lastTerm}
 use Rattle.model.specs.TermAppender.{need}
@@ -29,19 +29,20 @@ ruleNumber ExceedsMaxMessageLength = pos 10
 ruleNumber TailOverflow = pos 11
 ruleNumber TripPastMaxPosition = pos 7
 ruleNumber LastTerm = pos 12
+ruleNumber NotCleared = pos 19
 ruleNumber TermRotated = pos 6
 ruleNumber Unfragmented = pos 0
 ruleNumber Fragmented = pos 0
 ruleNumber Claimed = pos 0
 
--- Document 01's order, as R-3 of document 02 amends it, one for both calls: 1, 2, 5, 4 (claims), 6 (count), 7/8/9, 10 (offers), 11, then on a trip 7, 12,
--- 6; then what is accepted.
+-- Document 01's order, as R-3 and R-4 of document 02 amend it, one for both calls: 1, 2, 5, 4 (claims), 6 (count), 7/8/9, 10 (offers), 11, then on a trip
+-- 7, 12, 19, 6; then what is accepted.
 unfoldable pub order : List Rule
 order =
     IllegalArgument ∷ IllegalRecord ∷ PublicationClosed ∷ ExceedsMaxPayloadLength ∷ CountOutOfStep
     ∷ LimitPastMaxPosition ∷ BackPressured ∷ NotConnected
     ∷ ExceedsMaxMessageLength ∷ TailOverflow
-    ∷ TripPastMaxPosition ∷ LastTerm ∷ TermRotated
+    ∷ TripPastMaxPosition ∷ LastTerm ∷ NotCleared ∷ TermRotated
     ∷ Unfragmented ∷ Fragmented ∷ Claimed ∷ []
 
 -- the place in it, from 1
@@ -58,14 +59,19 @@ rulePlace ExceedsMaxMessageLength = 9
 rulePlace TailOverflow = 10
 rulePlace TripPastMaxPosition = 11
 rulePlace LastTerm = 12
-rulePlace TermRotated = 13
-rulePlace Unfragmented = 14
-rulePlace Fragmented = 15
-rulePlace Claimed = 16
+rulePlace NotCleared = 13
+rulePlace TermRotated = 14
+rulePlace Unfragmented = 15
+rulePlace Fragmented = 16
+rulePlace Claimed = 17
 
 -- The tail moves first: by the rules that stand behind 11, which are those of a trip and those that accept.
 abbrev pub moves : Rule → Bool
 moves x = ltb (rulePlace TailOverflow) (rulePlace x)
+
+-- those of a trip: from 7 by a trip to rotated
+abbrev pub isTrip : Rule → Bool
+isTrip x = moves x && leb (rulePlace x) (rulePlace TermRotated)
 
 -- ---- the tests
 
@@ -97,24 +103,26 @@ notBelow v = leb (v .limit) (standsAt v)
 abbrev pub trips : Reading → Asked → Bool
 trips v a = ltb (v .term) (v .offset + needs v a)
 
--- Each rule's row of document 01's table, for a record read so and a log of n bytes. On a trip 7's sum has the offset twice.
-unfoldable pub holds : Reading → ℕ → Asked → Rule → Bool
-holds v n a IllegalArgument = ltb 2147483647 (bytesOf a)
-holds v n a IllegalRecord = not (sound v n)
-holds v n a PublicationClosed = v .closed
-holds v n a ExceedsMaxPayloadLength = isClaim a && ltb (payloadLimit v) (bytesOf a)
-holds v n a CountOutOfStep = not (eqb (idMinus (v .id) (v .initial)) (v .count))
-holds v n a LimitPastMaxPosition = notBelow v && leb (greatest v) (standsAt v + bytesOf a)
-holds v n a BackPressured = notBelow v && eqb (v .connected) 1
-holds v n a NotConnected = notBelow v && not (eqb (v .connected) 1)
-holds v n a ExceedsMaxMessageLength = not (isClaim a) && (ltb (payloadLimit v) (bytesOf a) && ltb (messageLimit v) (bytesOf a))
-holds v n a TailOverflow = ltb 2147483647 (v .offset + needs v a)
-holds v n a TripPastMaxPosition = trips v a && ltb (greatest v) (standsAt v + v .offset)
-holds v n a LastTerm = trips v a && lastTerm (v .count)
-holds v n a TermRotated = trips v a
-holds v n a Unfragmented = not (isClaim a) && leb (bytesOf a) (payloadLimit v)
-holds v n a Fragmented = not (isClaim a) && ltb (payloadLimit v) (bytesOf a)
-holds v n a Claimed = isClaim a
+-- Each rule's row of document 01's table, for a record read so whose next partition is marked or not, and a log of n bytes. On a trip 7's sum has the
+-- offset twice.
+unfoldable pub holds : Reading → Bool → ℕ → Asked → Rule → Bool
+holds v ready n a IllegalArgument = ltb 2147483647 (bytesOf a)
+holds v ready n a IllegalRecord = not (sound v n)
+holds v ready n a PublicationClosed = v .closed
+holds v ready n a ExceedsMaxPayloadLength = isClaim a && ltb (payloadLimit v) (bytesOf a)
+holds v ready n a CountOutOfStep = not (eqb (idMinus (v .id) (v .initial)) (v .count))
+holds v ready n a LimitPastMaxPosition = notBelow v && leb (greatest v) (standsAt v + bytesOf a)
+holds v ready n a BackPressured = notBelow v && eqb (v .connected) 1
+holds v ready n a NotConnected = notBelow v && not (eqb (v .connected) 1)
+holds v ready n a ExceedsMaxMessageLength = not (isClaim a) && (ltb (payloadLimit v) (bytesOf a) && ltb (messageLimit v) (bytesOf a))
+holds v ready n a TailOverflow = ltb 2147483647 (v .offset + needs v a)
+holds v ready n a TripPastMaxPosition = trips v a && ltb (greatest v) (standsAt v + v .offset)
+holds v ready n a LastTerm = trips v a && lastTerm (v .count)
+holds v ready n a NotCleared = trips v a && not ready
+holds v ready n a TermRotated = trips v a
+holds v ready n a Unfragmented = not (isClaim a) && leb (bytesOf a) (payloadLimit v)
+holds v ready n a Fragmented = not (isClaim a) && ltb (payloadLimit v) (bytesOf a)
+holds v ready n a Claimed = isClaim a
 
 -- ---- the rule
 
@@ -123,5 +131,5 @@ unfoldable pub firstOf : (Rule → Bool) → List Rule → Rule
 firstOf test [] = Claimed
 firstOf test (x ∷ xs) = cond (test x) x (firstOf test xs)
 
-unfoldable pub decided : Reading → ℕ → Asked → Rule
-decided v n a = firstOf (holds v n a) order
+unfoldable pub decided : Reading → Bool → ℕ → Asked → Rule
+decided v ready n a = firstOf (holds v ready n a) order

@@ -15,6 +15,8 @@ pub struct LogRecord {
     pub publication_limit: i64,
     pub end_of_stream_position: i64,
     pub is_closed: bool,
+    pub slowest_position: i64,
+    pub is_cleared: [bool; 3],
 }
 
 // What a claim answers beside its position: partition, offset of the frame in its term, frame length, term id.
@@ -46,6 +48,8 @@ pub enum Error {
     NewPositionOutOfRange,
     NewPositionNotAligned,
     AssemblyFull,
+    NotCleared,
+    NotDue,
     FrameTooShort(u32),
     FramePastTerm(u32),
 }
@@ -64,6 +68,7 @@ pub struct Reading {
     pub id: usize,
     pub offset: usize,
     pub closed: bool,
+    pub slowest: usize,
 }
 
 // A place that a reader names: the record as it is read, a partition, and an offset of its term.
@@ -151,6 +156,7 @@ pub enum Rule {
     TailOverflow,
     TripPastMaxPosition,
     LastTerm,
+    NotCleared,
     TermRotated,
     Unfragmented,
     Fragmented,

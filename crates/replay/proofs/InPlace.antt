@@ -36,9 +36,9 @@ use Rattle.model.specs.declared.Replayed.the-variants.{InLog, InBuffer, End, Re
 use Rattle.model.specs.Bytes.{long, u32}
 use Rattle.model.specs.DataFrameHeader.{headerAt}
 use Rattle.model.specs.FrameDescriptor.{align, isFinished, lengthAt, unsoundLength, frameBy, frameAt, isUnsound, flagsAt, begins, ends}
-use Rattle.model.specs.LogBufferDescriptor.{reading, sound, greatest, partitionOf, goodPartition, goodOffset}
+use Rattle.model.specs.LogBufferDescriptor.{reading, sound, greatest, partitionOf, goodPartition, goodOffset, goodPosition}
 use Rattle.model.specs.TermReader.{natural, Walked, still, handed, walk, firstUnsound, goodEntries, laid, numbers}
-use Rattle.model.specs.Image.{Image, PollReply, movedTo, readable, goodPosition, walkAt, unsoundAt, pollReply, pollVerdict, pollOf}
+use Rattle.model.specs.Image.{Image, PollReply, movedTo, readable, walkAt, unsoundAt, pollReply, pollVerdict, pollOf}
 use Rattle.model.specs.FragmentAssembler.{Sessions, Assembly, sessionAt, assembledBy, joining, joined, joinedAt, goodAssembly, assembleVerdict, assembleBy, assembleOf}
 use Rattle.model.specs.Replay.{ReplayState, NextReply, giving, givenBy, assembledTo, pollOne, assembleOne, turnBy, nextFrom, nextOf}
 use Rattle.model.proofs.Both.{and-true, and-false, both-true}

@@ -14,8 +14,7 @@ use Rattle.model.specs.declared.Error.the-variants.{PositionOutOfRange}
 use Rattle.model.specs.declared.Verdict.{Verdict}
 use Rattle.model.specs.declared.Verdict.the-variants.{Pass, Refuse}
 use Rattle.model.specs.Bytes.{word, long}
-use Rattle.model.specs.LogBufferDescriptor.{reading, sound, greatest, firstRows}
-use Rattle.model.specs.Image.{goodPosition}
+use Rattle.model.specs.LogBufferDescriptor.{reading, sound, greatest, firstRows, goodPosition}
 use Rattle.model.proofs.Both.{and-true}
 use Rattle.model.proofs.Sound.{sound-true}
 use Rattle.tally.specs.Span.{goodSpan, spanRows}

@@ -11,8 +11,7 @@ use Rattle.model.specs.declared.Verdict.{Verdict}
 use Rattle.model.specs.declared.Verdict.the-variants.{Refuse}
 use Rattle.model.specs.Bytes.{long}
 use Rattle.model.specs.FrameDescriptor.{isUnsound, unsoundFrameAt}
-use Rattle.model.specs.LogBufferDescriptor.{partitionOf, reading, sound, firstRows, frameRow}
-use Rattle.model.specs.Image.{goodPosition}
+use Rattle.model.specs.LogBufferDescriptor.{partitionOf, reading, sound, firstRows, frameRow, goodPosition}
 use Rattle.tally.specs.Walk.{frameIn}
 
 -- row 1: in order, and at most three terms apart, by the term length that the record holds, sound or not

@@ -6,8 +6,7 @@ use borrow.Author.Tests.{not-true, not-false}
 use borrow.Author.Needs.{needs}
 use Rattle.model.specs.declared.Reading.{Reading}
 use Rattle.model.specs.Bytes.{long}
-use Rattle.model.specs.LogBufferDescriptor.{reading, sound}
-use Rattle.model.specs.Image.{goodPosition}
+use Rattle.model.specs.LogBufferDescriptor.{reading, sound, goodPosition}
 use Rattle.model.proofs.Sound.{sound-true}
 use Rattle.logbuffer.proofs.Signed.{long-by}
 use Rattle.tally.specs.Span.{goodSpan}
