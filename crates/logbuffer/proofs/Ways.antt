@@ -69,6 +69,9 @@ same : (r : LogRecord) (k : ℕ) (w : Way) → length (r .tails) ≤ k → r ≡
 unfolding changed
 same r k w h = ap (λ (t : List ℤ). changed r t (r .«active_term_count») (r .«publication_limit») (r .«is_closed»)) (sym (set-out (r .tails) k (w .tail) h))
 
+pub refused-moves : (r : LogRecord) (k : ℕ) (w : Way) (x : Course) (e : _) → x ≡ Refuse e → r ≡ movedWith r k w x
+refused-moves r k w x e h = sym (ap (movedWith r k w) h)
+
 pub none-moves : (r : LogRecord) (k : ℕ) (w : Way) (x : Course) → length (r .tails) ≤ k → r ≡ movedWith r k w x
 none-moves r k w (Refuse e) h = refl
 none-moves r k w Stray h = same r k w h

@@ -24,6 +24,8 @@ pub fn number(error: Error) -> i32
         Error::NewPositionOutOfRange => 15,
         Error::NewPositionNotAligned => 16,
         Error::AssemblyFull => 18,
+        Error::NotCleared => 19,
+        Error::NotDue => 20,
         Error::FrameTooShort(_) => 22,
         Error::FramePastTerm(_) => 23,
     }
@@ -51,6 +53,8 @@ pub fn place(error: Error) -> u32
         Error::NewPositionOutOfRange => 0,
         Error::NewPositionNotAligned => 0,
         Error::AssemblyFull => 0,
+        Error::NotCleared => 0,
+        Error::NotDue => 0,
         Error::FrameTooShort(place) => place,
         Error::FramePastTerm(place) => place,
     }

@@ -4,7 +4,7 @@ ghost use Prim.Native.Nat.{_+_, _^_, _≤_, _<_};
 ghost use lib.IntN.{pos, _*ℤ_};
 ghost use mir.Syntax.{w32};
 ghost use mir.Val.{toZ};
-ghost use Rattle.model.specs.LogBufferDescriptor.{idPlus, idMinus, offsetOf, termId, termOffset, indexByTermCount, indexByPosition, bitsToShift, computePosition, tailOf, readingOf, reading, soundRecord, sound, withTail, withCount, nextTail, rotateVerdict, rotateLogOf};
+ghost use Rattle.model.specs.LogBufferDescriptor.{idPlus, idMinus, offsetOf, termId, termOffset, indexByTermCount, indexByPosition, bitsToShift, computePosition, tailOf, readingOf, reading, soundRecord, sound, withTail, withCount, withMark, isMarked, nextTail, rotateVerdict, rotateLogOf};
 use crate::cast;
 use crate::frame_descriptor::FRAME_ALIGNMENT;
 use model::Error;
@@ -141,6 +141,7 @@ pub fn read(rec: LogRecord, partition: usize) -> Reading
         id: id,
         offset: offset,
         closed: rec.is_closed,
+        slowest: cast::long(rec.slowest_position),
     }
 }
 
@@ -181,6 +182,12 @@ pub fn is_sound_record(numbers: Reading) -> bool
     if numbers.limit > 4611686018427387904 {
         return false;
     }
+    if numbers.slowest > numbers.term * 2147483648 {
+        return false;
+    }
+    if numbers.slowest % FRAME_ALIGNMENT != 0 {
+        return false;
+    }
     if numbers.offset % FRAME_ALIGNMENT != 0 {
         return false;
     }
@@ -218,9 +225,35 @@ fn with_count(rec: LogRecord, n: usize) -> LogRecord
     next
 }
 
+// The mark of a partition as cleared (R-4 of document 02); none where there is no such partition.
+pub fn is_marked(rec: LogRecord, partition: usize) -> bool
+    ensures { λ r. ⌜ r ≡ isMarked rec partition ⌝ }
+{
+    if partition == 0 {
+        return rec.is_cleared[0];
+    }
+    if partition == 1 {
+        return rec.is_cleared[1];
+    }
+    if partition == 2 {
+        return rec.is_cleared[2];
+    }
+    false
+}
+
+// The mark set or removed.
+pub(crate) fn with_mark(rec: LogRecord, k: usize, mark: bool) -> LogRecord
+    requires { ⌜ k < 3 ⌝ }
+    ensures { λ r. ⌜ r ≡ withMark rec k mark ⌝ }
+{
+    let mut next = rec;
+    next.is_cleared[k] = mark;
+    next
+}
+
 // ---- rotation
 
-// The next partition's tail is set where it is two terms behind.
+// The next partition's tail is set where it is two terms behind; its mark goes in any case.
 fn next_tail(rec: LogRecord, count: usize, id: usize) -> LogRecord
     requires { ⌜ (count < 2147483648) × (id < 4294967296) ⌝ }
     ensures { λ r. ⌜ r ≡ nextTail rec count id ⌝ }
@@ -228,9 +261,10 @@ fn next_tail(rec: LogRecord, count: usize, id: usize) -> LogRecord
     let k = (count + 1) % PARTITION_COUNT;
     let v = read(rec, k);
     if id_plus(v.id as u32, 2) as usize == id {
-        return with_tail(rec, k, id_plus(id as u32, 1) as usize, 0);
+        let next = with_tail(rec, k, id_plus(id as u32, 1) as usize, 0);
+        return with_mark(next, k, false);
     }
-    rec
+    with_mark(rec, k, false)
 }
 
 fn rotate_verdict(v: Reading, count: usize) -> Verdict

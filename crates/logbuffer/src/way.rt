@@ -54,6 +54,7 @@ pub(crate) fn way_by(v: Reading, needed: usize, course: Course) -> Way
 fn with_tails(rec: LogRecord, tails: [i64; 3]) -> LogRecord
     ensures { λ r. ⌜ r ≡ changed rec tails (rec .«active_term_count») (rec .«publication_limit») (rec .«is_closed») ⌝ }
 {
+    let marks = rec.is_cleared;
     LogRecord {
         tails: tails,
         active_term_count: rec.active_term_count,
@@ -66,6 +67,8 @@ fn with_tails(rec: LogRecord, tails: [i64; 3]) -> LogRecord
         publication_limit: rec.publication_limit,
         end_of_stream_position: rec.end_of_stream_position,
         is_closed: rec.is_closed,
+        slowest_position: rec.slowest_position,
+        is_cleared: marks,
     }
 }
 

@@ -1,10 +1,12 @@
--- By the next partition's term id.
+-- By the next partition's term id; its mark goes on both ways.
 use mathlib.Core.Path.{_≡_, sym, ap, subst, _∙_}
+use mathlib.Core.Bool.{false}
 use Prim.Native.Nat.{ℕ, _%_, _+_, _<_}
 use native.Mathlib.Omega.{arith}
 use borrow.Author.Needs.{needs}
+use Rattle.model.specs.declared.LogRecord.{LogRecord}
 use Rattle.model.specs.declared.Reading.{Reading}
-use Rattle.model.specs.LogBufferDescriptor.{idPlus, withTail, readingOf}
+use Rattle.model.specs.LogBufferDescriptor.{idPlus, withTail, withMark, readingOf}
 use Rattle.model.proofs.Sound.{id-small}
 use Rattle.model.proofs.Rotate.{next-set, next-kept}
 use Rattle.logbuffer.proofs.log_buffer_descriptor.next_tail.Statement.{statement}
@@ -19,14 +21,16 @@ two-on c = c .id-plus .ensures ∙ ap (λ (x : Reading). idPlus (x .id) 2) (c .b
 
 returns : tie.Need-returns
 returns c =
-    let a = c .before .before .before .before .before .before .args in
-    c .with-tail .ensures ∙ ap (λ (i : ℕ). withTail (a .rec) ((a .count + 1) % 3) i 0) (c .before .id-plus2 .ensures)
-    ∙ next-set (a .rec) (a .count) (a .id) (sym (two-on (c .before .before .before)) ∙ c .before .before .if1 .taken)
+    let a = c .before .before .before .before .before .before .before .args in
+    c .with-mark .ensures
+    ∙ ap (λ (x : LogRecord). withMark x ((a .count + 1) % 3) false)
+    (c .before .with-tail .ensures ∙ ap (λ (i : ℕ). withTail (a .rec) ((a .count + 1) % 3) i 0) (c .before .before .id-plus2 .ensures))
+    ∙ next-set (a .rec) (a .count) (a .id) (sym (two-on (c .before .before .before .before)) ∙ c .before .before .before .if1 .taken)
 
 returns-2 : tie.Need-returns-2
 returns-2 c =
-    let a = c .before .before .before .before .args in
-    next-kept (a .rec) (a .count) (a .id) (λ h. c .if1 .left (two-on (c .before) ∙ h))
+    let a = c .before .before .before .before .before .args in
+    c .with-mark2 .ensures ∙ next-kept (a .rec) (a .count) (a .id) (λ h. c .before .if1 .left (two-on (c .before .before) ∙ h))
 
 pub next-tail-spec : {M : Type 1} → statement M
 next-tail-spec =
@@ -41,5 +45,7 @@ next-tail-spec =
     (search needs)
     (search needs)
     (search needs)
+    (search needs)
     returns
+    (search needs)
     returns-2)

@@ -14,11 +14,11 @@ use Rattle.logbuffer.proofs.Signed.{word-by, long-by}
 use Rattle.logbuffer.proofs.log_buffer_descriptor.read.Statement.{statement}
 use Rattle.logbuffer.proofs.log_buffer_descriptor.read.Tie as tie
 
-same-reading : (r : LogRecord) (k t m c i s st co l b o : ℕ) → t ≡ word (r .«term_length») → m ≡ word (r .«mtu_length») → c ≡ word (r .«active_term_count») → i ≡ idBits (word (r .«initial_term_id»))
-    → s ≡ word (r .«session_id») → st ≡ word (r .«stream_id») → co ≡ word (r .«is_connected») → l ≡ long (r .«publication_limit») → b ≡ idOf (tailOf r k) → o ≡ offsetOf (tailOf r k)
-    → record { term = t; mtu = m; count = c; initial = i; session = s; stream = st; connected = co; limit = l; id = b; offset = o; closed = r .«is_closed» } ≡ readingOf r k
+same-reading : (r : LogRecord) (k t m c i s st co l b o sl : ℕ) → t ≡ word (r .«term_length») → m ≡ word (r .«mtu_length») → c ≡ word (r .«active_term_count») → i ≡ idBits (word (r .«initial_term_id»))
+    → s ≡ word (r .«session_id») → st ≡ word (r .«stream_id») → co ≡ word (r .«is_connected») → l ≡ long (r .«publication_limit») → b ≡ idOf (tailOf r k) → o ≡ offsetOf (tailOf r k) → sl ≡ long (r .«slowest_position»)
+    → record { term = t; mtu = m; count = c; initial = i; session = s; stream = st; connected = co; limit = l; id = b; offset = o; closed = r .«is_closed»; slowest = sl } ≡ readingOf r k
 unfolding readingOf
-same-reading r k t m c i s st co l b o h1 h2 h3 h4 h5 h6 h7 h8 h9 h10 = cc
+same-reading r k t m c i s st co l b o sl h1 h2 h3 h4 h5 h6 h7 h8 h9 h10 h11 = cc
 
 tail-fits : (c : tie.After-tail) → SFits w64 (c .tail .result)
 tail-fits c = search needs
@@ -50,6 +50,9 @@ connected-fits c = search needs
 limit-fits : (c : tie.Start) → SFits w64 (c .args .rec .«publication_limit»)
 limit-fits c = search needs
 
+slowest-fits : (c : tie.Start) → SFits w64 (c .args .rec .«slowest_position»)
+slowest-fits c = search needs
+
 -- the two halves of the tail
 id-is : (c : tie.After-word) → (let s = c .before .before .before .args in c .word .result ≡ long (tailOf (s .rec) (s .partition)) / 4294967296)
 id-is c =
@@ -61,12 +64,13 @@ own-bits : (n m : ℕ) → n ≡ m → n < 4294967296 → n ≡ idBits m
 own-bits n m e h = omega arith
 
 returns : tie.Need-returns
-returns c =
+returns d =
+    let c = d .before .before in
     let s = c .before .before .before .before .before .before .before .before .before .before .before .before .before .before .before .before .before .before .before .before in
     let r = s .args .rec in
     let t = c .before .before .before .before .before .before .before .before .before .before .before .before .before .before .before .before .before .before .before in
     let w = c .before .before .before .before .before .before .before .before .before .before .before .before .before .before .before .before .before in
-    same-reading r (s .args .partition) _ _ _ _ _ _ _ _ _ _
+    same-reading r (s .args .partition) _ _ _ _ _ _ _ _ _ _ _
     (word-by (r .«term_length») (c .before .before .before .before .before .before .before .before .before .before .before .before .before .before .word2 .ensures .0) (term-fits s))
     (word-by (r .«mtu_length») (c .before .before .before .before .before .before .before .before .before .before .before .before .word3 .ensures .0) (mtu-fits s))
     (word-by (r .«active_term_count») (c .before .before .before .before .before .before .before .before .before .before .word4 .ensures .0) (count-fits s))
@@ -77,11 +81,13 @@ returns c =
     (long-by (r .«publication_limit») (c .long .ensures .0) (limit-fits s))
     (own-bits _ _ (id-is w) (w .word .ensures .1))
     (c .before .before .before .before .before .before .before .before .before .before .before .before .before .before .before .before .offset-bits .ensures ∙ ap offsetOf (toZ-ofZ (tail-fits t) ∙ t .tail .ensures))
+    (long-by (r .«slowest_position») (d .long2 .ensures .0) (slowest-fits s))
 
 pub read-spec : {M : Type 1} → statement M
 read-spec =
     tie.close
     (tie.spec
+    (search needs)
     (search needs)
     (search needs)
     (search needs)

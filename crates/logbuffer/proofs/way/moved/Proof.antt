@@ -6,12 +6,12 @@ use native.Mathlib.Omega.{arith}
 use borrow.Author.Needs.{needs}
 use mir.Syntax.{w64}
 use mir.Facts.{toZ-ofZ}
-use Rattle.logbuffer.proofs.Ways.{tail-moves, none-moves}
+use Rattle.logbuffer.proofs.Ways.{tail-moves, none-moves, refused-moves}
 use Rattle.logbuffer.proofs.way.moved.Statement.{statement}
 use Rattle.logbuffer.proofs.way.moved.Tie as tie
 
 returns : tie.Need-returns
-returns c = search needs
+returns c = let a = c .before .before .args in refused-moves (a .rec) (a .k) (a .way) (a .way .course) _ (c .enum-told .given .1)
 
 returns-2 : tie.Need-returns-2
 returns-2 c = let a = c .before .before .before .before .before .args in
