@@ -329,7 +329,7 @@ module _ (r : LogRecord) (log : List ℕ) (snd : Sound (reading r) (length log))
       behind front back q l = subst Stuck (sym (sizes-zero back (omega (arith, ap sizes q, sizes-append front back)))) tt
 
       below-is : (p : Replaying) (front back : List Cell) → Stands p front back → isBelow r (p .image .position) ≡ ltb (at· front) (p₀ + sizes fs)
-      below-is p front back s = ap₂ (λ (i : Image) (x : ℤ). ltZ (i .position) x) (s .image) reaches
+      below-is p front back s = ap₂ (λ (i : Image) (x : ℤ). ltZ (pos (long (i .position))) x) (s .image) reaches
 
       turn-below : (p : Replaying) (front back : List Cell) → Stands p front back → sizes front < sizes fs → (limit : ℤ) (slots : List ℤ) → turn r log limit slots p ≡ round r log limit slots p
       unfolding turn

@@ -70,7 +70,7 @@ start from session buffer = record { image = newImage (pos from) session; sessio
 
 -- below the publisher's position
 abbrev pub isBelow : LogRecord → ℤ → Bool
-isBelow r p = ltZ p (publisherPosition (reading r))
+isBelow r p = ltZ (pos (long p)) (publisherPosition (reading r))
 
 -- a poll only while below it
 unfoldable pub turn : LogRecord → List ℕ → ℤ → List ℤ → Replaying → Replaying
