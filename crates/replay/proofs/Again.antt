@@ -25,8 +25,8 @@ use Rattle.model.specs.FrameDescriptor.{flagsAt}
 use Rattle.model.specs.LogBufferDescriptor.{reading, partitionOf}
 use Rattle.model.specs.TermReader.{natural}
 use Rattle.model.specs.FragmentAssembler.{Sessions, sessionAt, joining, bufferBy, assembleVerdict, assembleBy, assembleOf}
-use Rattle.model.specs.Replay.{ReplayState, NextReply, giving, givenBy, assembledTo, pollOne, assembleOne, turnBy, nextFrom, nextOf}
-use Rattle.model.proofs.Choice.{split, le-yes, le-no}
+use Rattle.model.specs.Replay.{ReplayState, NextReply, giving, givenBy, assembledTo, pollOne, assembleOne, isOver, turnBy, nextFrom, nextOf}
+use Rattle.model.proofs.Choice.{split, le-yes, le-no, cond-case, cond-false}
 use Rattle.model.proofs.Splice.{length-splice}
 use Rattle.logbuffer.proofs.Assembly.{verdict-passed, Fit, join-fits}
 use Rattle.replay.specs.Again.{RefusesAgain}
@@ -61,6 +61,7 @@ module _ (r : LogRecord) (log : List ℕ) (e : Error) where
   -- a state from which the first turn refuses, whatever follows it
   pub record Stuck (t : ReplayState) : Type 0 where
     pub lent : length (t .buffer) ≤ 2147483647
+    pub on : isOver r log (t .image .position) ≡ false
     pub turns : (go : ReplayState → NextReply) → turnBy r log t (pollOne r log (t .image) .answer) go ≡ giving t (ReplayRefused e)
 
   Comes : NextReply → Type 0
@@ -73,10 +74,7 @@ module _ (r : LogRecord) (log : List ℕ) (e : Error) where
   given-stuck s t base (Message at n) go ih k = λ h. absurd (let z : _≡_ {A = ℕ} 0 1 = cc in omega arith)
   given-stuck s t base (AssemblyRefused x) go ih k = λ h. k x refl (let y : x ≡ e = cc in y)
 
-  module _ (s : ReplayState) (lent : length (s .buffer) ≤ 2147483647) where
-    abbrev A : Bool
-    A = leb (3 * reading r .term) (long (s .image .position))
-
+  module _ (s : ReplayState) (lent : length (s .buffer) ≤ 2147483647) (on : isOver r log (s .image .position) ≡ false) where
     abbrev C : Bool
     C = eqb (long (pollOne r log (s .image) .next .position)) (long (s .image .position))
 
@@ -93,42 +91,44 @@ module _ (r : LogRecord) (log : List ℕ) (e : Error) where
     behind-lent = omega (arith, lent, assembled-long r log (s .sessions) (s .buffer) (partitionOf (long (s .image .position)) (reading r .term)) (natural (getD (pollOne r log (s .image) .slots) 0 (pos 0)) - 32))
 
     -- the turn with its tests taken
-    abbrev tested : Bool → Bool → Bool → (ReplayState → NextReply) → NextReply
-    tested a b c go = cond a (giving s End) (cond b (cond c (giving s End) (go passed)) (givenBy base s behind (assembleOne r log s .answer) go))
+    abbrev tested : Bool → Bool → (ReplayState → NextReply) → NextReply
+    tested b c go = cond b (cond c (giving s End) (go passed)) (givenBy base s behind (assembleOne r log s .answer) go)
 
-    tests : (a b c : Bool) (go : ReplayState → NextReply) → ((t : ReplayState) → length (t .buffer) ≤ 2147483647 → Comes (go t))
-        → ((x : Error) → assembleOne r log s .answer ≡ AssemblyRefused x → x ≡ e → a ≡ false → b ≡ false → Stuck s) → Comes (tested a b c go)
+    tests : (b c : Bool) (go : ReplayState → NextReply) → ((t : ReplayState) → length (t .buffer) ≤ 2147483647 → Comes (go t))
+        → ((x : Error) → assembleOne r log s .answer ≡ AssemblyRefused x → x ≡ e → b ≡ false → Stuck s) → Comes (tested b c go)
     unfolding Comes
-    tests true b c go ih k = λ h. absurd (let z : _≡_ {A = ℕ} 0 1 = cc in omega arith)
-    tests false true true go ih k = λ h. absurd (let z : _≡_ {A = ℕ} 0 1 = cc in omega arith)
-    tests false true false go ih k = ih passed lent
-    tests false false c go ih k = given-stuck s behind base (assembleOne r log s .answer) go (ih behind behind-lent) (λ x q y. k x q y refl refl)
+    tests true true go ih k = λ h. absurd (let z : _≡_ {A = ℕ} 0 1 = cc in omega arith)
+    tests true false go ih k = ih passed lent
+    tests false c go ih k = given-stuck s behind base (assembleOne r log s .answer) go (ih behind behind-lent) (λ x q y. k x q y refl)
 
     turn-stuck : (x : Polled) → pollOne r log (s .image) .answer ≡ x → (go : ReplayState → NextReply) → ((t : ReplayState) → length (t .buffer) ≤ 2147483647 → Comes (go t)) → Comes (turnBy r log s x go)
     unfolding Comes
     turn-stuck (PollRefused x) p go ih = λ h.
         let y : x ≡ e = cc in
-        record { lent = lent; turns = λ f. ap (λ (z : Polled). turnBy r log s z f) p ∙ ap (λ (z : Error). giving s (ReplayRefused z)) y }
+        record { lent = lent; on = on; turns = λ f. ap (λ (z : Polled). turnBy r log s z f) p ∙ ap (λ (z : Error). giving s (ReplayRefused z)) y }
     turn-stuck (Fragments n m) p go ih =
-        tests A (eqb m 0) C go ih
-        (λ x q y a b. record {
+        tests (eqb m 0) C go ih
+        (λ x q y b. record {
           lent = lent;
+          on = on;
           turns = λ f.
               ap (λ (z : Polled). turnBy r log s z f) p
-              ∙ ap₂ (λ (t u : Bool). tested t u C f) a b
+              ∙ ap (λ (u : Bool). tested u C f) b
               ∙ ap (λ (z : Assembled). givenBy base s behind z f) (q ∙ ap AssemblyRefused y);
         })
 
   stuck : (fuel : ℕ) (s : ReplayState) → length (s .buffer) ≤ 2147483647 → Comes (nextFrom fuel r log s)
   unfolding nextFrom Comes
   stuck zero s h = λ q. absurd (let z : _≡_ {A = ℕ} 0 1 = cc in omega arith)
-  stuck (suc fuel) s h = turn-stuck s h (pollOne r log (s .image) .answer) refl (λ t. nextFrom fuel r log t) (λ t k. stuck fuel t k)
+  stuck (suc fuel) s h =
+      cond-case Comes (isOver r log (s .image .position)) (giving s End) _ (λ o q. absurd (let z : _≡_ {A = ℕ} 0 1 = cc in omega arith))
+      (λ o. turn-stuck s h o (pollOne r log (s .image) .answer) refl (λ t. nextFrom fuel r log t) (λ t k. stuck fuel t k))
 
   -- from such a state the next call refuses at once
   at-once : (t : ReplayState) → Stuck t → nextOf r log t ≡ giving t (ReplayRefused e)
   unfolding nextOf nextFrom
   at-once t k =
-      le-yes (length (t .buffer)) 2147483647 _ _ (k .lent) ∙ k .turns (λ u. nextFrom (3 * reading r .term) r log u)
+      le-yes (length (t .buffer)) 2147483647 _ _ (k .lent) ∙ cond-false (isOver r log (t .image .position)) (giving t End) _ (k .on) ∙ k .turns (λ u. nextFrom (3 * reading r .term) r log u)
 
 pub refuses-again : RefusesAgain
 unfolding RefusesAgain Comes

@@ -18,7 +18,7 @@ use Rattle.model.specs.LogBufferDescriptor.{reading}
 use Rattle.model.specs.History.{World, total}
 use Rattle.model.specs.Replay.{ReplayState, NextReply, giving, givenBy, assembledTo, turnBy, nextFrom, nextOf, fromStart, standing, messageBy, replayed}
 use Rattle.model.specs.Demand.{GivesAll}
-use Rattle.model.proofs.Demand.{Few}
+use Rattle.model.proofs.Season.{Few}
 use Rattle.replay.specs.declared.Counted.{Counted}
 use Rattle.replay.specs.declared.Counted.the-variants.{Counts}
 use Rattle.replay.specs.Replays.{Tally, addedTo, givesBy, lengthBy, countedBy, countFrom, countOf}
@@ -57,9 +57,9 @@ module _ (r : LogRecord) (log : List ℕ) where
       ∙ counting ms (y .next) left (n + 1) (b + length m) (omega arith) (omega arith) (g .1) last
       ∙ ap₂ Counts (let x : n + 1 + length ms ≡ n + suc (length ms) = omega arith in x) (let x : b + length m + total ms ≡ b + (length m + total ms) = omega arith in x)
 
-pub counts-all : (w : World) (session : ℤ) (lent : List ℕ) (ms : List (List ℕ)) → GivesAll w session lent ms → Few (w .record·) ms
-    → countOf (w .record·) (w .log) session lent .answer ≡ Counts (length ms) (total ms)
-counts-all w session lent ms g f =
-    counting (w .record·) (w .log) ms (fromStart session lent) (3 * reading (w .record·) .term + 1) 0 0 (omega (arith, f .messages)) (omega (arith, f .bytes))
+pub counts-all : (w : World) (p : ℕ) (session : ℤ) (lent : List ℕ) (ms : List (List ℕ)) → GivesAll w p session lent ms → Few (w .record·) ms
+    → countOf (w .record·) (w .log) (pos p) session lent .answer ≡ Counts (length ms) (total ms)
+counts-all w p session lent ms g f =
+    counting (w .record·) (w .log) ms (fromStart (pos p) session lent) (3 * reading (w .record·) .term + 1) 0 0 (omega (arith, f .messages)) (omega (arith, f .bytes))
     (g .each (suc (length ms)) (omega arith)) (g .ended (length ms) (omega arith))
     ∙ ap₂ Counts (let x : 0 + length ms ≡ length ms = omega arith in x) (let x : 0 + total ms ≡ total ms = omega arith in x)

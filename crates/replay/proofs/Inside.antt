@@ -25,7 +25,7 @@ use Rattle.model.specs.Bytes.{word, long, u32, splice}
 use Rattle.model.specs.FrameDescriptor.{flagsAt}
 use Rattle.model.specs.LogBufferDescriptor.{reading, partitionOf}
 use Rattle.model.specs.FragmentAssembler.{Sessions, Assembly, partLength, sessionAt, bodyLength, assembleVerdict, assembleBy, assembleOf, assembledBy, bufferBy, joined, joining}
-use Rattle.model.specs.Replay.{ReplayState, NextReply, giving, givenBy, assembledTo, pollOne, assembleOne, turnBy, nextFrom, nextOf}
+use Rattle.model.specs.Replay.{ReplayState, NextReply, giving, givenBy, assembledTo, pollOne, assembleOne, isOver, turnBy, nextFrom, nextOf}
 use Rattle.model.proofs.Splice.{length-splice}
 use Rattle.logbuffer.specs.Assembler.{Framed}
 use Rattle.logbuffer.proofs.Assembly.{verdict-passed, Fit, join-fits}
@@ -93,16 +93,16 @@ module _ (r : LogRecord) (log : List ℕ) where
   turn-inside : (s : ReplayState) (x : Polled) (go : ReplayState → NextReply) → ((t : ReplayState) → InsideReply log (go t)) → InsideReply log (turnBy r log s x go)
   turn-inside s (Refused e) go h = tt
   turn-inside s (Fragments n m) go h =
-      by-test log (leb (3 * reading r .term) (long (s .image .position))) (giving s End) _ tt
-      (by-test log (eqb m 0) _ _
+      by-test log (eqb m 0) _ _
       (by-test log (eqb (long (pollOne r log (s .image) .next .position)) (long (s .image .position))) (giving s End) _ tt (h _))
       (given-inside log (partitionOf (long (s .image .position)) (reading r .term) * reading r .term) s (assembledTo (pollOne r log (s .image) .next) (assembleOne r log s)) (assembleOne r log s .answer) go
-      (assembled-lies r log (s .sessions) (s .buffer) (partitionOf (long (s .image .position)) (reading r .term)) _) h))
+      (assembled-lies r log (s .sessions) (s .buffer) (partitionOf (long (s .image .position)) (reading r .term)) _) h)
 
   from-inside : (fuel : ℕ) (s : ReplayState) → InsideReply log (nextFrom fuel r log s)
   unfolding nextFrom
   from-inside zero s = tt
-  from-inside (suc fuel) s = turn-inside s (pollOne r log (s .image) .answer) (λ t. nextFrom fuel r log t) (λ t. from-inside fuel t)
+  from-inside (suc fuel) s =
+      by-test log (isOver r log (s .image .position)) (giving s End) _ tt (turn-inside s (pollOne r log (s .image) .answer) (λ t. nextFrom fuel r log t) (λ t. from-inside fuel t))
 
   pub next-inside : (s : ReplayState) → InsideReply log (nextOf r log s)
   unfolding nextOf

@@ -234,14 +234,14 @@ module _ (r : LogRecord) (log : List ℕ) where
 
   -- ---- batch after batch
 
-  module _ (session : ℤ) (lent : List ℕ) (ms : List (List ℕ)) (g₀ : GivesAll (record { record· = r; log = log }) session lent ms) (x : Batching r log session lent) where
+  module _ (from : ℕ) (session : ℤ) (lent : List ℕ) (ms : List (List ℕ)) (g₀ : GivesAll (record { record· = r; log = log }) from session lent ms) (x : Batching r log from session lent) where
     abbrev state : ℕ → ReplayState
     state n = stateOf (x .replay n) (x .buffer n)
 
-    begins : state 0 ≡ fromStart session lent
+    begins : state 0 ≡ fromStart (pos from) session lent
     begins =
         ap₂ (λ (i : Image) (s : Sessions). like i s (x .buffer 0)) (x .made .0) (x .made .1)
-        ∙ ap (like (newImage (pos 0) session) fresh) (x .first)
+        ∙ ap (like (newImage (pos from) session) fresh) (x .first)
       where
         like : Image → Sessions → List ℕ → ReplayState
         like i s b = record { image = i; sessions = s; buffer = b }

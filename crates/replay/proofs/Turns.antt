@@ -27,7 +27,7 @@ use Rattle.model.specs.LogBufferDescriptor.{readingOf, reading, sound, partitio
 use Rattle.model.specs.TermReader.{Walked, natural, goodEntries}
 use Rattle.model.specs.Image.{Image, newImage, polledBy, pollVerdict, pollOf}
 use Rattle.model.specs.FragmentAssembler.{Sessions, Assembly, fresh, assembleVerdict, assembleBy, assembleOf, assembledBy, bufferBy, joining}
-use Rattle.model.specs.Replay.{ReplayState, NextReply, giving, givenBy, assembledTo, pollOne, assembleOne, turnBy, nextFrom, nextOf}
+use Rattle.model.specs.Replay.{ReplayState, NextReply, giving, givenBy, assembledTo, pollOne, assembleOne, isOver, turnBy, nextFrom, nextOf, fromStart}
 use Rattle.model.proofs.Choice.{cond-true, cond-false, le-yes, le-no, eq-yes, eq-no}
 use Rattle.logbuffer.proofs.Assembly.{verdict-passed}
 use Rattle.image.proofs.Rungs.{not-good, not-sound}
@@ -102,19 +102,16 @@ module _ (r : LogRecord) (log : List ℕ) (s : ReplayState) (n m : ℕ) where
   abbrev Term : ℕ
   Term = reading r .term
 
-  pub turn-end : Term ≤ P / 3 → stops s End ≡ turnSaid r log s (Fragments n m)
-  turn-end h = sym (le-yes (3 * Term) P (stops s End) _ (omega arith))
-
-  pub turn-fragment : P / 3 < Term → ¬ (m ≡ 0)
+  pub turn-fragment : ¬ (m ≡ 0)
       → fragmentTurn (partitionOf P Term * Term) s (assembledTo (pollOne r log (s .image) .next) (assembleOne r log s)) (assembleOne r log s .answer) ≡ turnSaid r log s (Fragments n m)
-  turn-fragment h e = sym (le-no (3 * Term) P (stops s End) _ (omega arith) ∙ eq-no m 0 _ _ e)
+  turn-fragment e = sym (eq-no m 0 _ _ e)
 
-  pub turn-quiet : P / 3 < Term → m ≡ 0 → long (pollOne r log (s .image) .next .position) ≡ P → stops s End ≡ turnSaid r log s (Fragments n m)
-  turn-quiet h e q = sym (le-no (3 * Term) P (stops s End) _ (omega arith) ∙ eq-yes m 0 _ _ e ∙ eq-yes (long (pollOne r log (s .image) .next .position)) P _ _ q)
+  pub turn-quiet : m ≡ 0 → long (pollOne r log (s .image) .next .position) ≡ P → stops s End ≡ turnSaid r log s (Fragments n m)
+  turn-quiet e q = sym (eq-yes m 0 _ _ e ∙ eq-yes (long (pollOne r log (s .image) .next .position)) P _ _ q)
 
-  pub turn-padding : P / 3 < Term → m ≡ 0 → ¬ (long (pollOne r log (s .image) .next .position) ≡ P)
+  pub turn-padding : m ≡ 0 → ¬ (long (pollOne r log (s .image) .next .position) ≡ P)
       → goesOn (record { image = pollOne r log (s .image) .next; sessions = s .sessions; buffer = s .buffer }) ≡ turnSaid r log s (Fragments n m)
-  turn-padding h e q = sym (le-no (3 * Term) P (stops s End) _ (omega arith) ∙ eq-yes m 0 _ _ e ∙ eq-no (long (pollOne r log (s .image) .next .position)) P _ _ q)
+  turn-padding e q = sym (eq-yes m 0 _ _ e ∙ eq-no (long (pollOne r log (s .image) .next .position)) P _ _ q)
 
   -- the fragment that came, by the code's own numbers
   pub fragment-one : (i : Image) (k : ℕ) (entry : ℤ) → i ≡ pollOne r log (s .image) .next → k ≡ partitionOf P Term → entry ≡ getD (pollOne r log (s .image) .slots) 0 (pos 0)
@@ -175,10 +172,9 @@ follow-fragment base s t (AssemblyRefused e) go = refl
 turn-follow : (r : LogRecord) (log : List ℕ) (s : ReplayState) (x : Polled) (go : ReplayState → NextReply) → turnBy r log s x go ≡ follow (turnSaid r log s x) go
 turn-follow r log s (Refused e) go = refl
 turn-follow r log s (Fragments n m) go =
-    follow-cond (leb (3 * reading r .term) (long (s .image .position))) (stops s End) _ (giving s End) _ go refl
-    (follow-cond (eqb m 0) _ _ _ _ go
+    follow-cond (eqb m 0) _ _ _ _ go
     (follow-cond (eqb (long (pollOne r log (s .image) .next .position)) (long (s .image .position))) (stops s End) (goesOn (record { image = pollOne r log (s .image) .next; sessions = s .sessions; buffer = s .buffer })) (giving s End) _ go refl refl)
-    (follow-fragment (partitionOf (long (s .image .position)) (reading r .term) * reading r .term) s (assembledTo (pollOne r log (s .image) .next) (assembleOne r log s)) (assembleOne r log s .answer) go))
+    (follow-fragment (partitionOf (long (s .image .position)) (reading r .term) * reading r .term) s (assembledTo (pollOne r log (s .image) .next) (assembleOne r log s)) (assembleOne r log s .answer) go)
 
 module _ (r : LogRecord) (log : List ℕ) (s : ReplayState) where
   pub next-none : (left : ℕ) → left ≡ 0 → giving s End ≡ nextFrom left r log s
@@ -187,7 +183,9 @@ module _ (r : LogRecord) (log : List ℕ) (s : ReplayState) where
 
   next-turn : (n : ℕ) → nextFrom (suc n) r log s ≡ follow (turnOf r log s) (λ (t : ReplayState). nextFrom n r log t)
   unfolding nextFrom
-  next-turn n = turn-follow r log s (pollOne r log (s .image) .answer) (λ (t : ReplayState). nextFrom n r log t)
+  next-turn n =
+      follow-cond (isOver r log (s .image .position)) (stops s End) (turnSaid r log s (pollOne r log (s .image) .answer)) (giving s End) _ (λ (t : ReplayState). nextFrom n r log t) refl
+      (turn-follow r log s (pollOne r log (s .image) .answer) (λ (t : ReplayState). nextFrom n r log t))
 
   module _ (t : Turned) (e : t ≡ turnOf r log s) (left : ℕ) (h : 0 < left) where
     turns : follow t (λ (u : ReplayState). nextFrom (left - 1) r log u) ≡ nextFrom left r log s
@@ -239,11 +237,11 @@ module _ (r : LogRecord) (log : List ℕ) (s : ReplayState) (messages bytes : �
     pub count-goes : givesBy (y .answer) ≡ true → countFrom (left - 1) r log (y .next) (messages + 1) (addedTo bytes (lengthBy (y .answer))) ≡ countFrom left r log s messages bytes
     count-goes f = sym (cond-true (givesBy (y .answer)) _ (record { answer = countedBy (y .answer) messages bytes; buffer = y .next .buffer }) f) ∙ counts
 
-pub count-starts : (r : LogRecord) (log : List ℕ) (p : Replay) (session : ℤ) (buffer : List ℕ) (w : ℕ)
-    → imageState (p .image) ≡ newImage (pos 0) session → sessionsOf (p .assembler) ≡ fresh → w ≡ word (r .«term_length»)
-    → countFrom (3 * w + 1 - 0) r log (stateOf p buffer) 0 0 ≡ countOf r log session buffer
+pub count-starts : (r : LogRecord) (log : List ℕ) (p : Replay) (from session : ℤ) (buffer : List ℕ) (w : ℕ)
+    → imageState (p .image) ≡ newImage from session → sessionsOf (p .assembler) ≡ fresh → w ≡ word (r .«term_length»)
+    → countFrom (3 * w + 1 - 0) r log (stateOf p buffer) 0 0 ≡ countOf r log from session buffer
 unfolding readingOf
-count-starts r log p session buffer w ei es ew =
+count-starts r log p from session buffer w ei es ew =
     let n : 3 * w + 1 - 0 ≡ 3 * word (r .«term_length») + 1 = omega (arith, ew) in
     ap (λ (m : ℕ). countFrom m r log (stateOf p buffer) 0 0) n
     ∙ ap₂ (λ (i : Image) (s : Sessions). countFrom (3 * word (r .«term_length») + 1) r log (record { image = i; sessions = s; buffer = buffer }) 0 0) ei es

@@ -15,9 +15,9 @@ use Rattle.model.specs.Bytes.{long}
 use Rattle.model.specs.Answers.{Told, answered, refused}
 use Rattle.model.specs.LogBufferDescriptor.{reading, partitionOf}
 use Rattle.model.specs.TermReader.{natural}
-use Rattle.model.specs.Image.{Image as ImageState, newImage}
-use Rattle.model.specs.FragmentAssembler.{Sessions, fresh, Assembly, assembleOf}
-use Rattle.model.specs.Replay.{ReplayState, NextReply as NextSaid, assembledTo, pollOne, assembleOne, nextOf}
+use Rattle.model.specs.Image.{Image as ImageState}
+use Rattle.model.specs.FragmentAssembler.{Sessions, Assembly, assembleOf}
+use Rattle.model.specs.Replay.{ReplayState, NextReply as NextSaid, assembledTo, pollOne, assembleOne, isOver, nextOf, fromStart}
 use Rattle.image.specs.declared.Image.{Image}
 use Rattle.image.specs.Images.{stateOf as imageState}
 use Rattle.logbuffer.specs.Assembler.{sessionsOf}
@@ -91,17 +91,16 @@ refusalBy (Refused e) = ReplayRefused e
 abbrev pub turnSaid : LogRecord → List ℕ → ReplayState → Polled → Turned
 turnSaid r log s (Refused e) = stops s (ReplayRefused e)
 turnSaid r log s (Fragments n m) =
-    cond (leb (3 * reading r .term) (long (s .image .position))) (stops s End)
-    (cond (eqb m 0)
+    cond (eqb m 0)
     (cond (eqb (long (pollOne r log (s .image) .next .position)) (long (s .image .position))) (stops s End)
     (goesOn (record { image = pollOne r log (s .image) .next; sessions = s .sessions; buffer = s .buffer })))
     (fragmentTurn (partitionOf (long (s .image .position)) (reading r .term) * reading r .term) s
-    (assembledTo (pollOne r log (s .image) .next) (assembleOne r log s)) (assembleOne r log s .answer)))
+    (assembledTo (pollOne r log (s .image) .next) (assembleOne r log s)) (assembleOne r log s .answer))
 
 abbrev pub turnOf : LogRecord → List ℕ → ReplayState → Turned
-turnOf r log s = turnSaid r log s (pollOne r log (s .image) .answer)
+turnOf r log s = cond (isOver r log (s .image .position)) (stops s End) (turnSaid r log s (pollOne r log (s .image) .answer))
 
--- ---- a whole log, counted
+-- ---- counted from a position to the end
 
 pub record Tally : Type 0 where
   pub answer : Counted
@@ -137,9 +136,8 @@ countFrom (suc left) r log s messages bytes =
     (record { answer = countedBy (nextOf r log s .answer) messages bytes; buffer = nextOf r log s .next .buffer })
 
 -- a message takes a place of its own in the log, so its bytes bound the messages
-abbrev pub countOf : LogRecord → List ℕ → ℤ → List ℕ → Tally
-countOf r log session buffer =
-    countFrom (3 * reading r .term + 1) r log (record { image = newImage (pos 0) session; sessions = fresh; buffer = buffer }) 0 0
+abbrev pub countOf : LogRecord → List ℕ → ℤ → ℤ → List ℕ → Tally
+countOf r log from session buffer = countFrom (3 * reading r .term + 1) r log (fromStart from session buffer) 0 0
 
 -- document 01's number and values: messages, bytes
 abbrev pub countedTold : Counted → Told

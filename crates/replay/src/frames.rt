@@ -5,7 +5,7 @@ ghost use Prim.Native.Nat.{_≤_, _<_};
 ghost use lib.ListN.{length};
 ghost use Rattle.image.specs.Images.{stateOf as imageState};
 ghost use Rattle.logbuffer.specs.Assembler.{sessionsAs, joinOf};
-ghost use Rattle.replay.specs.InPlace.{TermOrNone, dataAt, wholeAt, openTerm, wholeOf, keptBy, repliedBy, isRefused};
+ghost use Rattle.replay.specs.InPlace.{TermOrNone, stopAt, indexAt, dataAt, wholeAt, openTerm, wholeIn, overBy, keptBy, repliedBy, isRefused};
 ghost use Rattle.replay.specs.Replays.{elsewhereOn};
 use image::Image;
 use logbuffer::cast;
@@ -21,33 +21,90 @@ use model::LogRecord;
 use model::Reading;
 use model::Replayed;
 
-// The length of the data frame at a position of a log of such terms; 0 where there is none, and for a term of 0.
-pub(crate) fn data_at(log: &[u8], term: usize, p: usize) -> usize
-    requires { ⌜ TermOrNone term ⌝ }
-    ensures { λ r. ⌜ r ≡ dataAt (now (log .entry)) term p ⌝ }
+// A whole message as it lies: the index of its frame, and the frame's length.
+pub struct Whole {
+    pub index: usize,
+    pub length: usize,
+}
+
+// Where a position lies in a log of such terms, by shift and mask.
+pub(crate) fn index_at(term: usize, p: usize) -> usize
+    requires { ⌜ (0 < term) × TermOrNone term ⌝ }
+    ensures { λ r. ⌜ r ≡ indexAt term p ⌝ }
 {
-    if p >= 3 * term {
+    let bits = log_buffer_descriptor::position_bits_to_shift(term as u32);
+    let k = log_buffer_descriptor::index_by_position(p as u64, bits);
+    k * term + (p & (term - 1))
+}
+
+// The length of the data frame at a position below a stop, of a log of such terms; 0 where there is none, and for a term of 0.
+pub(crate) fn data_at(log: &[u8], term: usize, stop: usize, p: usize) -> usize
+    requires { ⌜ TermOrNone term ⌝ }
+    ensures { λ r. ⌜ r ≡ dataAt (now (log .entry)) term stop p ⌝ }
+{
+    if p >= stop {
+        return 0;
+    }
+    if term == 0 {
         return 0;
     }
     if p % FRAME_ALIGNMENT != 0 {
         return 0;
     }
-    let Frame::Data(n) = frame_descriptor::frame_at(log, p, term - (p & (term - 1))) else {
+    let index = index_at(term, p);
+    let Frame::Data(n) = frame_descriptor::frame_at(log, index, term - (p & (term - 1))) else {
         return 0;
     };
     n
 }
 
 // The same, and 0 unless the frame is a whole message, which both flags say.
-pub(crate) fn whole_at(log: &[u8], term: usize, p: usize) -> usize
+pub(crate) fn whole_at(log: &[u8], term: usize, stop: usize, p: usize) -> usize
     requires { ⌜ TermOrNone term ⌝ }
-    ensures { λ r. ⌜ r ≡ wholeAt (now (log .entry)) term p ⌝ }
+    ensures { λ r. ⌜ r ≡ wholeAt (now (log .entry)) term stop p ⌝ }
 {
-    let n = data_at(log, term, p);
-    if frame_descriptor::flags_at(log, p) / END_FRAG % 4 != 3 {
+    let n = data_at(log, term, stop, p);
+    if n == 0 {
+        return 0;
+    }
+    if frame_descriptor::flags_at(log, index_at(term, p)) / END_FRAG % 4 != 3 {
         return 0;
     }
     n
+}
+
+// The publisher's position, where a replay stops; 0 where it is below.
+pub(crate) fn stop_at(v: Reading) -> usize
+    requires { ⌜ (v .id < 4294967296) × ((v .initial < 4294967296) × (v .term < 4294967296)) ⌝ }
+    ensures { λ r. ⌜ r ≡ stopAt v ⌝ }
+{
+    let count = log_buffer_descriptor::id_minus(v.id as u32, v.initial as u32) as usize;
+    if count > 2147483647 {
+        return 0;
+    }
+    let begin = count * v.term;
+    if v.offset < v.term {
+        begin + v.offset
+    } else {
+        begin + v.term
+    }
+}
+
+// Whether a replay that stands at a position is over: where rows 2 and 3 refuse nothing and it is not below the publisher's.
+pub(crate) fn is_over(v: Reading, n: usize, p: usize) -> bool
+    requires { ⌜ (v .id < 4294967296) × ((v .initial < 4294967296) × (v .term < 4294967296)) ⌝ }
+    ensures { λ r. ⌜ r ≡ overBy v n p ⌝ }
+{
+    if !log_buffer_descriptor::is_sound(v, n) {
+        return false;
+    }
+    if p > v.term * 2147483648 {
+        return false;
+    }
+    if p % FRAME_ALIGNMENT != 0 {
+        return false;
+    }
+    p >= stop_at(v)
 }
 
 // The term length where frames may be taken as they lie: the lent buffer passes row 1, the image is open, and record and log pass row 2.
@@ -67,14 +124,22 @@ pub(crate) fn open_term(image: Image, v: Reading, n: usize, lent: usize) -> usiz
     v.term
 }
 
-// The length of the frame at the image's position, if it is a whole message that the next reply gives; else 0. For a caller who keeps the
-// replay elsewhere and need not fetch it all.
-pub fn next_whole(image: Image, rec: LogRecord, log: &[u8], lent: usize) -> usize
-    ensures { λ r. ⌜ r ≡ wholeOf rec (now (log .entry)) (imageState image) lent ⌝ }
+// Where the frame at the image's position lies and how long it is, if it is a whole message that the next reply gives; else 0 twice. For a caller who
+// keeps the replay elsewhere and need not fetch it all.
+pub fn next_whole(image: Image, rec: LogRecord, log: &[u8], lent: usize) -> Whole
+    ensures { λ r. ⌜ r ≡ wholeIn rec (now (log .entry)) (imageState image) lent ⌝ }
 {
     let v = log_buffer_descriptor::read_active(rec);
     let term = open_term(image, v, log.len(), lent);
-    whole_at(log, term, cast::long(image.position))
+    let p = cast::long(image.position);
+    let n = whole_at(log, term, stop_at(v), p);
+    if n == 0 {
+        return Whole { index: 0, length: 0 };
+    }
+    Whole {
+        index: index_at(term, p),
+        length: n,
+    }
 }
 
 // ---- a fragment, given to the assembler's core
@@ -124,14 +189,14 @@ pub(crate) fn give(
     }
 }
 
-// The reply by the answer to the data frame of n bytes at a position; the body of one that passes through lies behind its header.
-pub(crate) fn reply_by(answer: Assembled, p: usize, n: usize) -> Replayed
-    requires { ⌜ (p < 4294967296) × (32 ≤ n) ⌝ }
-    ensures { λ r. ⌜ r ≡ repliedBy p n answer ⌝ }
+// The reply by the answer to the data frame of n bytes at an index; the body of one that passes through lies behind its header.
+pub(crate) fn reply_by(answer: Assembled, index: usize, n: usize) -> Replayed
+    requires { ⌜ (index < 4294967296) × (32 ≤ n) ⌝ }
+    ensures { λ r. ⌜ r ≡ repliedBy index n answer ⌝ }
 {
     match answer {
         Assembled::Nothing => Replayed::End,
-        Assembled::Fragment(_, _) => Replayed::InLog(p + HEADER_LENGTH, n - HEADER_LENGTH),
+        Assembled::Fragment(_, _) => Replayed::InLog(index + HEADER_LENGTH, n - HEADER_LENGTH),
         Assembled::Message(at, length) => Replayed::InBuffer(at, length),
         Assembled::Refused(e) => Replayed::Refused(e),
     }

@@ -156,6 +156,9 @@ fn turn(replay: Replay, rec: LogRecord, log: &[u8], buffer: &mut [u8]) -> TurnRe
     let image = replay.image;
     let assembler = replay.assembler;
     let p = cast::long(image.position);
+    if frames::is_over(v, log.len(), p) {
+        return stopped(replay, Replayed::End);
+    }
     let one = image.poll_one(rec, log);
     let polled = one.polled;
     let next = polled.next;
@@ -163,9 +166,6 @@ fn turn(replay: Replay, rec: LogRecord, log: &[u8], buffer: &mut [u8]) -> TurnRe
     let Polled::Fragments(_, m) = answer else {
         return stopped(replay, refusal(answer));
     };
-    if p / 3 >= term {
-        return stopped(replay, Replayed::End);
-    }
     if m != 0 {
         let bits = log_buffer_descriptor::position_bits_to_shift(term as u32);
         let k = log_buffer_descriptor::index_by_position(p as u64, bits);
@@ -198,12 +198,12 @@ fn replay_of(image: Image, count: usize, ids: [i32; 16], held: [usize; 16]) -> R
 }
 
 impl Replay {
-    // From position 0, with nothing entered.
-    pub fn new(session_id: i32) -> Replay
-        ensures { λ r. ⌜ (imageState (r .image) ≡ newImage (pos 0) «session_id») × (sessionsOf (r .assembler) ≡ fresh) ⌝ }
+    // From a position, with nothing entered.
+    pub fn new(position: i64, session_id: i32) -> Replay
+        ensures { λ r. ⌜ (imageState (r .image) ≡ newImage position «session_id») × (sessionsOf (r .assembler) ≡ fresh) ⌝ }
     {
         Replay {
-            image: Image::new(0, session_id),
+            image: Image::new(position, session_id),
             assembler: FragmentAssembler::new(),
         }
     }
@@ -220,11 +220,12 @@ impl Replay {
         let mut count = assembler.count;
         let mut ids = assembler.ids;
         let mut held = assembler.held;
+        let stop = frames::stop_at(v);
         let mut left = 3 * cast::word(rec.term_length) + 1;
         while left > 0 {
             let term = frames::open_term(image, v, log.len(), buffer.len());
             let p = cast::long(image.position);
-            let n = frames::data_at(log, term, p);
+            let n = frames::data_at(log, term, stop, p);
             if n == 0 {
                 let t = turn(replay_of(image, count, ids, held), rec, log, buffer);
                 let answer = t.answer;
@@ -243,20 +244,21 @@ impl Replay {
                 left = left - 1;
                 continue;
             }
-            let given = frames::give(count, &mut ids, &mut held, log, buffer, p, p & (term - 1));
+            let at = frames::index_at(term, p);
+            let given = frames::give(count, &mut ids, &mut held, log, buffer, at, p & (term - 1));
             let answer = given.answer;
             count = given.count;
             if frames::is_refused(answer) {
                 return NextReply {
                     next: replay_of(image, count, ids, held),
-                    answer: frames::reply_by(answer, p, n),
+                    answer: frames::reply_by(answer, at, n),
                 };
             }
             image.position = (p + (n + ALIGNMENT_MASK) / FRAME_ALIGNMENT * FRAME_ALIGNMENT) as i64;
             if !frames::is_nothing(answer) {
                 return NextReply {
                     next: replay_of(image, count, ids, held),
-                    answer: frames::reply_by(answer, p, n),
+                    answer: frames::reply_by(answer, at, n),
                 };
             }
             left = left - 1;
@@ -280,7 +282,8 @@ impl Replay {
             };
         }
         let mut image = self.image;
-        let n = frames::next_whole(image, rec, log, buffer.len());
+        let whole = frames::next_whole(image, rec, log, buffer.len());
+        let n = whole.length;
         if n == 0 {
             return self.turns(rec, log, buffer);
         }
@@ -289,7 +292,7 @@ impl Replay {
         self.image = image;
         NextReply {
             next: self,
-            answer: Replayed::InLog(p + HEADER_LENGTH, n - HEADER_LENGTH),
+            answer: Replayed::InLog(whole.index + HEADER_LENGTH, n - HEADER_LENGTH),
         }
     }
 }
@@ -327,14 +330,16 @@ impl Replay {
         let most = numbers.len() / 4;
         let mut image = self.image;
         let mut assembler = self.assembler;
+        let stop = frames::stop_at(v);
         let mut term = frames::open_term(image, v, log.len(), buffer.len());
         let mut laid: usize = 0;
         while laid < most {
             let p = cast::long(image.position);
-            let n = frames::whole_at(log, term, p);
+            let n = frames::whole_at(log, term, stop, p);
             if n != 0 {
                 let end = p + (n + ALIGNMENT_MASK) / FRAME_ALIGNMENT * FRAME_ALIGNMENT;
-                laying::lay(numbers, laid, 1, p + HEADER_LENGTH, n - HEADER_LENGTH, end);
+                let from = frames::index_at(term, p) + HEADER_LENGTH;
+                laying::lay(numbers, laid, 1, from, n - HEADER_LENGTH, end);
                 image.position = end as i64;
                 laid = laid + 1;
                 continue;
@@ -413,14 +418,21 @@ fn count_of(answer: Replayed, messages: usize, bytes: usize) -> Counted
     }
 }
 
-// Replays a whole log, from position 0 by a fresh image into a fresh assembler, and counts what comes back. A refusal ends it. Whole messages
-// are counted as they lie.
-pub fn count(rec: LogRecord, log: &[u8], buffer: &mut [u8], session_id: i32) -> Counted
-    ensures { λ r. ⌜ r ≡ countOf rec (now (log .entry)) «session_id» (now (buffer .entry)) .answer ⌝ }
-    ensures { λ _. ⌜ now (buffer .exit) ≡ countOf rec (now (log .entry)) «session_id» (now (buffer .entry)) .buffer ⌝ }
+// Replays a log from a position by a fresh image into a fresh assembler, and counts what comes back. A refusal ends it. Whole messages are counted as
+// they lie.
+pub fn count(
+    rec: LogRecord,
+    log: &[u8],
+    buffer: &mut [u8],
+    position: i64,
+    session_id: i32,
+) -> Counted
+    ensures { λ r. ⌜ r ≡ countOf rec (now (log .entry)) position «session_id» (now (buffer .entry)) .answer ⌝ }
+    ensures { λ _. ⌜ now (buffer .exit) ≡ countOf rec (now (log .entry)) position «session_id» (now (buffer .entry)) .buffer ⌝ }
 {
     let v = log_buffer_descriptor::read_active(rec);
-    let mut image = Image::new(0, session_id);
+    let stop = frames::stop_at(v);
+    let mut image = Image::new(position, session_id);
     let mut assembler = FragmentAssembler::new();
     let mut term = frames::open_term(image, v, log.len(), buffer.len());
     let mut messages: usize = 0;
@@ -428,7 +440,7 @@ pub fn count(rec: LogRecord, log: &[u8], buffer: &mut [u8], session_id: i32) -> 
     let most = 3 * cast::word(rec.term_length) + 1;
     while messages < most {
         let p = cast::long(image.position);
-        let n = frames::whole_at(log, term, p);
+        let n = frames::whole_at(log, term, stop, p);
         if n != 0 {
             image.position = (p + (n + ALIGNMENT_MASK) / FRAME_ALIGNMENT * FRAME_ALIGNMENT) as i64;
             bytes = added(bytes, n - HEADER_LENGTH);

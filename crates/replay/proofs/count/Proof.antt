@@ -8,7 +8,7 @@ use borrow.Author.Tests.{not-true, not-false}
 use lib.ListN.{length}
 use lib.IntN.{ℤ, pos}
 use mir.Syntax.{w32, w64}
-use mir.Val.{toZ, ofZ}
+use mir.Val.{toZ, ofZ, SFits}
 use mir.Facts.{toZ-ofZ, toZ-pos}
 use Rattle.model.specs.declared.Reading.{Reading}
 use Rattle.model.specs.Bytes.{long}
@@ -22,9 +22,9 @@ use Rattle.logbuffer.specs.declared.fragment_assembler.FragmentAssembler.{Fragm
 use Rattle.logbuffer.specs.Assembler.{sessionsOf}
 use Rattle.logbuffer.proofs.Signed.{word-by, long-by}
 use Rattle.replay.specs.declared.Replay.{Replay}
-use Rattle.replay.specs.InPlace.{TermOrNone, wholeAt, openTerm, wholeOf}
+use Rattle.replay.specs.InPlace.{TermOrNone, stopAt, wholeAt, openTerm, wholeOf}
 use Rattle.replay.specs.Replays.{Tally, stateOf, nextReplyOf, addedTo, countFrom, countOf}
-use Rattle.replay.proofs.InPlace.{open-fits, open-moved, whole-near, whole-says, wholeReply}
+use Rattle.replay.proofs.InPlace.{readings, open-fits, open-moved, whole-near, whole-says, wholeReply}
 use Rattle.replay.proofs.Turns.{count-none, count-stops, count-goes, count-starts}
 use Rattle.replay.proofs.count.Statement.{statement}
 use Rattle.replay.proofs.count.Tie as tie
@@ -33,15 +33,15 @@ abbrev at : Image → FragmentAssembler → List ℕ → ReplayState
 at image assembler buffer = stateOf (record { image = image; assembler = assembler }) buffer
 
 abbrev Inv-loop : tie.InvT-loop
-Inv-loop rec log buffer₀ session-id v image₀ assembler₀ term₀ messages₀ bytes₀ most buffer image assembler term messages bytes =
+Inv-loop rec log buffer₀ position session-id v stop image₀ assembler₀ term₀ messages₀ bytes₀ most buffer image assembler term messages bytes =
     (length buffer ≡ length buffer₀) × ((messages ≤ most) × ((most < 18446744073709551615) × ((term ≡ openTerm (imageState image) (reading rec) (length log) (length buffer))
     × (countFrom (most - messages) rec log (at image assembler buffer) messages bytes ≡ countFrom (most - 0) rec log (at image₀ assembler₀ buffer₀) 0 0))))
 
 abbrev μ-loop : tie.MeasureT-loop
-μ-loop rec log buffer₀ session-id v image₀ assembler₀ term₀ messages₀ bytes₀ most buffer image assembler term messages bytes = most - messages
+μ-loop rec log buffer₀ position session-id v stop image₀ assembler₀ term₀ messages₀ bytes₀ most buffer image assembler term messages bytes = most - messages
 
 abbrev st : tie.At-loop Inv-loop μ-loop → tie.Start Inv-loop μ-loop
-st l = l .before .before .before .before .before .before .before .before .before
+st l = l .before .before .before .before .before .before .before .before .before .before
 
 abbrev S : tie.At-loop Inv-loop μ-loop → ReplayState
 S l = at (l .loop .image) (l .loop .assembler) (l .loop .buffer)
@@ -56,25 +56,31 @@ add-most : tie.Need-add-most Inv-loop μ-loop
 add-most c = record { fits = omega (arith, c .word .ensures .1) }
 
 -- the first term, by the record as it is read
-term-first : (c : tie.After-word Inv-loop μ-loop) → let s = c .before .before .before .before .before .before .before .before in c .before .before .open-term .result ≡ openTerm (imageState (c .before .before .before .before .new .result)) (reading (s .args .rec)) (length (s .args .log .now)) (length (s .args .buffer .now))
+term-first : (c : tie.After-word Inv-loop μ-loop) → let s = c .before .before .before .before .before .before .before .before .before in c .before .before .open-term .result ≡ openTerm (imageState (c .before .before .before .before .new .result)) (reading (s .args .rec)) (length (s .args .log .now)) (length (s .args .buffer .now))
 term-first c =
-    let s = c .before .before .before .before .before .before .before .before in
-    c .before .before .open-term .ensures ∙ ap (λ (v : Reading). openTerm (imageState (c .before .before .before .before .new .result)) v (length (s .args .log .now)) (length (s .args .buffer .now))) (c .before .before .before .before .before .read-active .ensures)
+    let s = c .before .before .before .before .before .before .before .before .before in
+    c .before .before .open-term .ensures ∙ ap (λ (v : Reading). openTerm (imageState (c .before .before .before .before .new .result)) v (length (s .args .log .now)) (length (s .args .buffer .now))) (c .before .before .before .before .before .before .read-active .ensures)
 
 loop-holds : tie.Need-loop-holds Inv-loop μ-loop
 loop-holds c = (refl, (omega arith, (omega (arith, c .word .ensures .1), (term-first c, refl))))
 
 -- what it is to come to
 goal : (l : tie.At-loop Inv-loop μ-loop) → countFrom (most l - l .loop .messages) (st l .args .rec) (st l .args .log .now) (S l) (l .loop .messages) (l .loop .bytes)
-    ≡ countOf (st l .args .rec) (st l .args .log .now) (st l .args .session-id) (st l .args .buffer .now)
+    ≡ countOf (st l .args .rec) (st l .args .log .now) (st l .args .position) (st l .args .session-id) (st l .args .buffer .now)
 goal l =
     let a = st l .args in
     let w = l .before .word in
     let z = toZ-ofZ (st l .fits .session-id) in
     l .loop .inv .1 .1 .1 .1
-    ∙ count-starts (a .rec) (a .log .now) (record { image = l .before .before .before .before .before .new .result; assembler = l .before .before .before .before .new2 .result }) (toZ w32 (ofZ w32 (a .session-id))) (a .buffer .now) (w .result)
+    ∙ count-starts (a .rec) (a .log .now) (record { image = l .before .before .before .before .before .new .result; assembler = l .before .before .before .before .new2 .result }) (toZ w64 (ofZ w64 (a .position))) (toZ w32 (ofZ w32 (a .session-id))) (a .buffer .now) (w .result)
     (ap imageState (l .before .before .before .before .before .new .ensures)) (l .before .before .before .before .new2 .ensures) (word-by (a .rec .«term_length») (w .ensures .0) (search needs))
-    ∙ ap (λ (y : ℤ). countOf (a .rec) (a .log .now) y (a .buffer .now)) z
+    ∙ ap₂ (λ (x y : ℤ). countOf (a .rec) (a .log .now) x y (a .buffer .now)) (toZ-ofZ (st l .fits .position)) z
+
+term-fits : (s : tie.Start Inv-loop μ-loop) → SFits w32 (s .args .rec .«term_length»)
+term-fits s = search needs
+
+stop-at-requires : tie.Need-stop-at-requires Inv-loop μ-loop
+stop-at-requires c κs = let s = c .before .before .before in readings (s .args .rec) _ (c .read-active .ensures) (term-fits s)
 
 whole-at-requires : tie.Need-whole-at-requires Inv-loop μ-loop
 whole-at-requires c κs = subst TermOrNone (sym (c .before .before .before .loop .inv .1 .1 .1 .0)) (open-fits _ _ _ _)
@@ -92,13 +98,15 @@ module _ (c : tie.After-whole-at Inv-loop μ-loop) where
   p-is = long-by (l .loop .image .position) (c .before .long .ensures .0) (search needs)
 
   whole-is : wholeOf (st l .args .rec) (st l .args .log .now) (imageState (l .loop .image)) (length (l .loop .buffer)) ≡ n
-  whole-is = sym (c .whole-at .ensures ∙ ap₂ (wholeAt (st l .args .log .now)) (l .loop .inv .1 .1 .1 .0) p-is)
+  whole-is =
+      sym (c .whole-at .ensures ∙ ap (λ (x : ℕ). wholeAt (st l .args .log .now) (l .loop .term) x (c .before .long .result)) (l .before .before .before .before .before .before .stop-at .ensures ∙ ap stopAt (l .before .before .before .before .before .before .before .read-active .ensures))
+      ∙ ap₂ (λ (t p : ℕ). wholeAt (st l .args .log .now) t (stopAt (reading (st l .args .rec))) p) (l .loop .inv .1 .1 .1 .0) p-is)
 
   module _ (some : 0 < n) where
-    near : (c .before .long .result < 3221225472) × ((32 ≤ n) × (n < 2147483648))
+    near : (c .before .long .result < 2305843009213693952) × ((32 ≤ n) × (n < 2147483648))
     near =
         let h = whole-near (st l .args .rec) (st l .args .log .now) (imageState (l .loop .image)) (length (l .loop .buffer)) n whole-is some in
-        (omega (arith, h .0, p-is), h .1)
+        (omega (arith, h .position, p-is), (h .header, h .small))
 
     moved : toZ w64 (c .before .long .result + (n + 31) / 32 * 32) ≡ pos (long (l .loop .image .position) + align n)
     moved = toZ-pos w64 (omega (arith, near)) ∙ ap (λ (x : ℕ). pos (x + align n)) p-is
@@ -114,7 +122,7 @@ loop-again c =
     let some : 0 < n f = omega (arith, c .before .if1 .taken) in
     let z = moved f some in
     let under : q .loop .messages < most q = omega (arith, c .before .before .before .before .before .loop-test) in
-    let g = count-goes (a .rec) (a .log .now) (S q) (q .loop .messages) (q .loop .bytes) (most q - q .loop .messages) (omega arith) (wholeReply (S q) (n f)) (whole-says (a .rec) (a .log .now) (S q) (n f) (whole-is f) some) refl in
+    let g = count-goes (a .rec) (a .log .now) (S q) (q .loop .messages) (q .loop .bytes) (most q - q .loop .messages) (omega arith) (wholeReply (reading (a .rec) .term) (S q) (n f)) (whole-says (a .rec) (a .log .now) (S q) (n f) (whole-is f) some) refl in
     let m : most q - (q .loop .messages + 1) ≡ most q - q .loop .messages - 1 = omega arith in
     let stays = q .loop .inv .1 .1 .1 .0 ∙ sym (open-moved (imageState (q .loop .image)) (pos (long (q .loop .image .position) + align (n f))) (reading (a .rec)) (length (a .log .now)) (length (q .loop .buffer)))
     ∙ ap (λ (y : ℤ). openTerm (movedTo (imageState (q .loop .image)) y) (reading (a .rec)) (length (a .log .now)) (length (q .loop .buffer))) (sym z) in (
@@ -156,7 +164,7 @@ loop-again-2 c =
     let m : most q - (q .loop .messages + 1) ≡ most q - q .loop .messages - 1 = omega arith in
     let e = c .added2 .ensures ∙ ap (addedTo (q .loop .bytes)) (c .before .length-of .ensures) in
     let same : length w ≡ length (a .buffer .now) = omega (arith, c .before .before .before .before .before .before .before .before .before .buffer .given, q .loop .inv .0) in
-    let t = c .before .before .open-term2 .ensures ∙ ap (λ (v : Reading). openTerm (imageState (f .next .result .next .image)) v (length (a .log .now)) (length w)) (q .before .before .before .before .before .before .read-active .ensures) in (
+    let t = c .before .before .open-term2 .ensures ∙ ap (λ (v : Reading). openTerm (imageState (f .next .result .next .image)) v (length (a .log .now)) (length w)) (q .before .before .before .before .before .before .before .read-active .ensures) in (
       same,
       (
         omega arith,
@@ -184,6 +192,7 @@ count-spec =
     Inv-loop
     μ-loop
     (search needs)
+    stop-at-requires
     (search needs)
     (search needs)
     (search needs)

@@ -15,7 +15,10 @@ use Rattle.image.specs.Images.{stateOf as imageState}
 use Rattle.logbuffer.specs.Assembler.{sessionsOf}
 use Rattle.logbuffer.proofs.Signed.{long-by}
 use Rattle.replay.specs.Replays.{stateOf}
-use Rattle.replay.proofs.InPlace.{whole-near, whole-says}
+use Rattle.replay.proofs.InPlace.{whole-near, whole-says, whole-length, whole-index}
+use Rattle.replay.specs.InPlace.{indexAt, openTerm, wholeOf}
+use Rattle.replay.specs.declared.frames.Whole.{Whole}
+use Rattle.model.specs.LogBufferDescriptor.{reading}
 use Rattle.replay.proofs.Turns.{next-refused}
 use Rattle.replay.proofs.Replay.next.Statement.{statement}
 use Rattle.replay.proofs.Replay.next.Tie as tie
@@ -31,7 +34,7 @@ module _ (c : tie.After-long) where
   s = c .before .before .before .before .before .before .before .before
 
   abbrev n : ℕ
-  n = c .before .before .before .next-whole .result
+  n = c .before .before .before .next-whole .result .length
 
   p-is : c .long .result ≡ long (s .args .self .image .position)
   p-is = long-by (s .args .self .image .position) (c .long .ensures .0) (search needs)
@@ -39,21 +42,34 @@ module _ (c : tie.After-long) where
   some : 0 < n
   some = omega (arith, c .before .before .if2 .left)
 
-  near : (c .long .result < 3221225472) × ((32 ≤ n) × (n < 2147483648))
+  abbrev m : ℕ
+  m = wholeOf (s .args .rec) (s .args .log .now) (imageState (s .args .self .image)) (length (s .args .buffer .now))
+
+  abbrev X : ℕ
+  X = indexAt (reading (s .args .rec) .term) (long (s .args .self .image .position))
+
+  length-is : m ≡ n
+  length-is = sym (ap (λ (x : Whole). x .length) (c .before .before .before .next-whole .ensures) ∙ whole-length X m)
+
+  index-is : c .before .before .before .next-whole .result .index ≡ X
+  index-is = ap (λ (x : Whole). x .index) (c .before .before .before .next-whole .ensures) ∙ whole-index X m (λ e. omega (arith, length-is, some))
+
+  near : (c .long .result < 2305843009213693952) × ((32 ≤ n) × ((n < 2147483648) × (c .before .before .before .next-whole .result .index < 3221225472)))
   near =
-      let h = whole-near (s .args .rec) (s .args .log .now) (imageState (s .args .self .image)) (length (s .args .buffer .now)) n (sym (c .before .before .before .next-whole .ensures)) some in
-      (omega (arith, h .0, p-is), h .1)
+      let h = whole-near (s .args .rec) (s .args .log .now) (imageState (s .args .self .image)) (length (s .args .buffer .now)) n length-is some in
+      let x : X ≡ indexAt (openTerm (imageState (s .args .self .image)) (reading (s .args .rec)) (length (s .args .log .now)) (length (s .args .buffer .now))) (long (s .args .self .image .position)) = ap (λ (t : ℕ). indexAt t (long (s .args .self .image .position))) (sym (h .term-is)) in
+      (omega (arith, h .position, p-is), (h .header, (h .small, omega (arith, index-is, x, h .index))))
 
 cast-image : tie.Need-cast-image
 cast-image c = record { sfits = omega (arith, near c) }
 
 returns-3 : tie.Need-returns-3
 returns-3 c =
-    let a = s c .args in
-    let m = n c in
-    ap₂ {C = NextReply} (λ (z : ℤ) (x : ℕ). giving (record { image = movedTo (imageState (a .self .image)) z; sessions = sessionsOf (a .self .assembler); buffer = a .buffer .now }) (InLog (x + 32) (m - 32)))
-    (toZ-pos w64 (omega (arith, near c)) ∙ ap (λ (x : ℕ). pos (x + (m + 31) / 32 * 32)) (p-is c)) (p-is c)
-    ∙ whole-says (a .rec) (a .log .now) (stateOf (a .self) (a .buffer .now)) m (sym (c .before .before .before .next-whole .ensures)) (some c)
+    let q = c .before in
+    let a = s q .args in
+    ap₂ {C = NextReply} (λ (z : ℤ) (x : ℕ). giving (record { image = movedTo (imageState (a .self .image)) z; sessions = sessionsOf (a .self .assembler); buffer = a .buffer .now }) (InLog (x + 32) (n q - 32)))
+    (toZ-pos w64 (omega (arith, near q)) ∙ ap (λ (x : ℕ). pos (x + (n q + 31) / 32 * 32)) (p-is q)) (index-is q)
+    ∙ whole-says (a .rec) (a .log .now) (stateOf (a .self) (a .buffer .now)) (n q) (length-is q) (some q)
 
 pub next-spec : {M : Type 1} → statement M
 next-spec =
@@ -69,6 +85,6 @@ next-spec =
     (λ c. omega (arith, near c))
     (λ c. omega (arith, near c))
     cast-image
-    (λ c. omega (arith, near c))
-    (λ c. omega (arith, near c))
+    (λ c. omega (arith, near (c .before)))
+    (λ c. omega (arith, near (c .before)))
     returns-3)

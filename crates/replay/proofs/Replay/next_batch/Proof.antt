@@ -22,13 +22,13 @@ use Rattle.logbuffer.specs.declared.fragment_assembler.FragmentAssembler.{Fragm
 use Rattle.logbuffer.specs.Assembler.{sessionsOf}
 use Rattle.logbuffer.proofs.Signed.{word-by, long-by}
 use Rattle.replay.specs.declared.Replay.{Replay}
-use Rattle.replay.specs.InPlace.{TermOrNone, wholeAt, openTerm, wholeOf}
+use Rattle.replay.specs.InPlace.{TermOrNone, stopAt, indexAt, wholeAt, openTerm, wholeOf}
 use Rattle.model.specs.declared.Replayed.{Replayed}
 use Rattle.replay.specs.declared.Batched.{Batched}
 use Rattle.replay.specs.declared.Batched.the-variants.{Laid}
 use Rattle.replay.specs.Batches.{Batch, laidAt, ending, lastBy, lastNumbers, batchFrom, batchOf}
 use Rattle.replay.specs.Replays.{stateOf, nextReplyOf}
-use Rattle.replay.proofs.InPlace.{open-fits, open-moved, whole-near, whole-says, wholeReply}
+use Rattle.replay.proofs.InPlace.{Near, readings, open-fits, open-moved, whole-near, whole-says, wholeReply}
 use Rattle.replay.proofs.Batching.{batch-buffer, batch-numbers, batch-starts, batch-none, batch-goes, batch-ends}
 use Rattle.replay.proofs.Replay.next_batch.Statement.{statement}
 use Rattle.replay.proofs.Replay.next_batch.Tie as tie
@@ -37,15 +37,15 @@ abbrev at : Image → FragmentAssembler → List ℕ → ReplayState
 at image assembler buffer = stateOf (record { image = image; assembler = assembler }) buffer
 
 abbrev Inv-loop : tie.InvT-loop
-Inv-loop rec log buffer₀ numbers₀ v most image₀ assembler₀ term₀ laid₀ buffer numbers image assembler term laid =
+Inv-loop rec log buffer₀ numbers₀ v most image₀ assembler₀ stop term₀ laid₀ buffer numbers image assembler term laid =
     (length buffer ≡ length buffer₀) × ((length numbers ≡ length numbers₀) × ((laid ≤ most) × ((term ≡ openTerm (imageState image) (reading rec) (length log) (length buffer))
     × (batchFrom (most - laid) rec log (at image assembler buffer) numbers laid ≡ batchFrom (most - 0) rec log (at image₀ assembler₀ buffer₀) numbers₀ 0))))
 
 abbrev μ-loop : tie.MeasureT-loop
-μ-loop rec log buffer₀ numbers₀ v most image₀ assembler₀ term₀ laid₀ buffer numbers image assembler term laid = most - laid
+μ-loop rec log buffer₀ numbers₀ v most image₀ assembler₀ stop term₀ laid₀ buffer numbers image assembler term laid = most - laid
 
 abbrev st : tie.At-loop Inv-loop μ-loop → tie.Start Inv-loop μ-loop
-st l = l .before .before .before .before .before .before .before .before .before .before
+st l = l .before .before .before .before .before .before .before .before .before .before .before
 
 abbrev S : tie.At-loop Inv-loop μ-loop → ReplayState
 S l = at (l .loop .image) (l .loop .assembler) (l .loop .buffer)
@@ -67,8 +67,8 @@ returns-2 c =
 
 loop-holds : tie.Need-loop-holds Inv-loop μ-loop
 loop-holds c =
-    let s = c .before .before .before .before .before .before .before .before .before in
-    let t = c .open-term .ensures ∙ ap (λ (v : Reading). openTerm (imageState (s .args .self .image)) v (length (s .args .log .now)) (length (s .args .buffer .now))) (c .before .before .before .read-active .ensures) in
+    let s = c .before .before .before .before .before .before .before .before .before .before in
+    let t = c .open-term .ensures ∙ ap (λ (v : Reading). openTerm (imageState (s .args .self .image)) v (length (s .args .log .now)) (length (s .args .buffer .now))) (c .before .before .before .before .read-active .ensures) in
     (refl, (refl, (omega arith, (t, refl))))
 
 -- what it is to come to
@@ -78,11 +78,11 @@ goal l =
     let a = st l .args in
     let z : most l - 0 ≡ most l = omega arith in
     l .loop .inv .1 .1 .1 .1 ∙ ap (λ (n : ℕ). batchFrom n (a .rec) (a .log .now) (stateOf (a .self) (a .buffer .now)) (a .numbers .now) 0) z
-    ∙ batch-starts (a .rec) (a .log .now) (stateOf (a .self) (a .buffer .now)) (a .numbers .now) (omega (arith, l .before .before .before .before .before .before .if1)) (omega (arith, l .before .before .before .before .before .if2))
+    ∙ batch-starts (a .rec) (a .log .now) (stateOf (a .self) (a .buffer .now)) (a .numbers .now) (omega (arith, l .before .before .before .before .before .before .before .if1)) (omega (arith, l .before .before .before .before .before .before .if2))
 
 -- there is room for the next
 room : (l : tie.In-loop Inv-loop μ-loop) → let q = l .before in (4 * q .loop .laid + 4 ≤ length (q .loop .numbers)) × ((q .loop .laid < 2147483648) × (q .loop .laid < most q))
-room l = let q = l .before in let u : q .loop .laid < most q = omega (arith, l .loop-test) in (omega (arith, q .loop .inv .1 .0), (omega (arith, q .before .before .before .before .before .if2), u))
+room l = let q = l .before in let u : q .loop .laid < most q = omega (arith, l .loop-test) in (omega (arith, q .loop .inv .1 .0), (omega (arith, q .before .before .before .before .before .before .if2), u))
 
 whole-at-requires : tie.Need-whole-at-requires Inv-loop μ-loop
 whole-at-requires c κs = subst TermOrNone (sym (c .before .before .before .loop .inv .1 .1 .1 .0)) (open-fits _ _ _ _)
@@ -100,13 +100,25 @@ module _ (c : tie.After-whole-at Inv-loop μ-loop) where
   p-is = long-by (l .loop .image .position) (c .before .long .ensures .0) (search needs)
 
   whole-is : wholeOf (st l .args .rec) (st l .args .log .now) (imageState (l .loop .image)) (length (l .loop .buffer)) ≡ n
-  whole-is = sym (c .whole-at .ensures ∙ ap₂ (wholeAt (st l .args .log .now)) (l .loop .inv .1 .1 .1 .0) p-is)
+  whole-is =
+      sym (c .whole-at .ensures ∙ ap (λ (x : ℕ). wholeAt (st l .args .log .now) (l .loop .term) x (c .before .long .result)) (l .before .before .stop-at .ensures ∙ ap stopAt (l .before .before .before .before .before .read-active .ensures))
+      ∙ ap₂ (λ (t p : ℕ). wholeAt (st l .args .log .now) t (stopAt (reading (st l .args .rec))) p) (l .loop .inv .1 .1 .1 .0) p-is)
 
   module _ (some : 0 < n) where
-    near : (c .before .long .result < 3221225472) × ((32 ≤ n) × (n < 2147483648))
+    abbrev X : ℕ
+    X = indexAt (reading (st l .args .rec) .term) (long (l .loop .image .position))
+
+    close : Near (st l .args .rec) (imageState (l .loop .image)) (openTerm (imageState (l .loop .image)) (reading (st l .args .rec)) (length (st l .args .log .now)) (length (l .loop .buffer))) n
+    close = whole-near (st l .args .rec) (st l .args .log .now) (imageState (l .loop .image)) (length (l .loop .buffer)) n whole-is some
+
+    -- the index, by the numbers of the code
+    index-is : indexAt (l .loop .term) (c .before .long .result) ≡ X
+    index-is = ap₂ indexAt (l .loop .inv .1 .1 .1 .0 ∙ close .term-is) p-is
+
+    near : (c .before .long .result < 2305843009213693952) × ((32 ≤ n) × ((n < 2147483648) × (X < 3221225472)))
     near =
-        let h = whole-near (st l .args .rec) (st l .args .log .now) (imageState (l .loop .image)) (length (l .loop .buffer)) n whole-is some in
-        (omega (arith, h .0, p-is), h .1)
+        let x : X ≡ indexAt (openTerm (imageState (l .loop .image)) (reading (st l .args .rec)) (length (st l .args .log .now)) (length (l .loop .buffer))) (long (l .loop .image .position)) = ap (λ (t : ℕ). indexAt t (long (l .loop .image .position))) (sym (close .term-is)) in
+        (omega (arith, close .position, p-is), (close .header, (close .small, omega (arith, x, close .index))))
 
     moved : toZ w64 (c .before .long .result + (n + 31) / 32 * 32) ≡ pos (long (l .loop .image .position) + align n)
     moved = toZ-pos w64 (omega (arith, near)) ∙ ap (λ (x : ℕ). pos (x + align n)) p-is
@@ -118,27 +130,38 @@ some : (c : tie.Then3 Inv-loop μ-loop) → 0 < n (w c)
 some c = omega (arith, c .if3 .taken)
 
 cast-image : tie.Need-cast-image Inv-loop μ-loop
-cast-image c = let f = c .before .before .before .before in record { sfits = omega (arith, near (w f) (some f)) }
+cast-image c = let f = c .before .before .before .before .before in record { sfits = omega (arith, near (w f) (some f)) }
+
+index-at-requires : tie.Need-index-at-requires Inv-loop μ-loop
+index-at-requires c κs =
+    let q = l (w c) in
+    (omega (arith, q .loop .inv .1 .1 .1 .0, close (w c) (some c) .term-some), subst TermOrNone (sym (q .loop .inv .1 .1 .1 .0)) (open-fits _ _ _ _))
+
+term-fits : (s : tie.Start Inv-loop μ-loop) → SFits w32 (s .args .rec .«term_length»)
+term-fits s = search needs
+
+stop-at-requires : tie.Need-stop-at-requires Inv-loop μ-loop
+stop-at-requires c κs = let s = c .before .before .before .before .before .before .before .before in readings (s .args .rec) _ (c .before .before .read-active .ensures) (term-fits s)
 
 lay-requires : tie.Need-lay-requires Inv-loop μ-loop
-lay-requires c κs = let h = room (c .before .before .before .before .before) in (h .0, h .1 .0)
+lay-requires c κs = let h = room (c .before .before .before .before .before .before) in (h .0, h .1 .0)
 
 loop-again : tie.Need-loop-again Inv-loop μ-loop
 loop-again c =
-    let f = c .before .before .before .before in
+    let f = c .before .before .before .before .before in
     let g = w f in
     let q = l g in
     let a = st q .args in
     let h = room (f .before .before .before .before) in
     let z = moved g (some f) in
-    let y = wholeReply (S q) (n g) in
+    let y = wholeReply (reading (a .rec) .term) (S q) (n g) in
     let left = most q - q .loop .laid in
-    let goes = batch-goes (a .rec) (a .log .now) (S q) (q .loop .numbers) (q .loop .laid) left (omega (arith, h .1 .1)) y (whole-says (a .rec) (a .log .now) (S q) (n g) (whole-is g) (some f)) (long (q .loop .image .position) + 32) (n g - 32) refl in
+    let goes = batch-goes (a .rec) (a .log .now) (S q) (q .loop .numbers) (q .loop .laid) left (omega (arith, h .1 .1)) y (whole-says (a .rec) (a .log .now) (S q) (n g) (whole-is g) (some f)) (X g (some f) + 32) (n g - 32) refl in
     let e : most q - (q .loop .laid + 1) ≡ left - 1 = omega arith in
     let stays = q .loop .inv .1 .1 .1 .0 ∙ sym (open-moved (imageState (q .loop .image)) (pos (long (q .loop .image .position) + align (n g))) (reading (a .rec)) (length (a .log .now)) (length (q .loop .buffer)))
     ∙ ap (λ (x : ℤ). openTerm (movedTo (imageState (q .loop .image)) x) (reading (a .rec)) (length (a .log .now)) (length (q .loop .buffer))) (sym z) in
-    let out : c .before .before .lay .last .0 ≡ laidAt (q .loop .numbers) (q .loop .laid) 1 (long (q .loop .image .position) + 32) (n g - 32) (long (q .loop .image .position) + align (n g)) =
-    c .before .before .lay .ensures ∙ ap (λ (x : ℕ). laidAt (q .loop .numbers) (q .loop .laid) 1 (x + 32) (n g - 32) (x + align (n g))) (p-is g) in (
+    let out : c .before .before .lay .last .0 ≡ laidAt (q .loop .numbers) (q .loop .laid) 1 (X g (some f) + 32) (n g - 32) (long (q .loop .image .position) + align (n g)) =
+    c .before .before .lay .ensures ∙ ap₂ (λ (i x : ℕ). laidAt (q .loop .numbers) (q .loop .laid) 1 (i + 32) (n g - 32) (x + align (n g))) (c .before .before .before .before .index-at .ensures ∙ index-is g (some f)) (p-is g) in (
       q .loop .inv .0,
       (
         omega (arith, c .before .numbers .given, q .loop .inv .1 .0),
@@ -147,7 +170,7 @@ loop-again c =
           (
             stays,
             ap₂ (λ (x : ℤ) (o : List ℕ). batchFrom (most q - (q .loop .laid + 1)) (a .rec) (a .log .now) (record { image = movedTo (imageState (q .loop .image)) x; sessions = sessionsOf (q .loop .assembler); buffer = q .loop .buffer }) o (q .loop .laid + 1)) z out
-                ∙ ap (λ (k : ℕ). batchFrom k (a .rec) (a .log .now) (y .next) (laidAt (q .loop .numbers) (q .loop .laid) 1 (long (q .loop .image .position) + 32) (n g - 32) (long (q .loop .image .position) + align (n g))) (q .loop .laid + 1)) e
+                ∙ ap (λ (k : ℕ). batchFrom k (a .rec) (a .log .now) (y .next) (laidAt (q .loop .numbers) (q .loop .laid) 1 (X g (some f) + 32) (n g - 32) (long (q .loop .image .position) + align (n g))) (q .loop .laid + 1)) e
                 ∙ goes ∙ q .loop .inv .1 .1 .1 .1,
           ),
         ),
@@ -192,7 +215,7 @@ loop-again-2 c =
     let e : most q - (q .loop .laid + 1) ≡ left - 1 = omega arith in
     let p3 = long-by (x .next .image .position) (c .before .before .before .before .long3 .ensures .0) (fits-next f) in
     let out = c .before .before .before .lay2 .ensures ∙ ap (λ (i : ℕ). laidAt (q .loop .numbers) (q .loop .laid) 1 (m .0 .0) (m .0 .1 .0) i) p3 in
-    let t = c .open-term2 .ensures ∙ ap (λ (v : Reading). openTerm (imageState (x .next .image)) v (length (a .log .now)) (length b)) (q .before .before .before .before .read-active .ensures) in (
+    let t = c .open-term2 .ensures ∙ ap (λ (v : Reading). openTerm (imageState (x .next .image)) v (length (a .log .now)) (length b)) (q .before .before .before .before .before .read-active .ensures) in (
       omega (arith, c .before .before .before .before .before .before .before .before .before .before .before .before .before .before .buffer .given, q .loop .inv .0),
       (
         omega (arith, c .before .before .numbers3 .given, q .loop .inv .1 .0),
@@ -226,6 +249,7 @@ next-batch-spec =
     (search needs)
     returns-2
     (search needs)
+    stop-at-requires
     (search needs)
     loop-holds
     (search needs)
@@ -233,8 +257,9 @@ next-batch-spec =
     (λ c. omega (arith, near (w c) (some c)))
     (λ c. omega (arith, near (w c) (some c)))
     (λ c. omega (arith, near (w c) (some c)))
-    (λ c. omega (arith, near (w (c .before)) (some (c .before))))
-    (λ c. omega (arith, near (w (c .before)) (some (c .before))))
+    index-at-requires
+    (λ c. omega (arith, c .index-at .ensures, index-is (w (c .before)) (some (c .before)), near (w (c .before)) (some (c .before))))
+    (λ c. omega (arith, near (w (c .before .before)) (some (c .before .before))))
     lay-requires
     cast-image
     (search needs)

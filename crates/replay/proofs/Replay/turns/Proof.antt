@@ -3,14 +3,15 @@ use mathlib.Core.Path.{_≡_, refl, sym, ap, ap₂, subst, _∙_}
 use mathlib.Core.Bool.{true, false}
 use mathlib.Core.List.{List, [], _∷_}
 use Prim.Native.Nat.{ℕ, _+_, _-_, _*_, _/_, _%_, _≤_, _<_}
+use native.Mathlib.Nat.{mod-lt, mul-le-mul-right}
 use native.Mathlib.Omega.{arith}
 use borrow.Author.Needs.{needs}
 use borrow.Author.Tests.{not-true, not-false}
 use lib.Bits.{bitAnd}
 use lib.IntN.{ℤ, pos}
 use lib.ListN.{length, length-map}
-use mir.Syntax.{w64}
-use mir.Val.{toZ}
+use mir.Syntax.{w32, w64}
+use mir.Val.{toZ, SFits}
 use mir.Facts.{toZ-pos}
 use Rattle.model.specs.declared.Reading.{Reading}
 use Rattle.model.specs.declared.Assembled.{Assembled}
@@ -18,7 +19,7 @@ use Rattle.model.specs.declared.Assembled.the-variants.{Nothing, Fragment, Mess
 use Rattle.model.specs.declared.Replayed.{Replayed}
 use Rattle.model.specs.declared.Replayed.the-variants.{End}
 use Rattle.model.specs.Bytes.{long}
-use Rattle.model.specs.LogBufferDescriptor.{reading}
+use Rattle.model.specs.LogBufferDescriptor.{reading, partitionOf}
 use Rattle.model.specs.FragmentAssembler.{Sessions, Assembly}
 use Rattle.model.specs.FrameDescriptor.{align}
 use Rattle.model.specs.Image.{Image as State, movedTo}
@@ -32,9 +33,9 @@ use Rattle.logbuffer.specs.Assembler.{sessionsAs, joinOf}
 use Rattle.logbuffer.proofs.Signed.{word-by, long-by}
 use Rattle.logbuffer.proofs.Shifts.{offset-by}
 use Rattle.replay.specs.declared.Replay.{Replay}
-use Rattle.replay.specs.InPlace.{TermOrNone, dataAt, openTerm, keptAs, keptBy, repliedBy, isRefused}
+use Rattle.replay.specs.InPlace.{TermOrNone, stopAt, indexAt, dataAt, openTerm, keptAs, keptBy, repliedBy, isRefused}
 use Rattle.replay.specs.Replays.{replayOf, stateOf, elsewhereOn, turned, turnOf, stops, goesOn}
-use Rattle.replay.proofs.InPlace.{DataAt, Open, open-found, data-found, data-lies, open-fits, given-turn, refused-left, placedTurn, placed-refused, placed-stops, placed-on, kept-so, kept-not, refusal-of}
+use Rattle.replay.proofs.InPlace.{DataAt, Open, readings, stop-high, open-found, data-found, data-lies, open-fits, given-turn, refused-left, placedTurn, placed-refused, placed-stops, placed-on, kept-so, kept-not, refusal-of}
 use Rattle.replay.proofs.Turns.{next-none, next-stops, next-goes, next-starts}
 use Rattle.replay.proofs.Replay.turns.Statement.{statement}
 use Rattle.replay.proofs.Replay.turns.Tie as tie
@@ -44,14 +45,14 @@ abbrev at : Image → ℕ → List ℤ → List ℕ → List ℕ → ReplayState
 at image count ids held buffer = stateOf (replayOf image count ids held) buffer
 
 abbrev Inv-loop : tie.InvT-loop
-Inv-loop rec log buffer₀ v image₀ count₀ ids₀ held₀ left₀ buffer image count ids held left =
+Inv-loop rec log buffer₀ v image₀ count₀ ids₀ held₀ stop left₀ buffer image count ids held left =
     (length buffer ≡ length buffer₀) × ((length ids ≡ 16) × ((length held ≡ 16) × (nextFrom left rec log (at image count ids held buffer) ≡ nextFrom left₀ rec log (at image₀ count₀ ids₀ held₀ buffer₀))))
 
 abbrev μ-loop : tie.MeasureT-loop
-μ-loop rec log buffer₀ v image₀ count₀ ids₀ held₀ left₀ buffer image count ids held left = left
+μ-loop rec log buffer₀ v image₀ count₀ ids₀ held₀ stop left₀ buffer image count ids held left = left
 
 abbrev st : tie.At-loop Inv-loop μ-loop → tie.Start Inv-loop μ-loop
-st l = l .before .before .before .before .before .before .before .before .before .before
+st l = l .before .before .before .before .before .before .before .before .before .before .before
 
 -- where the loop stands
 abbrev S : tie.At-loop Inv-loop μ-loop → ReplayState
@@ -72,7 +73,7 @@ held-16 s = search needs
 
 loop-holds : tie.Need-loop-holds Inv-loop μ-loop
 loop-holds c =
-    let s = c .before .before .before .before .before .before .before .before .before in
+    let s = c .before .before .before .before .before .before .before .before .before .before in
     (refl, (ids-16 s, (held-16 s, refl)))
 
 mul-left : tie.Need-mul-left Inv-loop μ-loop
@@ -114,6 +115,12 @@ loop-again c =
 
 -- ---- a data frame, as it lies
 
+term-fits : (s : tie.Start Inv-loop μ-loop) → SFits w32 (s .args .rec .«term_length»)
+term-fits s = search needs
+
+stop-at-requires : tie.Need-stop-at-requires Inv-loop μ-loop
+stop-at-requires c κs = let s = c .before .before .before .before .before .before .before in readings (s .args .rec) _ (c .before .before .before .before .read-active .ensures) (term-fits s)
+
 data-at-requires : tie.Need-data-at-requires Inv-loop μ-loop
 data-at-requires c κs = subst TermOrNone (sym (c .before .before .open-term .ensures)) (open-fits _ _ _ _)
 
@@ -133,26 +140,38 @@ module _ (d : tie.After-data-at Inv-loop μ-loop) (some : ¬ (d .data-at .result
   p-is : p ≡ long (l .loop .image .position)
   p-is = long-by (l .loop .image .position) (d .before .long .ensures .0) (search needs)
 
-  found : DataAt (st l .args .log .now) term p n
-  found = data-found (st l .args .log .now) term p n (sym (d .data-at .ensures)) (omega (arith, some))
+  read-is : l .before .before .before .before .before .before .before .before .read-active .result ≡ reading (st l .args .rec)
+  read-is = l .before .before .before .before .before .before .before .before .read-active .ensures
+
+  stop-is : l .before .before .before .stop-at .result ≡ stopAt (reading (st l .args .rec))
+  stop-is = l .before .before .before .stop-at .ensures ∙ ap stopAt read-is
+
+  found : DataAt (st l .args .log .now) term (l .before .before .before .stop-at .result) p n
+  found = data-found (st l .args .log .now) term (l .before .before .before .stop-at .result) p n (sym (d .data-at .ensures)) (omega (arith, some))
 
   opens : Open (imageState (l .loop .image)) (reading (st l .args .rec)) (length (st l .args .log .now)) (length (l .loop .buffer)) term
   opens =
       open-found _ _ _ _ term
-      (sym (d .before .before .before .open-term .ensures ∙ ap (λ (v : Reading). openTerm (imageState (l .loop .image)) v (length (st l .args .log .now)) (length (l .loop .buffer))) (l .before .before .before .before .before .before .before .read-active .ensures)))
-      (omega (arith, found .below))
+      (sym (d .before .before .before .open-term .ensures ∙ ap (λ (v : Reading). openTerm (imageState (l .loop .image)) v (length (st l .args .log .now)) (length (l .loop .buffer))) read-is))
+      (found .some)
 
   -- the same of the numbers of the definitions
-  here : DataAt (st l .args .log .now) (reading (st l .args .rec) .term) (long (l .loop .image .position)) n
-  here = subst (λ (x : ℕ). DataAt (st l .args .log .now) x (long (l .loop .image .position)) n) (sym (opens .term-is)) (subst (λ (x : ℕ). DataAt (st l .args .log .now) term x n) p-is found)
+  here : DataAt (st l .args .log .now) (reading (st l .args .rec) .term) (stopAt (reading (st l .args .rec))) (long (l .loop .image .position)) n
+  here =
+      subst (λ (x : ℕ). DataAt (st l .args .log .now) x (stopAt (reading (st l .args .rec))) (long (l .loop .image .position)) n) (sym (opens .term-is))
+      (subst (λ (x : ℕ). DataAt (st l .args .log .now) term x (long (l .loop .image .position)) n) stop-is (subst (λ (x : ℕ). DataAt (st l .args .log .now) term (l .before .before .before .stop-at .result) x n) p-is found))
+
+  -- where it lies
+  abbrev X : ℕ
+  X = indexAt (reading (st l .args .rec) .term) (long (l .loop .image .position))
 
   abbrev J : Assembly
-  J = joinOf (S l .sessions) (S l .buffer) (st l .args .log .now) (long (l .loop .image .position)) (long (l .loop .image .position) % reading (st l .args .rec) .term)
+  J = joinOf (S l .sessions) (S l .buffer) (st l .args .log .now) X (long (l .loop .image .position) % reading (st l .args .rec) .term)
 
   abbrev moved : ReplayState
   moved = assembledTo (movedTo (imageState (l .loop .image)) (pos (long (l .loop .image .position) + align n))) J
 
-  turn-is : (x : Assembled) → J .answer ≡ x → turnOf (st l .args .rec) (st l .args .log .now) (S l) ≡ placedTurn (S l) moved (long (l .loop .image .position)) n x
+  turn-is : (x : Assembled) → J .answer ≡ x → turnOf (st l .args .rec) (st l .args .log .now) (S l) ≡ placedTurn (S l) moved X n x
   turn-is x e = given-turn (st l .args .rec) (st l .args .log .now) (S l) n (opens .sound-so) (opens .is-open) (opens .lent-so) here (l .loop .inv .1 .0) x e
 
   offset-is : bitAnd p (term - 1) ≡ long (l .loop .image .position) % reading (st l .args .rec) .term
@@ -162,53 +181,64 @@ module _ (d : tie.After-data-at Inv-loop μ-loop) (some : ¬ (d .data-at .result
       let one : ones term ≡ 1 = ap ones (sym (opens .term-is)) ∙ k .one-bit in
       offset-by term high one p ∙ ap₂ (λ (x y : ℕ). x % y) p-is (sym (opens .term-is))
 
-  join-is : joinOf (S l .sessions) (S l .buffer) (st l .args .log .now) p (bitAnd p (term - 1)) ≡ J
-  join-is = ap₂ (joinOf (S l .sessions) (S l .buffer) (st l .args .log .now)) p-is offset-is
+  index-is : indexAt term p ≡ X
+  index-is = ap₂ indexAt (sym (opens .term-is)) p-is
 
-  near : (p < 3221225472) × ((32 ≤ n) × (n < 2147483648))
+  near : (p < 2305843009213693952) × ((32 ≤ n) × ((n < 2147483648) × (X < 3221225472)))
   near =
       let k = sound-true _ _ (opens .sound-so) in
-      let y = data-lies _ _ _ _ found in
-      (omega (arith, found .below, opens .term-is, k .term-high), (y .header, y .small))
+      let y = data-lies _ _ _ _ _ found in
+      let m : partitionOf (long (l .loop .image .position)) (reading (st l .args .rec) .term) * reading (st l .args .rec) .term ≤ 2 * reading (st l .args .rec) .term = mul-le-mul-right (reading (st l .args .rec) .term) (omega arith) in
+      let o = mod-lt (long (l .loop .image .position)) (here .some) in
+      (omega (arith, found .below, stop-is, stop-high (reading (st l .args .rec)), k .term-high), (y .header, (y .small, omega (arith, k .term-high, o))))
 
 -- what the core left, by the definition's assembly
 module _ (c : tie.After-give Inv-loop μ-loop) where
   abbrev d : tie.After-data-at Inv-loop μ-loop
-  d = c .before .before .before .before .before
+  d = c .before .before .before .before .before .before
 
   abbrev some : ¬ (d .data-at .result ≡ 0)
-  some = c .before .before .before .before .if1 .left
+  some = c .before .before .before .before .before .if1 .left
+
+  x-is : c .before .before .before .before .index-at .result ≡ X d some
+  x-is = c .before .before .before .before .index-at .ensures ∙ index-is d some
+
+  join-is : joinOf (S (l d some) .sessions) (S (l d some) .buffer) (st (l d some) .args .log .now) (c .before .before .before .before .index-at .result) (bitAnd (p d some) (term d some - 1)) ≡ J d some
+  join-is = ap₂ (joinOf (S (l d some) .sessions) (S (l d some) .buffer) (st (l d some) .args .log .now)) x-is (offset-is d some)
 
   abbrev a : Assembled
   a = c .give .result .answer
 
   answer-is : J d some .answer ≡ a
-  answer-is = sym (c .give .ensures .0 ∙ ap (λ (y : Assembly). y .answer) (join-is d some))
+  answer-is = sym (c .give .ensures .0 ∙ ap (λ (y : Assembly). y .answer) join-is)
 
   sessions-are : sessionsAs (c .give .result .count) (c .give .last .1 .0) (c .give .last .1 .1 .0) ≡ keptAs (S (l d some) .sessions) (J d some .next) a
   sessions-are =
-      c .give .ensures .1 .0 ∙ ap (keptBy (S (l d some) .sessions)) (join-is d some) ∙ ap (keptAs (S (l d some) .sessions) (J d some .next)) answer-is
+      c .give .ensures .1 .0 ∙ ap (keptBy (S (l d some) .sessions)) join-is ∙ ap (keptAs (S (l d some) .sessions) (J d some .next)) answer-is
 
   buffer-is : c .give .last .1 .1 .1 .1 .0 ≡ J d some .buffer
-  buffer-is = c .give .ensures .1 .1 ∙ ap (λ (y : Assembly). y .buffer) (join-is d some)
+  buffer-is = c .give .ensures .1 .1 ∙ ap (λ (y : Assembly). y .buffer) join-is
 
-  reply-is : repliedBy (p d some) (n d some) a ≡ repliedBy (long (l d some .loop .image .position)) (n d some) a
-  reply-is = ap (λ (x : ℕ). repliedBy x (n d some) a) (p-is d some)
+  reply-is : repliedBy (c .before .before .before .before .index-at .result) (n d some) a ≡ repliedBy (X d some) (n d some) a
+  reply-is = ap (λ (x : ℕ). repliedBy x (n d some) a) x-is
+
+index-at-requires : tie.Need-index-at-requires Inv-loop μ-loop
+index-at-requires c κs = (found (c .before) (c .if1 .left) .some, subst TermOrNone (sym (c .before .before .before .before .open-term .ensures)) (open-fits _ _ _ _))
 
 slice-aggregate-give : tie.Need-slice-aggregate-give Inv-loop μ-loop
-slice-aggregate-give c = sym (c .before .before .before .before .before .before .before .loop .inv .1 .0)
+slice-aggregate-give c = sym (c .before .before .before .before .before .before .before .before .loop .inv .1 .0)
 
 slice-aggregate-give-2 : tie.Need-slice-aggregate-give-2 Inv-loop μ-loop
-slice-aggregate-give-2 c = sym (c .before .before .before .before .before .before .before .before .loop .inv .1 .1 .0)
+slice-aggregate-give-2 c = sym (c .before .before .before .before .before .before .before .before .before .loop .inv .1 .1 .0)
 
 sub-give : tie.Need-sub-give Inv-loop μ-loop
-sub-give c = omega (arith, found (c .before .before .before .before) (c .before .before .before .if1 .left) .below)
+sub-give c = omega (arith, found (c .before .before .before .before .before) (c .before .before .before .before .if1 .left) .some)
 
 give-requires : tie.Need-give-requires Inv-loop μ-loop
-give-requires c κs = (c .before .before .before .before .before .before .before .before .before .loop .inv .1 .0, c .before .before .before .before .before .before .before .before .before .loop .inv .1 .1 .0)
+give-requires c κs = (c .before .before .before .before .before .before .before .before .before .before .loop .inv .1 .0, c .before .before .before .before .before .before .before .before .before .before .loop .inv .1 .1 .0)
 
 reply-by-requires : tie.Need-reply-by-requires Inv-loop μ-loop
-reply-by-requires c κs = let f = c .before .before .before .before .before .before .before in let h = near (d f) (some f) in (omega (arith, h .0), h .1 .0)
+reply-by-requires c κs = let f = c .before .before .before .before .before .before .before in let h = near (d f) (some f) in (omega (arith, x-is f, h .1 .1 .1), h .1 .0)
 
 -- a reply of the code by its parts
 abbrev said : Image → Sessions → List ℕ → Replayed → NextReply
@@ -221,13 +251,13 @@ returns-2 c =
     let g = st q .args in
     let x = a f in
     let m = n (d f) (some f) in
-    let y = repliedBy (long (q .loop .image .position)) m x in
+    let y = repliedBy (X (d f) (some f)) m x in
     let refused : isRefused x ≡ true = sym (c .before .before .before .is-refused .ensures) ∙ c .before .before .if3 .taken in
     let e = refusal-of x refused in
     let kept = refused-left (g .rec) (g .log .now) (S q) m (opens (d f) (some f) .sound-so) (opens (d f) (some f) .is-open) (opens (d f) (some f) .lent-so) (here (d f) (some f)) (q .loop .inv .1 .0) (e .0) (answer-is f ∙ e .1) in
     ap₂ {C = NextReply} (λ (r : Replay) (z : Replayed). record { answer = z; next = stateOf r (f .give .last .1 .1 .1 .1 .0) }) (c .before .replay-of2 .ensures) (c .reply-by .ensures ∙ reply-is f)
     ∙ ap₂ (λ (s : Sessions) (b : List ℕ). said (q .loop .image) s b y) (sessions-are f ∙ kept-so _ _ x refused) (buffer-is f ∙ kept)
-    ∙ next-stops (g .rec) (g .log .now) (S q) (stops (S q) y) (sym (turn-is (d f) (some f) x (answer-is f) ∙ placed-refused (S q) (moved (d f) (some f)) (long (q .loop .image .position)) m x refused)) (q .loop .left) (goes (f .before .before .before .before .before .before .before .before .before)) refl
+    ∙ next-stops (g .rec) (g .log .now) (S q) (stops (S q) y) (sym (turn-is (d f) (some f) x (answer-is f) ∙ placed-refused (S q) (moved (d f) (some f)) (X (d f) (some f)) m x refused)) (q .loop .left) (goes (f .before .before .before .before .before .before .before .before .before .before)) refl
     ∙ goal q
 
 -- the image behind the frame
@@ -256,7 +286,7 @@ cast-image : tie.Need-cast-image Inv-loop μ-loop
 cast-image c = let f = c .before .before .before .before .before .before in record { sfits = omega (arith, near (d f) (some f)) }
 
 reply-by-requires-2 : tie.Need-reply-by-requires-2 Inv-loop μ-loop
-reply-by-requires-2 c κs = let f = c .before .before .before .before .before .before .before .before .before in let h = near (d f) (some f) in (omega (arith, h .0), h .1 .0)
+reply-by-requires-2 c κs = let f = c .before .before .before .before .before .before .before .before .before in let h = near (d f) (some f) in (omega (arith, x-is f, h .1 .1 .1), h .1 .0)
 
 returns-3 : tie.Need-returns-3 Inv-loop μ-loop
 returns-3 c =
@@ -265,14 +295,14 @@ returns-3 c =
     let g = st q .args in
     let x = a f in
     let m = n (d f) (some f) in
-    let y = repliedBy (long (q .loop .image .position)) m x in
+    let y = repliedBy (X (d f) (some f)) m x in
     let clear : isRefused x ≡ false = sym (c .before .before .before .before .before .is-refused .ensures) ∙ c .before .before .before .before .if3 .left in
     let ends : elsewhereOn x ≡ false = sym (c .before .before .before .is-nothing .ensures) ∙ not-true _ (c .before .before .if4 .taken) in
     let t = moved (d f) (some f) in
     ap₂ {C = NextReply} (λ (r : Replay) (z : Replayed). record { answer = z; next = stateOf r (f .give .last .1 .1 .1 .1 .0) }) (c .before .replay-of3 .ensures) (c .reply-by2 .ensures ∙ reply-is f)
     ∙ ap₂ {C = NextReply} (λ (s : Sessions) (b : List ℕ). record { answer = y; next = record { image = imageState (behind f); sessions = s; buffer = b } }) (sessions-are f ∙ kept-not _ _ x clear) (buffer-is f)
     ∙ ap {B = NextReply} (λ (i : State). record { answer = y; next = record { image = i; sessions = J (d f) (some f) .next; buffer = J (d f) (some f) .buffer } }) (passed f)
-    ∙ next-stops (g .rec) (g .log .now) (S q) (stops t y) (sym (turn-is (d f) (some f) x (answer-is f) ∙ placed-stops (S q) t (long (q .loop .image .position)) m x clear ends)) (q .loop .left) (goes (f .before .before .before .before .before .before .before .before .before)) refl
+    ∙ next-stops (g .rec) (g .log .now) (S q) (stops t y) (sym (turn-is (d f) (some f) x (answer-is f) ∙ placed-stops (S q) t (X (d f) (some f)) m x clear ends)) (q .loop .left) (goes (f .before .before .before .before .before .before .before .before .before .before)) refl
     ∙ goal q
 
 loop-again-2 : tie.Need-loop-again-2 Inv-loop μ-loop
@@ -293,7 +323,7 @@ loop-again-2 c =
           omega (arith, c .before .before .before .before .before .before .held4 .given, q .loop .inv .1 .1 .0),
           ap₂ (λ (s : Sessions) (b : List ℕ). nextFrom (q .loop .left - 1) (g .rec) (g .log .now) (record { image = imageState (behind f); sessions = s; buffer = b })) (sessions-are f ∙ kept-not _ _ x clear) (buffer-is f)
               ∙ ap (λ (i : State). nextFrom (q .loop .left - 1) (g .rec) (g .log .now) (record { image = i; sessions = J (d f) (some f) .next; buffer = J (d f) (some f) .buffer })) (passed f)
-              ∙ next-goes (g .rec) (g .log .now) (S q) (goesOn t) (sym (turn-is (d f) (some f) x (answer-is f) ∙ placed-on (S q) t (long (q .loop .image .position)) m x on)) (q .loop .left) (goes (f .before .before .before .before .before .before .before .before .before)) refl
+              ∙ next-goes (g .rec) (g .log .now) (S q) (goesOn t) (sym (turn-is (d f) (some f) x (answer-is f) ∙ placed-on (S q) t (X (d f) (some f)) m x on)) (q .loop .left) (goes (f .before .before .before .before .before .before .before .before .before .before)) refl
               ∙ q .loop .inv .1 .1 .1,
         ),
       ),
@@ -313,6 +343,7 @@ turns-spec =
     Inv-loop
     μ-loop
     (search needs)
+    stop-at-requires
     (search needs)
     mul-left
     add-left
@@ -327,6 +358,7 @@ turns-spec =
     (search needs)
     (search needs)
     loop-again
+    index-at-requires
     slice-aggregate-give
     slice-aggregate-give-2
     sub-give
@@ -334,7 +366,7 @@ turns-spec =
     (search needs)
     (search needs)
     reply-by-requires
-    (λ c. omega (arith, c .before .before .before .before .before .buffer2 .given, c .before .before .before .before .before .before .before .before .before .before .before .before .before .before .before .before .before .before .loop .inv .0))
+    (λ c. omega (arith, c .before .before .before .before .before .buffer2 .given, c .before .before .before .before .before .before .before .before .before .before .before .before .before .before .before .before .before .before .before .loop .inv .0))
     returns-2
     add-image
     mul-image
@@ -343,7 +375,7 @@ turns-spec =
     (search needs)
     (search needs)
     reply-by-requires-2
-    (λ c. omega (arith, c .before .before .before .before .before .before .before .buffer2 .given, c .before .before .before .before .before .before .before .before .before .before .before .before .before .before .before .before .before .before .before .before .loop .inv .0))
+    (λ c. omega (arith, c .before .before .before .before .before .before .before .buffer2 .given, c .before .before .before .before .before .before .before .before .before .before .before .before .before .before .before .before .before .before .before .before .before .loop .inv .0))
     returns-3
     (search needs)
     (search needs)

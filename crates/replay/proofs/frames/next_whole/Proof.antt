@@ -1,25 +1,71 @@
 -- The term, if it is open, and the frame at the image's position.
 use mathlib.Core.Path.{_≡_, sym, ap, ap₂, subst, _∙_}
-use Prim.Native.Nat.{ℕ}
+use Prim.Native.Nat.{ℕ, _<_}
+use native.Mathlib.Omega.{arith}
+use lib.Dec.{eqb}
 use lib.ListN.{length}
+use mir.Syntax.{w32}
+use mir.Val.{SFits}
 use Rattle.model.specs.declared.Reading.{Reading}
+use Rattle.model.specs.Bytes.{long}
+use Rattle.model.specs.LogBufferDescriptor.{reading}
+use Rattle.model.proofs.Choice.{eq-yes, eq-no}
 use Rattle.image.specs.Images.{stateOf as imageState}
 use Rattle.logbuffer.proofs.Signed.{long-by}
-use Rattle.replay.specs.InPlace.{TermOrNone, wholeAt, openTerm}
-use Rattle.replay.proofs.InPlace.{open-fits}
+use Rattle.replay.specs.declared.frames.Whole.{Whole}
+use Rattle.replay.specs.InPlace.{TermOrNone, stopAt, indexAt, wholeAt, openTerm, wholeOf, wholeWith}
+use Rattle.replay.proofs.InPlace.{Near, open-fits, readings, whole-near}
 use borrow.Author.Needs.{needs}
 use Rattle.replay.proofs.frames.next_whole.Statement.{statement}
 use Rattle.replay.proofs.frames.next_whole.Tie as tie
 
+term-fits : (s : tie.Start) → SFits w32 (s .args .rec .«term_length»)
+term-fits s = search needs
+
+stop-at-requires : tie.Need-stop-at-requires
+stop-at-requires c κs = let s = c .before .before .before .before .before in readings (s .args .rec) _ (c .before .before .before .read-active .ensures) (term-fits s)
+
 whole-at-requires : tie.Need-whole-at-requires
-whole-at-requires c κs = subst TermOrNone (sym (c .before .before .open-term .ensures)) (open-fits _ _ _ _)
+whole-at-requires c κs = subst TermOrNone (sym (c .before .before .before .open-term .ensures)) (open-fits _ _ _ _)
+
+module _ (c : tie.After-whole-at) where
+  abbrev s : tie.Start
+  s = c .before .before .before .before .before .before .before
+
+  p-is : c .before .before .long .result ≡ long (s .args .image .position)
+  p-is = long-by (s .args .image .position) (c .before .before .long .ensures .0) (search needs)
+
+  read-is : c .before .before .before .before .before .read-active .result ≡ reading (s .args .rec)
+  read-is = c .before .before .before .before .before .read-active .ensures
+
+  term-is : c .before .before .before .before .open-term .result ≡ openTerm (imageState (s .args .image)) (reading (s .args .rec)) (length (s .args .log .now)) (s .args .lent)
+  term-is = c .before .before .before .before .open-term .ensures ∙ ap (λ (v : Reading). openTerm (imageState (s .args .image)) v (length (s .args .log .now)) (s .args .lent)) read-is
+
+  whole-is : c .whole-at .result ≡ wholeOf (s .args .rec) (s .args .log .now) (imageState (s .args .image)) (s .args .lent)
+  whole-is =
+      c .whole-at .ensures ∙ ap (λ (x : ℕ). wholeAt (s .args .log .now) (c .before .before .before .before .open-term .result) x (c .before .before .long .result)) (c .before .stop-at .ensures ∙ ap stopAt read-is)
+      ∙ ap₂ (λ (t p : ℕ). wholeAt (s .args .log .now) t (stopAt (reading (s .args .rec))) p) term-is p-is
+
+  near : ¬ (c .whole-at .result ≡ 0) → Near (s .args .rec) (imageState (s .args .image)) (openTerm (imageState (s .args .image)) (reading (s .args .rec)) (length (s .args .log .now)) (s .args .lent)) (c .whole-at .result)
+  near h = whole-near (s .args .rec) (s .args .log .now) (imageState (s .args .image)) (s .args .lent) (c .whole-at .result) (sym whole-is) (omega (arith, h))
+
+  with-it : (index : ℕ) → wholeWith index (c .whole-at .result) ≡ wholeWith index (wholeOf (s .args .rec) (s .args .log .now) (imageState (s .args .image)) (s .args .lent))
+  with-it index = ap (wholeWith index) whole-is
 
 returns : tie.Need-returns
-returns c =
-    let s = c .before .before .before .before .before .before in
-    let a = s .args in
-    let t = c .before .before .before .open-term .ensures ∙ ap (λ (v : Reading). openTerm (imageState (a .image)) v (length (a .log .now)) (a .lent)) (c .before .before .before .before .read-active .ensures) in
-    c .whole-at .ensures ∙ ap₂ (wholeAt (a .log .now)) t (long-by (a .image .position) (c .before .long .ensures .0) (search needs))
+returns c = let q = c .before in sym (eq-yes (q .whole-at .result) 0 _ _ (c .if1 .taken)) ∙ with-it q _
+
+index-at-requires : tie.Need-index-at-requires
+index-at-requires c κs =
+    let q = c .before in
+    (omega (arith, term-is q, near q (c .if1 .left) .term-some), subst TermOrNone (sym (c .before .before .before .before .before .open-term .ensures)) (open-fits _ _ _ _))
+
+returns-2 : tie.Need-returns-2
+returns-2 c =
+    let q = c .before .before in
+    let n = near q (c .before .if1 .left) in
+    ap {B = Whole} (λ (x : ℕ). record { index = x; length = q .whole-at .result }) (c .index-at .ensures ∙ ap₂ indexAt (term-is q ∙ n .term-is) (p-is q))
+    ∙ sym (eq-no (q .whole-at .result) 0 _ _ (c .before .if1 .left)) ∙ with-it q _
 
 pub next-whole-spec : {M : Type 1} → statement M
-next-whole-spec = tie.close (tie.spec (search needs) (search needs) (search needs) whole-at-requires returns)
+next-whole-spec = tie.close (tie.spec (search needs) (search needs) (search needs) stop-at-requires whole-at-requires returns index-at-requires returns-2)
