@@ -27,7 +27,7 @@ use Rattle.model.specs.declared.Rule.{Rule}
 use Rattle.model.specs.declared.Rule.the-variants.{Claimed as ByClaim}
 use Rattle.model.specs.Bytes.{word}
 use Rattle.model.specs.FrameDescriptor.{space}
-use Rattle.model.specs.LogBufferDescriptor.{readingOf, reading, active, payloadLimit, sound, withTail}
+use Rattle.model.specs.LogBufferDescriptor.{readingOf, reading, active, payloadLimit, sound, withTail, isReady}
 use Rattle.model.specs.TermAppender.{padded, claimed, course, bytesBy, claimRecord, claimAppendedBy}
 use Rattle.model.specs.Rule.{claim as asks, decided}
 use Rattle.model.specs.Publication.{refuseIf, place, afterClosed, tailRoom, claimVerdict, fits, tripError, tripNext, appendNext, nextBy, logBy, claimedBy, claimOf, claimBytes}
@@ -99,13 +99,13 @@ module _ (v : Reading) (n m : ℕ) where
 
 -- ---- the append, and what its answer leads to
 
-abbrev pub afterBy : Reading → LogRecord → AppendedClaim → ClaimReply
-afterBy v next (Taken end claim) = record { next = next; answer = Position (pos (v .count * v .term + end)) claim; rule = ByClaim }
-afterBy v next Tripped = record { next = tripNext next v; answer = Declined (tripError v); rule = tripRule v }
-afterBy v next (Refused e) = record { next = next; answer = Declined e; rule = refusedRule e }
+abbrev pub afterBy : Reading → Bool → LogRecord → AppendedClaim → ClaimReply
+afterBy v ready next (Taken end claim) = record { next = next; answer = Position (pos (v .count * v .term + end)) claim; rule = ByClaim }
+afterBy v ready next Tripped = record { next = tripNext next v ready; answer = Declined (tripError v ready); rule = tripRule v ready }
+afterBy v ready next (Refused e) = record { next = next; answer = Declined e; rule = refusedRule e }
 
-abbrev pub after : Reading → AppendClaimReply → ClaimReply
-after v a = afterBy v (a .next) (a .answer)
+abbrev pub after : Reading → Bool → AppendClaimReply → ClaimReply
+after v ready a = afterBy v ready (a .next) (a .answer)
 
 module _ (r : LogRecord) (log : List ℕ) (len : ℤ) where
   abbrev v· : Reading
@@ -120,8 +120,11 @@ module _ (r : LogRecord) (log : List ℕ) (len : ℤ) where
   abbrev new· : List ℕ
   new· = claimed v· log (active r * v· .term) m·
 
+  abbrev ready· : Bool
+  ready· = isReady r
+
   abbrev rule· : Rule
-  rule· = decided v· (length log) (asks m·)
+  rule· = decided v· ready· (length log) (asks m·)
 
   abbrev reply· : Verdict → ClaimReply
   reply· x = record { next = nextBy r v· (space m·) x; answer = claimedBy r v· m· x; rule = rule· }
@@ -131,7 +134,12 @@ module _ (r : LogRecord) (log : List ℕ) (len : ℤ) where
 
   -- what a claim that passes leaves and answers, by whether it fits
   abbrev passed· : Bool → ClaimReply
-  passed· b = record { next = cond b moved· (tripNext moved· v·); answer = cond b (Position (pos (place v· + space m·)) (claimRecord v· (active r) m·)) (Declined (tripError v·)); rule = rule· }
+  passed· b =
+      record {
+        next = cond b moved· (tripNext moved· v· ready·);
+        answer = cond b (Position (pos (place v· + space m·)) (claimRecord v· (active r) m·)) (Declined (tripError v· ready·));
+        rule = rule·;
+      }
 
   pass-is : (b : Bool) → fits v· (space m·) ≡ b → reply· Pass ≡ passed· b
   unfolding appendNext
@@ -141,22 +149,22 @@ module _ (r : LogRecord) (log : List ℕ) (len : ℤ) where
       → (record { next = r; answer = Declined e; rule = x } ≡ claimOf r log len) × (log ≡ claimBytes r log len)
   unfolding claimOf claimBytes
   claim-refused e x q h = (
-    ap (λ (y : Rule). record { next = r; answer = Declined e; rule = y }) (q ∙ claim-rule-refused v· (length log) m· e h) ∙ sym (ap reply· h),
+    ap (λ (y : Rule). record { next = r; answer = Declined e; rule = y }) (q ∙ claim-rule-refused v· ready· (length log) m· e h) ∙ sym (ap reply· h),
     sym (ap (logBy r v· log new· (space m·)) h),
   )
 
   both : (b : Bool) → leb (v· .offset + space m·) (v· .term) ≡ b → x· ≡ cond b Fit Trip → claimVerdict v· (length log) m· ≡ Pass
-      → (after v· (claimAppendedBy r v· (active r) m· x·) ≡ claimOf r log len) × (bytesBy v· (active r) log new· x· ≡ claimBytes r log len)
+      → (after v· ready· (claimAppendedBy r v· (active r) m· x·) ≡ claimOf r log len) × (bytesBy v· (active r) log new· x· ≡ claimBytes r log len)
   unfolding claimOf claimBytes
   both false eb ex w = (
-    ap (λ (x : Course). after v· (claimAppendedBy r v· (active r) m· x)) ex
-        ∙ ap (λ (x : Rule). record { next = tripNext moved· v·; answer = Declined (tripError v·); rule = x }) (claim-rule-passed v· (length log) m· false eb w) ∙ sym (ap reply· w ∙ pass-is false eb),
+    ap (λ (x : Course). after v· ready· (claimAppendedBy r v· (active r) m· x)) ex
+        ∙ ap (λ (x : Rule). record { next = tripNext moved· v· ready·; answer = Declined (tripError v· ready·); rule = x }) (claim-rule-passed v· ready· (length log) m· false eb w) ∙ sym (ap reply· w ∙ pass-is false eb),
     ap (bytesBy v· (active r) log new·) ex ∙ sym (ap (logBy r v· log new· (space m·)) w ∙ ap (λ (t : Bool). cond t new· (padded v· log (active r * v· .term))) eb),
   )
   both true eb ex w =
       let s : v· .count * v· .term + (v· .offset + space m·) ≡ place v· + space m· = omega arith in (
-        ap (λ (x : Course). after v· (claimAppendedBy r v· (active r) m· x)) ex
-            ∙ ap₂ (λ (p : ℕ) (x : Rule). record { next = moved·; answer = Position (pos p) (claimRecord v· (active r) m·); rule = x }) s (claim-rule-passed v· (length log) m· true eb w) ∙ sym (ap reply· w ∙ pass-is true eb),
+        ap (λ (x : Course). after v· ready· (claimAppendedBy r v· (active r) m· x)) ex
+            ∙ ap₂ (λ (p : ℕ) (x : Rule). record { next = moved·; answer = Position (pos p) (claimRecord v· (active r) m·); rule = x }) s (claim-rule-passed v· ready· (length log) m· true eb w) ∙ sym (ap reply· w ∙ pass-is true eb),
         ap (bytesBy v· (active r) log new·) ex ∙ sym (ap (logBy r v· log new· (space m·)) w ∙ ap (λ (t : Bool). cond t new· (padded v· log (active r * v· .term))) eb),
       )
 
@@ -166,7 +174,7 @@ module _ (r : LogRecord) (log : List ℕ) (len : ℤ) where
 
   -- a claim that nothing refuses is the claiming append, and what its answer leads to
   pub claim-is : claimVerdict v· (length log) m· ≡ Pass
-      → (after v· (claimingReply r log (active r) m· (v· .id)) ≡ claimOf r log len) × (claimingBytes r log (active r) m· (v· .id) ≡ claimBytes r log len)
+      → (after v· ready· (claimingReply r log (active r) m· (v· .id)) ≡ claimOf r log len) × (claimingBytes r log (active r) m· (v· .id) ≡ claimBytes r log len)
   claim-is h = both (leb (v· .offset + space m·) (v· .term)) refl (way (passed v· (length log) m· h)) h
 
 -- ---- by the numbers that the code has
@@ -179,12 +187,12 @@ module _ (r : LogRecord) (log : List ℕ) (v : Reading) (k n g : ℕ) (a : Appen
   answers : (x : AppendedClaim) → a .answer ≡ x → claimingReply r log k n g .answer ≡ x
   answers x h = sym (ap (λ (y : AppendClaimReply). y .answer) ea) ∙ h
 
-  pub claim-by : (log′ : List ℕ) (len : ℤ) → n ≡ word len → claimVerdict v (length log) (word len) ≡ Pass → log′ ≡ claimingBytes r log k n g → (after v a ≡ claimOf r log len) × (log′ ≡ claimBytes r log len)
+  pub claim-by : (log′ : List ℕ) (len : ℤ) → n ≡ word len → claimVerdict v (length log) (word len) ≡ Pass → log′ ≡ claimingBytes r log k n g → (after v (isReady r) a ≡ claimOf r log len) × (log′ ≡ claimBytes r log len)
   claim-by log′ len en h el =
       let law = claim-is r log len (subst (λ (x : Reading). claimVerdict x (length log) (word len) ≡ Pass) ev h) in
       let one : (u : Reading) (j : ℕ) → v ≡ u → k ≡ j → a ≡ claimingReply r log j (word len) (u .id) = λ u j eu ej. cc in
       let two : (u : Reading) (j : ℕ) → v ≡ u → k ≡ j → log′ ≡ claimingBytes r log j (word len) (u .id) = λ u j eu ej. cc in
-      (ap₂ after ev (one (reading r) (active r) ev ek) ∙ law .0, two (reading r) (active r) ev ek ∙ law .1)
+      (ap₂ (λ (x : Reading) (y : AppendClaimReply). after x (isReady r) y) ev (one (reading r) (active r) ev ek) ∙ law .0, two (reading r) (active r) ev ek ∙ law .1)
 
   -- one that is taken ends in its term
   pub claim-end : (end : ℕ) (claim : Claim) → a .answer ≡ Taken end claim → end ≤ v .term

@@ -1,5 +1,6 @@
 -- Laws that the functions' proofs share.
 pub mod ClaimLaws
+pub mod ClearLaws
 pub mod OfferBy
 pub mod Lengths
 pub mod Numbers

@@ -13,7 +13,7 @@ use Rattle.model.specs.declared.Offered.the-variants.{Refused as Declined}
 use Rattle.model.specs.declared.Appended.the-variants.{Offset, Tripped}
 use Rattle.model.specs.declared.AppendReply.{AppendReply}
 use Rattle.model.specs.Bytes.{word, long}
-use Rattle.model.specs.LogBufferDescriptor.{readingOf, reading, active, payloadLimit}
+use Rattle.model.specs.LogBufferDescriptor.{readingOf, reading, active, payloadLimit, due, isMarked, isReady}
 use Rattle.model.specs.TermAppender.{need, course}
 use Rattle.model.specs.Publication.{beforeAppend, offerOf, offerBytes}
 use Rattle.model.proofs.Append.{appendReply, appendBytes}
@@ -25,6 +25,11 @@ use Rattle.model.proofs.RuleLaws.{refusedRule}
 pub active-by : (r : LogRecord) (v : Reading) → v ≡ reading r → v .count % 3 ≡ active r
 unfolding readingOf
 active-by r v e = ap (λ (x : Reading). x .count % 3) e
+
+-- whether the partition due next is marked, by it
+pub ready-by : (r : LogRecord) (v : Reading) → v ≡ reading r → isMarked r (due (v .count)) ≡ isReady r
+unfolding readingOf
+ready-by r v e = ap (λ (x : Reading). isMarked r (due (x .count))) e
 
 -- an offer that is refused before its append, with the rule of the refusal
 pub refused-by : (r : LogRecord) (log m : List ℕ) (reserved : ℤ) (e : Error) (x : Rule) → x ≡ refusedRule e → beforeAppend (reading r) (length log) (length m) Pass ≡ Refuse e
@@ -40,12 +45,12 @@ module _ (r : LogRecord) (log m : List ℕ) (v : Reading) (k g : ℕ) (a : Appen
 
   -- an offer that nothing refuses before its append
   pub offer-by : (log′ : List ℕ) (reserved : ℤ) (z : ℕ) → z ≡ long reserved → beforeAppend v (length log) (length m) Pass ≡ Pass
-      → log′ ≡ appendBytes r log k (v .mtu - 32) m z g → (after v (length m) a ≡ offerOf r log m) × (log′ ≡ offerBytes r log m reserved)
+      → log′ ≡ appendBytes r log k (v .mtu - 32) m z g → (after v (isReady r) (length m) a ≡ offerOf r log m) × (log′ ≡ offerBytes r log m reserved)
   offer-by log′ reserved z ez h el =
       let law = offer-is r log m reserved (subst (λ (x : Reading). beforeAppend x (length log) (length m) Pass ≡ Pass) ev h) in
       let one : (u : Reading) (j : ℕ) → v ≡ u → k ≡ j → a ≡ appendReply r log j (payloadLimit u) m (u .id) = λ u j eu ej. cc in
       let two : (u : Reading) (j : ℕ) → v ≡ u → k ≡ j → log′ ≡ appendBytes r log j (payloadLimit u) m (long reserved) (u .id) = λ u j eu ej. cc in
-      (ap₂ (λ (x : Reading) (y : AppendReply). after x (length m) y) ev (one (reading r) (active r) ev ek) ∙ law .0, two (reading r) (active r) ev ek ∙ law .1)
+      (ap₂ (λ (x : Reading) (y : AppendReply). after x (isReady r) (length m) y) ev (one (reading r) (active r) ev ek) ∙ law .0, two (reading r) (active r) ev ek ∙ law .1)
 
   -- one that ends at an offset ends in its term
   pub end-by : (end : ℕ) → a .answer ≡ Offset end → end ≤ v .term

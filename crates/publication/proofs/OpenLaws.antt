@@ -28,6 +28,8 @@ pub opened-by : (term mtu initial session stream term′ mtu′ initial′ sessi
       «publication_limit» = pos 0;
       «end_of_stream_position» = pos 9223372036854775807;
       «is_closed» = false;
+      «slowest_position» = pos 0;
+      «is_cleared» = false ∷ true ∷ true ∷ [];
     } ≡ openedRecord term mtu initial session stream
 unfolding openedRecord
 opened-by term mtu initial session stream term′ mtu′ initial′ session′ stream′ a b c e1 e2 e3 e4 e5 ea eb ec = cc

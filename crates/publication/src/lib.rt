@@ -31,6 +31,7 @@ use model::Reading;
 use model::Rule;
 use model::Verdict;
 
+pub mod clearing;
 mod judge;
 mod judge_claim;
 pub mod opening;
@@ -59,11 +60,18 @@ fn own_term_id(rec: LogRecord, k: usize) -> i32
     log_buffer_descriptor::term_id(rec.tails[2])
 }
 
-// After a trip: 7, 12, or rotated and 6. `next` is the record with the tail moved; its count and term id are handed to the rotation. The
-// active term begins at `begin`.
-fn after_trip(next: LogRecord, v: Reading, begin: usize, count: i32, term_id: i32) -> Trip
+// After a trip: 7, 12, 19 unless the next partition is `ready`, or rotated and 6. `next` is the record with the tail moved; its count and term id
+// are handed to the rotation. The active term begins at `begin`.
+fn after_trip(
+    next: LogRecord,
+    v: Reading,
+    ready: bool,
+    begin: usize,
+    count: i32,
+    term_id: i32,
+) -> Trip
     requires { ⌜ Bounds v × ((begin ≡ v .count * v .term) × Turns next v count «term_id») ⌝ }
-    ensures { λ r. ⌜ (r .next ≡ tripNext next v) × ((r .error ≡ tripError v) × (r .rule ≡ tripRule v)) ⌝ }
+    ensures { λ r. ⌜ (r .next ≡ tripNext next v ready) × ((r .error ≡ tripError v ready) × (r .rule ≡ tripRule v ready)) ⌝ }
 {
     let term = v.term;
     let active = v.count;
@@ -80,6 +88,13 @@ fn after_trip(next: LogRecord, v: Reading, begin: usize, count: i32, term_id: i3
             next: next,
             error: Error::LastTerm,
             rule: Rule::LastTerm,
+        };
+    }
+    if !ready {
+        return Trip {
+            next: next,
+            error: Error::NotCleared,
+            rule: Rule::NotCleared,
         };
     }
     let turned = log_buffer_descriptor::rotate_log(next, count, term_id);
@@ -132,7 +147,8 @@ fn offer_on(rec: LogRecord, log: &mut [u8], v: Reading, message: &[u8], reserved
     let Appended::Offset(end) = answer else {
         let Appended::Refused(e) = answer else {
             let term_id = own_term_id(rec, count % 3);
-            let t = after_trip(next, v, begin, rec.active_term_count, term_id);
+            let ready = log_buffer_descriptor::is_marked(rec, (count + 1) % 3);
+            let t = after_trip(next, v, ready, begin, rec.active_term_count, term_id);
             let last = t.next;
             let error = t.error;
             let rule = t.rule;
@@ -211,7 +227,8 @@ fn claim_on(rec: LogRecord, log: &mut [u8], v: Reading, length: i32) -> ClaimRep
     let next = a.next;
     let AppendedClaim::Claimed(end, claim) = answer else {
         let AppendedClaim::Refused(e) = answer else {
-            let t = after_trip(next, v, begin, rec.active_term_count, term_id);
+            let ready = log_buffer_descriptor::is_marked(rec, (count + 1) % 3);
+            let t = after_trip(next, v, ready, begin, rec.active_term_count, term_id);
             let last = t.next;
             let error = t.error;
             let rule = t.rule;

@@ -1,26 +1,14 @@
 // A log is opened: zeroed, with the record of an empty log.
 ghost use mathlib.Core.Path.{_≡_};
-ghost use lib.ListN.{length};
-ghost use Rattle.model.specs.Bytes.{zeros};
 ghost use Rattle.model.specs.LogBufferDescriptor.{rawOf};
 ghost use Rattle.model.specs.Publication.{openedRecord, noRecord, openOf, openBytes};
+use crate::clearing;
 use logbuffer::cast;
 use logbuffer::log_buffer_descriptor;
 use model::Error;
 use model::LogRecord;
 use model::Outcome;
 use model::RecordReply;
-
-// One plain loop, of which LLVM makes a call of memset.
-fn clear(log: &mut [u8])
-    ensures { λ _. ⌜ now (log .exit) ≡ zeros (length (now (log .entry))) ⌝ }
-{
-    let mut i = 0;
-    while i < log.len() {
-        log[i] = 0;
-        i += 1;
-    }
-}
 
 // The raw tail at the start of the term of an id, by its 32 bits.
 fn raw_tail(id: u32) -> i64
@@ -55,6 +43,8 @@ fn opened(
         publication_limit: 0,
         end_of_stream_position: 9223372036854775807,
         is_closed: false,
+        slowest_position: 0,
+        is_cleared: [false, true, true],
     }
 }
 
@@ -74,6 +64,8 @@ fn no_record() -> LogRecord
         publication_limit: 0,
         end_of_stream_position: 0,
         is_closed: false,
+        slowest_position: 0,
+        is_cleared: [false, false, false],
     }
 }
 
@@ -103,7 +95,7 @@ pub fn open_log(
             answer: Outcome::Refused(Error::IllegalRecord),
         };
     }
-    clear(log);
+    clearing::clear(log);
     RecordReply {
         next: rec,
         answer: Outcome::Done,

@@ -31,6 +31,8 @@ pub(crate) fn of_refusal(error: Error) -> Rule
         Error::NewPositionOutOfRange => Rule::IllegalArgument,
         Error::NewPositionNotAligned => Rule::IllegalArgument,
         Error::AssemblyFull => Rule::IllegalArgument,
+        Error::NotCleared => Rule::IllegalArgument,
+        Error::NotDue => Rule::IllegalArgument,
         Error::FrameTooShort(_) => Rule::IllegalArgument,
         Error::FramePastTerm(_) => Rule::IllegalArgument,
     }
@@ -46,7 +48,7 @@ pub(crate) fn of_message(payload: usize, m: usize) -> Rule
     Rule::Fragmented
 }
 
-// The place in the order of the checks, 1 to 16.
+// The place in the order of the checks, 1 to 17.
 pub fn place(rule: Rule) -> u32
     ensures { λ r. ⌜ r ≡ rulePlace rule ⌝ }
 {
@@ -63,10 +65,11 @@ pub fn place(rule: Rule) -> u32
         Rule::TailOverflow => 10,
         Rule::TripPastMaxPosition => 11,
         Rule::LastTerm => 12,
-        Rule::TermRotated => 13,
-        Rule::Unfragmented => 14,
-        Rule::Fragmented => 15,
-        Rule::Claimed => 16,
+        Rule::NotCleared => 13,
+        Rule::TermRotated => 14,
+        Rule::Unfragmented => 15,
+        Rule::Fragmented => 16,
+        Rule::Claimed => 17,
     }
 }
 
@@ -87,6 +90,7 @@ pub fn number(rule: Rule) -> i32
         Rule::TailOverflow => 11,
         Rule::TripPastMaxPosition => 7,
         Rule::LastTerm => 12,
+        Rule::NotCleared => 19,
         Rule::TermRotated => 6,
         Rule::Unfragmented => 0,
         Rule::Fragmented => 0,

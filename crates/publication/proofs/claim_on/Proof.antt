@@ -1,7 +1,8 @@
 -- The claiming append's answer, taken apart, leads where `after` says; `claim-by` ties that to the claim's definition.
 use native.Mathlib.Omega.{arith}
-use mathlib.Core.Path.{_≡_, refl, sym, ap, ap₂, subst, _∙_}
+use mathlib.Core.Path.{_≡_, refl, sym, ap, subst, _∙_}
 use mathlib.Core.Logic.{⊎-elim}
+use mathlib.Core.Bool.{Bool}
 use mathlib.Core.List.{[], _∷_}
 use Prim.Native.Nat.{ℕ, _+_, _*_, _%_, _≤_, _<_}
 use lib.ListN.{length}
@@ -24,11 +25,11 @@ use Rattle.model.specs.declared.ClaimReply.{ClaimReply}
 use Rattle.model.specs.declared.Claimed.the-variants.{Position, Refused as Declined}
 use Rattle.model.specs.Bytes.{word}
 use Rattle.model.specs.FrameDescriptor.{space}
-use Rattle.model.specs.LogBufferDescriptor.{readingOf, active, Sound}
+use Rattle.model.specs.LogBufferDescriptor.{readingOf, active, isReady, Sound}
 use Rattle.model.specs.Publication.{claimOf, claimBytes}
 use Rattle.model.proofs.Append.{claimingReply, claimingBytes}
 use Rattle.model.proofs.Sound.{sound-true, bounds, begin-most}
-use Rattle.publication.proofs.OfferBy.{active-by}
+use Rattle.publication.proofs.OfferBy.{active-by, ready-by}
 use Rattle.publication.proofs.ClaimLaws.{Passed, passed, after, afterBy, claim-by, claim-end, claim-turns}
 use borrow.Author.Needs.{needs}
 use Rattle.publication.proofs.claim_on.Statement.{statement}
@@ -79,7 +80,7 @@ module _ (c : tie.After-claiming) where
         c .claiming .ensures .1 ∙ ap (λ (n : ℕ). claimingBytes (a .rec) (a .log .now) k· n (a .v .id)) e,
       )
 
-  law : (after (start .args .v) (c .claiming .result) ≡ claimOf (start .args .rec) (start .args .log .now) (start .args .length))
+  law : (after (start .args .v) (isReady (start .args .rec)) (c .claiming .result) ≡ claimOf (start .args .rec) (start .args .log .now) (start .args .length))
       × (c .claiming .last .1 .0 ≡ claimBytes (start .args .rec) (start .args .log .now) (start .args .length))
   law =
       let a = start .args in
@@ -96,17 +97,24 @@ claiming-requires c κs = let s = c .before .before .before .before .before in (
   (omega arith, (subst (λ (n : ℕ). s .args .v .offset + space n ≤ 2147483647) (sym (asked c)) (pass s .room), given-is (c .before .before))),
 )
 
+-- whether the partition due next is marked
+marked-is : (c : tie.After-is-marked) → (let s = c .before .before .before .before .before .before .before .before .before .before .before .before in c .is-marked .result ≡ isReady (s .args .rec))
+marked-is c = let s = c .before .before .before .before .before .before .before .before .before .before .before .before in c .is-marked .ensures ∙ ready-by (s .args .rec) (s .args .v) (s .pre .0)
+
+add-is-marked : tie.Need-add-is-marked
+add-is-marked c = omega (arith, so (c .before .before .before .before .before .before .before .before .before .before .before) .count-high)
+
 after-trip-requires : tie.Need-after-trip-requires
 after-trip-requires c κs =
-    let d = c .before .before .before .before .before .before in
-    let s = c .before .before .before .before .before .before .before .before .before .before .before .before in
+    let d = c .before .before .before .before .before .before .before in
+    let s = c .before .before .before .before .before .before .before .before .before .before .before .before .before in
     let a = s .args in
-    let e = neither (d .claiming .result .answer) (c .before .before .match .keys2) (c .before .match2 .keys2) in
+    let e = neither (d .claiming .result .answer) (c .before .before .before .match .keys2) (c .before .before .match2 .keys2) in
     let three : length (a .rec .tails) ≡ 3 = search needs in
     let active-fits : SFits w32 (a .rec .«active_term_count») = search needs in (
       bounds _ _ (so s),
       (
-        c .before .before .before .before .before .before .before .before .before .before .begin-position .ensures,
+        c .before .before .before .before .before .before .before .before .before .before .before .begin-position .ensures,
         claim-turns (a .rec) (a .log .now) (a .v) (a .v .count % 3) (word (a .length)) (a .v .id) (d .claiming .result) (part s) (s .pre .0) refl (does d .0)
             (toZ w32 (ofZ w32 (a .rec .«active_term_count»))) (toZ w32 (ofZ w32 (d .before .before .before .own-term-id .result))) (toZ-ofZ active-fits) (given-is (d .before .before .before)) three e,
       ),
@@ -114,11 +122,12 @@ after-trip-requires c κs =
 
 returns : tie.Need-returns
 returns c =
-    let d = c .before .before .before .before .before .before .before .before in
-    let a = c .before .before .before .before .before .before .before .before .before .before .before .before .before .before .args in
-    let e = neither (d .claiming .result .answer) (c .before .before .before .before .match .keys2) (c .before .before .before .match2 .keys2) in (
+    let d = c .before .before .before .before .before .before .before .before .before in
+    let a = c .before .before .before .before .before .before .before .before .before .before .before .before .before .before .before .args in
+    let e = neither (d .claiming .result .answer) (c .before .before .before .before .before .match .keys2) (c .before .before .before .before .match2 .keys2) in (
       trip-reply _ _ _ _ _ _ (c .before .after-trip .ensures .0) (c .before .after-trip .ensures .1 .0) (c .before .after-trip .ensures .1 .1)
-          ∙ sym (ap (afterBy (a .v) (d .claiming .result .next)) e) ∙ law d .0,
+          ∙ ap (λ (b : Bool). afterBy (a .v) b (d .claiming .result .next) Tripped) (marked-is (c .before .before .before))
+          ∙ sym (ap (afterBy (a .v) (isReady (a .rec)) (d .claiming .result .next)) e) ∙ law d .0,
       law d .1,
     )
 
@@ -126,16 +135,16 @@ returns-2 : tie.Need-returns-2
 returns-2 c =
     let d = c .before .before .before .before .before .before .before .before in
     let a = c .before .before .before .before .before .before .before .before .before .before .before .before .before .before .args in
-    (trip-reply _ _ _ _ _ _ refl refl (c .of-refusal .ensures) ∙ sym (ap (afterBy (a .v) (d .claiming .result .next)) (c .before .before .answer2 .given .1)) ∙ law d .0, law d .1)
+    (trip-reply _ _ _ _ _ _ refl refl (c .of-refusal .ensures) ∙ sym (ap (afterBy (a .v) (isReady (a .rec)) (d .claiming .result .next)) (c .before .before .answer2 .given .1)) ∙ law d .0, law d .1)
 
 begin-position-requires : tie.Need-begin-position-requires
 begin-position-requires c κs = let s = c .before in (bounds _ _ (so s), so s .one-bit)
 
-add-t21 : tie.Need-add-t21
-add-t21 c = omega (arith, ends (c .before .before .before .before .before .before) _ _ (c .before .answer .given .1), c .before .before .before .before .before .before .before .before .before .before .begin-position .ensures)
+add-t22 : tie.Need-add-t22
+add-t22 c = omega (arith, ends (c .before .before .before .before .before .before) _ _ (c .before .answer .given .1), c .before .before .before .before .before .before .before .before .before .before .begin-position .ensures)
 
-cast-t25 : tie.Need-cast-t25
-cast-t25 c = record { sfits = omega (arith, ends (c .before .before .before .before .before .before) _ _ (c .before .answer .given .1), c .before .before .before .before .before .before .before .before .before .before .begin-position .ensures) }
+cast-t28 : tie.Need-cast-t28
+cast-t28 c = record { sfits = omega (arith, ends (c .before .before .before .before .before .before) _ _ (c .before .answer .given .1), c .before .before .before .before .before .before .before .before .before .before .begin-position .ensures) }
 
 returns-3 : tie.Need-returns-3
 returns-3 c =
@@ -144,7 +153,7 @@ returns-3 c =
     let begin = c .before .before .before .before .before .before .before .before .before .before .begin-position .ensures in
     let end = c .before .answer .given .0 .0 in (
       ap {B = ClaimReply} (λ (z : ℤ). record { next = d .claiming .result .next; answer = Position z (c .before .answer .given .0 .1 .0); rule = ByClaim }) (toZ-pos w64 (omega (arith, ends d _ _ (c .before .answer .given .1), begin)) ∙ ap (λ (x : ℕ). pos (x + end)) begin)
-          ∙ sym (ap (afterBy (a .v) (d .claiming .result .next)) (c .before .answer .given .1)) ∙ law d .0,
+          ∙ sym (ap (afterBy (a .v) (isReady (a .rec)) (d .claiming .result .next)) (c .before .answer .given .1)) ∙ law d .0,
       law d .1,
     )
 
@@ -158,13 +167,15 @@ claim-on-spec =
     claiming-requires
     (search needs)
     (search needs)
+    add-is-marked
+    (search needs)
     after-trip-requires
     (search needs)
     returns
     (search needs)
     (search needs)
     returns-2
-    add-t21
-    cast-t25
+    add-t22
+    cast-t28
     (search needs)
     returns-3)
