@@ -23,7 +23,7 @@ mul-end c =
     omega arith
 
 returns-3 : tie.Need-returns-3
-returns-3 c = later _ _ _ (c .before .if1 .left) (c .if2 .left) refl
+returns-3 c = let a = c .before .before .args in later (a .v) (a .k) _ (c .before .if1 .left) (c .if2 .left) refl
 
 pub not-due-spec : {M : Type 1} → statement M
 not-due-spec = tie.close (tie.spec (search needs) returns returns-2 (search needs) mul-end returns-3)
