@@ -12,6 +12,7 @@ use model::Claim;
 use model::ClaimReply;
 use model::Claimed;
 use model::LogRecord;
+use publication::clearing;
 use publication::opening;
 use publication::positions;
 
@@ -173,6 +174,77 @@ fn rules_beside() {
     print::offered(b"offer 64", publication::offer(rec, &mut log, &message, 0));
 }
 
+// Row 19, of an offer and a claim: a trip whose next partition is not marked (R-4 of document 02).
+fn not_cleared() {
+    let mut log = [0u8; 196608];
+    let message = [6u8; 64];
+    let mut unmarked = with_tail(fresh(&mut log), 30064836544);
+    unmarked.is_cleared[1] = false;
+    print::offered(
+        b"offer 64 at 65472, partition 1 not cleared",
+        publication::offer(unmarked, &mut log, &message, 0),
+    );
+    print::claimed(
+        b"claim 64 at 65472, partition 1 not cleared",
+        publication::try_claim(unmarked, &mut log, 64),
+    );
+    let cleared = clearing::clear_partition(unmarked, &mut log, 1);
+    print::changed(b"clear 1", cleared);
+    print::offered(
+        b"offer 64 at 65472, then",
+        publication::offer(cleared.next, &mut log, &message, 0),
+    );
+}
+
+// Rows 1, 2 and 20: a clearing of a partition that is not there, of one of an unsound record, of one that is not due, and of one that the slowest
+// reader may still read; and then of one that it has read.
+fn clearings() {
+    let mut log = [0u8; 196608];
+    let rec = fresh(&mut log);
+    print::changed(b"clear 3", clearing::clear_partition(rec, &mut log, 3));
+    print::changed(b"clear -1", clearing::clear_partition(rec, &mut log, -1));
+    let mut unsound = rec;
+    unsound.slowest_position = 33;
+    print::changed(
+        b"clear 1, slowest reader at 33",
+        clearing::clear_partition(unsound, &mut log, 1),
+    );
+    print::changed(
+        b"clear 2, count 0",
+        clearing::clear_partition(rec, &mut log, 2),
+    );
+    let mut second = rec;
+    second.active_term_count = 2;
+    second.slowest_position = 65504;
+    print::changed(
+        b"clear 0, count 2, slowest reader at 65504",
+        clearing::clear_partition(second, &mut log, 0),
+    );
+    second.slowest_position = 65536;
+    print::changed(
+        b"clear 0, count 2, slowest reader at 65536",
+        clearing::clear_partition(second, &mut log, 0),
+    );
+}
+
+// Rows 3 and 15: the slowest reader's position off its places, past the greatest, and lower than it was; the same again is taken.
+fn raises() {
+    let mut log = [0u8; 196608];
+    let rec = clearing::set_slowest_position(fresh(&mut log), 128).next;
+    print::changed(b"raise to 160", clearing::set_slowest_position(rec, 160));
+    print::changed(
+        b"raise to 128 again",
+        clearing::set_slowest_position(rec, 128),
+    );
+    print::changed(b"raise to 96", clearing::set_slowest_position(rec, 96));
+    print::changed(b"raise to 33", clearing::set_slowest_position(rec, 33));
+    print::changed(b"raise to -32", clearing::set_slowest_position(rec, -32));
+    print::changed(
+        b"raise to 140737488355360",
+        clearing::set_slowest_position(rec, 140737488355360),
+    );
+}
+
 // Row 13: an appender given another term id.
 fn leaves() {
     let mut log = [0u8; 196608];
@@ -225,6 +297,9 @@ fn main() {
     offers();
     last_terms();
     rules_beside();
+    not_cleared();
+    clearings();
+    raises();
     leaves();
     bad_frames();
 }

@@ -23,6 +23,7 @@ pub fn decided(by: Rule) {
         Rule::TailOverflow => text(b"tail overflow"),
         Rule::TripPastMaxPosition => text(b"tripped, past the greatest"),
         Rule::LastTerm => text(b"last term"),
+        Rule::NotCleared => text(b"next partition not cleared"),
         Rule::TermRotated => text(b"term rotated"),
         Rule::Unfragmented => text(b"unfragmented"),
         Rule::Fragmented => text(b"fragmented"),
