@@ -107,10 +107,10 @@ runs c w h ks s (x ∷ xs) i g =
 -- ---- positions at which an extent ends
 
 pub record Boundary (c : Shape) (p : ℕ) (h : List Extent) : Type 0 where
-  front : List Extent
-  back : List Extent
-  cut : h ≡ front ++ back
-  at : sizeAll c front ≡ p
+  pub front : List Extent
+  pub back : List Extent
+  pub cut : h ≡ front ++ back
+  pub at : sizeAll c front ≡ p
 
 bound-more : (c : Shape) (p : ℕ) (h g : List Extent) → Boundary c p h → Boundary c p (h ++ g)
 bound-more c p h g b =
@@ -220,7 +220,7 @@ answered-bound c p h (t ∷ ts) (inl a) e =
     told-bound c p g ts (subst (λ (n : ℕ). Boundary c n g) (same-answer p (sizeAll c g) (t .1) a (e .0)) (bound-end c g))
 answered-bound c p h (t ∷ ts) (inr a) e = answered-bound c p (tell c h (t .0) (t .1)) ts a (e .1)
 
-start-bound : (c : Shape) (p : ℕ) (ts : List (Call × Answer)) → ((p ≡ 0) ⊎ Answered p ts) → Ends c [] ts → Boundary c p (told c [] ts)
+pub start-bound : (c : Shape) (p : ℕ) (ts : List (Call × Answer)) → ((p ≡ 0) ⊎ Answered p ts) → Ends c [] ts → Boundary c p (told c [] ts)
 unfolding sizeAll
 start-bound c p ts (inl z) e = told-bound c p [] ts (record { front = []; back = []; cut = refl; at = sym z })
 start-bound c p ts (inr a) e = answered-bound c p [] ts a e
@@ -255,7 +255,7 @@ pads-tail (message re m) h p = p
 pads-tail (claimed· k b) h p = p
 pads-tail (padding n) h p = p .2
 
-pads-back : (h g : List Extent) → Pads (h ++ g) → Pads g
+pub pads-back : (h g : List Extent) → Pads (h ++ g) → Pads g
 pads-back [] g p = p
 pads-back (e ∷ h) g p = pads-back h g (pads-tail e (h ++ g) p)
 
@@ -294,13 +294,13 @@ module _ (r : LogRecord) (log : List ℕ) (h : List Extent) (ks : List Claim) (s
   abbrev z : ℕ
   z = 2147483648 * reading r .term - sizes (flat (shapeOf (reading r)) h)
 
-  pay : 32 ≤ c .payload
+  pub pay : 32 ≤ c .payload
   pay = omega (arith, g .fixed .mtu-low)
 
-  pos-T : zero < T
+  pub pos-T : zero < T
   pos-T = omega (arith, g .fixed .term-low)
 
-  pads : Pads (b .front ++ b .back)
+  pub pads : Pads (b .front ++ b .back)
   pads = subst Pads (b .cut) (g .pads)
 
   flat-is : flat c h ≡ flat c (b .front) ++ flat c (b .back)
@@ -312,20 +312,20 @@ module _ (r : LogRecord) (log : List ℕ) (h : List Extent) (ks : List Claim) (s
   whole-size : p + sizes (flat c (b .back)) ≡ sizes (flat c h)
   whole-size = sym (ap sizes flat-is ∙ sizes-append (flat c (b .front)) (flat c (b .back)) ∙ ap (λ (n : ℕ). n + sizes (flat c (b .back))) front-size)
 
-  lies : drop p all ≡ bytes c p (flat c (b .back)) ++ zeros z
+  pub lies : drop p all ≡ bytes c p (flat c (b .back)) ++ zeros z
   lies =
       ap (drop p) (g .bytes-are ∙ ap (λ (l : List Cell). bytes c 0 l ++ zeros z) flat-is ∙ ap (λ (l : List ℕ). l ++ zeros z) (bytes-append c 0 (flat c (b .front)) (flat c (b .back)))
       ∙ append-assoc (bytes c 0 (flat c (b .front))) (bytes c (0 + sizes (flat c (b .front))) (flat c (b .back))) (zeros z))
       ∙ drop-at (bytes c 0 (flat c (b .front))) (bytes c (0 + sizes (flat c (b .front))) (flat c (b .back)) ++ zeros z) p (length-bytes c 0 (flat c (b .front)) ∙ front-size)
       ∙ ap (λ (n : ℕ). bytes c n (flat c (b .back)) ++ zeros z) (zero-add (sizes (flat c (b .front))) ∙ front-size)
 
-  fit : Fits T (T - p % T) (flat c (b .back))
+  pub fit : Fits T (T - p % T) (flat c (b .back))
   fit =
       let full : T ≡ T - 0 % T = omega (arith, mod-eq-of-lt pos-T) in
       subst (λ (n : ℕ). Fits T (T - n % T) (flat c (b .back))) (zero-add (sizes (flat c (b .front))) ∙ front-size)
       (fits-back T 0 (flat c (b .front)) (flat c (b .back)) pos-T (subst (Fits T (T - 0 % T)) flat-is (subst (λ (n : ℕ). Fits T n (flat c h)) full (g .fits))))
 
-  roof : p + sizes (flat c (b .back)) ≤ (s .cleared + 3) * T
+  pub roof : p + sizes (flat c (b .back)) ≤ (s .cleared + 3) * T
   roof =
       let n : v .count + 1 ≤ s .cleared + 3 = omega (arith, i .marks .turns, i .marks .high) in
       omega (arith, whole-size, g .size, mul-le-mul-right T n)

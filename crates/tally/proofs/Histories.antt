@@ -3,40 +3,40 @@
 use mathlib.Core.Path.{_≡_, refl, sym, ap, ap₂, _∙_, subst}
 use mathlib.Core.Bool.{true}
 use mathlib.Core.List.{List, [], _∷_, _++_, append-assoc}
-use mathlib.Core.Logic.{inl, inr}
 use Prim.Native.Nat.{ℕ, zero, suc, _+_, _-_, _*_, _/_, _%_, _≤_, _<_}
 use native.Mathlib.Omega.{arith}
-use native.Mathlib.Nat.{mod-eq-of-lt, mul-le-mul-right}
+use native.Mathlib.Nat.{mod-lt, div-add-mod', div-lt-iff-lt-mul, le-div-iff-mul-le}
 use borrow.Author.Tests.{eq-eqb}
 use lib.ListN.{length, take, drop, length-drop}
 use lib.Seq.{length-take-le, take-at}
 use Rattle.model.specs.declared.Claim.{Claim}
 use Rattle.model.specs.declared.LogRecord.{LogRecord}
 use Rattle.model.specs.declared.Frame.{Frame}
-use Rattle.model.specs.declared.Reading.{Reading}
 use Rattle.model.specs.Bytes.{long, zeros, le2, le4, le8, u32}
 use Rattle.model.specs.DataFrameHeader.{headerAt, header24}
-use Rattle.model.specs.LogBufferDescriptor.{reading, readingOf}
+use Rattle.model.specs.LogBufferDescriptor.{partitionOf, reading, readingOf}
 use Rattle.model.specs.FrameDescriptor.{frameAt, flagsAt}
 use Rattle.model.specs.TermAppender.{Fragment, fragment, cutFrom, cut}
-use Rattle.model.specs.History.{Call, Answer, answers, left, told, Shape, shapeOf, open·, committed, aborted, Extent, message, claimed·, padding, sizeAll, messages}
+use Rattle.model.specs.History.{World, answers, left, Shape, shapeOf, open·, committed, aborted, Extent, message, claimed·, padding, sizeAll, messages, Terms, noTerms, toldTerms}
 use Rattle.model.specs.History.{total as totalOf}
-use Rattle.model.specs.Demand.{opened, shape, history, Ends}
+use Rattle.model.specs.Demand.{opened, shape, history}
 use Rattle.model.proofs.Choice.{split}
-use Rattle.model.proofs.Cells.{Cell, cell, flagsOf, head, solidAt, solid, flen, fsize, enc, bytes, sizes, flen-ge, fsize-ge}
+use Rattle.model.proofs.Cells.{Cell, cell, flagsOf, head, solidAt, solid, flen, fsize, enc, bytes, sizes, flen-ge, fsize-ge, length-enc}
 use Rattle.model.proofs.Cells.{bodyOf as bodyIn}
 use Rattle.model.proofs.Walking.{seen as shown, see-enc, Fits, drop-next}
 use Rattle.model.proofs.Fields.{u32-le4}
 use Rattle.model.proofs.Cut.{cut-last, cut-more}
 use Rattle.model.proofs.OneSession.{cells, frames, flat}
-use Rattle.model.proofs.Replaying.{place-is, room-next}
-use Rattle.model.proofs.Around.{Pads, size-all, flat-append}
-use Rattle.model.proofs.Keeping.{Holds}
-use Rattle.model.proofs.Demand.{kept}
+use Rattle.model.proofs.Rooms.{room-next}
+use Rattle.model.proofs.Around.{Pads, pads-front, size-all, flat-append}
+use Rattle.model.proofs.Window.{Window, lies-same}
+use Rattle.model.proofs.Window.{shown as shown-term}
+use Rattle.model.proofs.Kept.{Inv, inside}
+use Rattle.model.proofs.Season.{Boundary, start-bound, pads-back, pay, pos-T, pads, lies, fit, roof, kept}
 use Rattle.tally.specs.Walk.{Stream, streamOf, placeAt, bytesAt, frameIn, seen, ownId, size, met, Passed, walked, between, endOf}
 use Rattle.tally.specs.Tally.{bodyOf, sum, sumsOf}
-use Rattle.tally.specs.Histories.{IsStart, closed, Tallied, HistoryTallied}
-use Rattle.tally.proofs.Boundaries.{Bound, bound-zero, answered-bound, parted}
+use Rattle.tally.specs.Histories.{closed, Tallied, HistoryTallied}
+use Rattle.tally.proofs.Boundaries.{parted}
 use Rattle.tally.proofs.Steps.{met-frame, met-none, stops, goes, at-end}
 
 -- ---- frames in a stream
@@ -198,23 +198,6 @@ laid-back s p (f ∷ fs) gs l =
     let e : p + fsize f + sizes fs ≡ p + (fsize f + sizes fs) = omega arith in
     subst (λ (q : ℕ). Laid s q gs) e (laid-back s (p + fsize f) fs gs (l .3))
 
-pub pads-front : (a b : List Extent) → Pads (a ++ b) → Pads a
-unfolding Pads
-pads-front [] b p = tt
-pads-front (message re m ∷ a) b p = pads-front a b p
-pads-front (claimed· k x ∷ a) b p = pads-front a b p
-pads-front (padding n ∷ a) b p = (p .0, p .1, pads-front a b (p .2))
-
-pub pads-back : (a b : List Extent) → Pads (a ++ b) → Pads b
-unfolding Pads
-pads-back [] b p = p
-pads-back (message re m ∷ a) b p = pads-back a b p
-pads-back (claimed· k x ∷ a) b p = pads-back a b p
-pads-back (padding n ∷ a) b p = pads-back a b (p .2)
-
-zero-mod : (n : ℕ) → 0 < n → n - 0 % n ≡ n
-zero-mod n h = let e : 0 % n ≡ 0 = mod-eq-of-lt h in omega arith
-
 -- ---- the log that a history's calls left
 
 -- what a frame shows, whatever lies behind it
@@ -233,73 +216,75 @@ module _ (c : Shape) (p : ℕ) (f : Cell) (rest : List ℕ) where
 abbrev pub Ids : Stream → Shape → Type 0
 Ids s c = (p : ℕ) (f : Cell) (rest : List ℕ) → headerAt (enc c p f ++ rest) .id ≡ (s .initial + p / s .term) % 4294967296
 
-module _ (s : Stream) (c : Shape) (z : ℕ) (some : 0 < s .term) (ids : Ids s c) where
-  pub laid : (p : ℕ) (fs : List Cell) → drop p (s .log) ≡ bytes c p fs ++ zeros z → p + sizes fs ≤ 3 * s .term → Fits (s .term) (s .term - p % s .term) fs → Laid s p fs
+-- `all` is the stream's log, of which the partitions show three terms from `low` on.
+module _ (s : Stream) (c : Shape) (z low : ℕ) (all : List ℕ) (some : 0 < s .term) (three : length (s .log) ≡ 3 * s .term) (window : Window (s .term) (s .log) all low) (ids : Ids s c) where
+  abbrev T : ℕ
+  T = s .term
+
+  -- a frame of the stream's log lies in the partition of its position
+  lies-here : (p : ℕ) (f : Cell) (rest : List ℕ) → drop p all ≡ enc c p f ++ rest → fsize f ≤ T - p % T → low ≤ p / T → p < (low + 3) * T
+      → bytesAt s p ≡ enc c p f ++ drop (placeAt T p + length (enc c p f)) (s .log)
+  lies-here p f rest e k a b =
+      let last : p / T < low + 3 = div-lt-iff-lt-mul some .1 b in
+      let room : p % T < T = mod-lt p some in
+      let three-of : partitionOf p T < 3 = mod-lt (p / T) (omega arith) in
+      lies-same T (s .log) all (partitionOf p T) (p / T) (shown-term T (s .log) all low (p / T) window a (omega arith)) (p % T) (enc c p f) rest
+      (omega (arith, length-enc c p f)) (inside T (partitionOf p T) (length (s .log)) three three-of) (ap (λ (n : ℕ). drop n all) (div-add-mod' p T) ∙ e)
+
+  pub laid : (p : ℕ) (fs : List Cell) → drop p all ≡ bytes c p fs ++ zeros z → low ≤ p / T → p + sizes fs ≤ (low + 3) * T → Fits T (T - p % T) fs → Laid s p fs
   unfolding Laid Fits bytes sizes frameIn ownId
-  laid p [] e h k = tt
-  laid p (f ∷ fs) e h k =
-      let T = s .term in
-      let at : placeAt T p ≡ p = place-is T p some (omega (arith, flen-ge f, fsize-ge f)) in
-      let rest = bytes c (p + fsize f) fs ++ zeros z in
-      let here : bytesAt s p ≡ enc c p f ++ rest = ap (λ (i : ℕ). drop i (s .log)) at ∙ e ∙ append-assoc (enc c p f) (bytes c (p + fsize f) fs) (zeros z) in (
+  laid p [] e a b k = tt
+  laid p (f ∷ fs) e a b k =
+      let rest = drop (placeAt T p + length (enc c p f)) (s .log) in
+      let whole : drop p all ≡ enc c p f ++ (bytes c (p + fsize f) fs ++ zeros z) = e ∙ append-assoc (enc c p f) (bytes c (p + fsize f) fs) (zeros z) in
+      let here : bytesAt s p ≡ enc c p f ++ rest = lies-here p f _ whole (k .1) a (omega (arith, flen-ge f, fsize-ge f)) in
+      let next : low * T ≤ p + fsize f = omega (arith, le-div-iff-mul-le {k = T} {x = low} {y = p} some .0 a) in (
         ap (λ (l : List ℕ). frameAt l (T - p % T)) here ∙ see-enc c p f rest (T - p % T) (k .0) (k .1),
         eq-eqb _ _ (ap (λ (l : List ℕ). headerAt l .id) here ∙ ids p f rest),
         (ap flagsAt here ∙ flags-of c p f rest, ap (λ (l : List ℕ). take (length (bodyIn f)) (drop 32 l)) here ∙ body-of c p f rest),
-        laid (p + fsize f) fs (drop-next c p f fs (zeros z) (s .log) e) (omega arith)
+        laid (p + fsize f) fs (drop-next c p f fs (zeros z) all e) (le-div-iff-mul-le {k = T} {x = low} {y = p + fsize f} some .1 next) (omega arith)
             (subst (λ (r : ℕ). Fits T r fs) (room-next T p (fsize f) some (k .1)) (k .2)),
       )
 
--- With the invariant of demand 3, any part of the history lies from where it begins on.
-pub part-laid : (s : Stream) (v : Reading) (h : List Extent) (ks : List Claim) → Holds (shapeOf v) v (s .log) h ks → s .term ≡ v .term → Ids s (shapeOf v)
-    → (a b d : List Extent) → h ≡ a ++ (b ++ d)
-    → let c = shapeOf v in (0 < c .payload) × (c .payload % 32 ≡ 0) × Pads b × Laid s (sizeAll c a) (flat c b)
-part-laid s v h ks i t ids a b d e =
-    let c = shapeOf v in
-    let k : 0 < c .payload = omega (arith, i .fixed .mtu-low) in
-    let even : c .payload % 32 ≡ 0 = omega (arith, i .fixed .mtu-low, i .fixed .mtu-32) in
-    let pads : Pads (a ++ (b ++ d)) = subst Pads e (i .pads) in
-    let T : 0 < s .term = omega (arith, i .fixed .term-low, t) in
-    let whole : Laid s 0 (flat c h) = laid s c (3 * c .term - sizes (flat c h)) T ids 0 (flat c h) (i .bytes-are) (omega (arith, below h i t)) (fits i t) in
-    let parts : flat c h ≡ flat c a ++ (flat c b ++ flat c d) = ap (flat c) e ∙ flat-append c a (b ++ d) ∙ ap (λ (l : List Cell). flat c a ++ l) (flat-append c b d) in
-    let tail = laid-back s 0 (flat c a) (flat c b ++ flat c d) (subst (Laid s 0) parts whole) in
-    let at : 0 + sizes (flat c a) ≡ sizeAll c a = omega (arith, size-all c k even a (pads-front a (b ++ d) pads)) in
-    let here : Laid s (sizeAll c a) (flat c b) = subst (λ (n : ℕ). Laid s n (flat c b)) at (laid-front s (0 + sizes (flat c a)) (flat c b) (flat c d) tail) in
-    (k, even, pads-front b d (pads-back a (b ++ d) pads), here)
-  where
-    below : (h : List Extent) → Holds (shapeOf v) v (s .log) h ks → s .term ≡ v .term → sizes (flat (shapeOf v) h) ≤ 3 * s .term
-    below h i t = let g = mul-le-mul-right (v .term) (i .low) in omega (arith, i .size, g, t)
-
-    fits : Holds (shapeOf v) v (s .log) h ks → s .term ≡ v .term → Fits (s .term) (s .term - 0 % s .term) (flat (shapeOf v) h)
-    fits i t = rw (t, zero-mod (v .term) (omega (arith, i .fixed .term-low))) (i .fits)
-
--- With the invariant of demand 3, between the ends of any two extents.
-pub tallied-history : (s : Stream) (v : Reading) (h : List Extent) (ks : List Claim) → Holds (shapeOf v) v (s .log) h ks → s .term ≡ v .term → Ids s (shapeOf v)
-    → (a b d : List Extent) → h ≡ a ++ (b ++ d)
-    → let c = shapeOf v in let from = sizeAll c a in let fs = between s from (from + sizeAll c b) in
-    (sumsOf fs .body ≡ totalOf (messages b)) × (endOf from fs ≡ from + sizeAll c (closed b))
-tallied-history s v h ks i t ids a b d e =
-    let c = shapeOf v in let q = part-laid s v h ks i t ids a b d e in told-by-history c s (sizeAll c a) b (q .0) (q .1) (q .2) (q .3)
-
 -- a sound log's frames have the ids of its record
-pub own-ids : (r : LogRecord) (log : List ℕ) → Ids (streamOf r log) (shapeOf (reading r))
+own-ids : (r : LogRecord) (log : List ℕ) → Ids (streamOf r log) (shapeOf (reading r))
 unfolding streamOf readingOf enc solid solidAt head header24 le4 le2 u32
 own-ids r log p f rest = u32-le4 _ [] (omega arith) ∙ omega arith
+
+-- With the invariant of a season, any part of the history that begins in a term not cleared lies from there on.
+pub part-laid : (r : LogRecord) (log : List ℕ) (h : List Extent) (ks : List Claim) (t : Terms) → let c = shapeOf (reading r) in Inv c (record { record· = r; log = log }) h ks t
+    → (a b d : List Extent) → h ≡ a ++ (b ++ d) → t .cleared ≤ sizeAll c a / c .term
+    → (0 < c .payload) × (c .payload % 32 ≡ 0) × Pads b × Laid (streamOf r log) (sizeAll c a) (flat c b)
+unfolding streamOf
+part-laid r log h ks t i a b d e k =
+    let c = shapeOf (reading r) in
+    let s = streamOf r log in
+    let p = sizeAll c a in
+    let o : Boundary c p h = record { front = a; back = b ++ d; cut = e; at = refl } in
+    let rest : Laid s p (flat c (b ++ d)) =
+    laid s c (2147483648 * c .term - sizes (flat c h)) (t .cleared) (i .all) (pos-T r log h ks t i p o k) (i .long) (i .window) (own-ids r log) p (flat c (b ++ d))
+    (lies r log h ks t i p o k) k (roof r log h ks t i p o k) (fit r log h ks t i p o k) in (
+      omega (arith, pay r log h ks t i p o k),
+      omega (arith, i .holds .fixed .mtu-low, i .holds .fixed .mtu-32),
+      pads-front b d (pads-back a (b ++ d) (pads r log h ks t i p o k)),
+      laid-front s p (flat c b) (flat c d) (subst (Laid s p) (flat-append c b d) rest),
+    )
 
 -- ---- the theorem
 
 -- of any world that the invariant holds of, between two boundaries
-by-bounds : (c : Shape) (r : LogRecord) (log : List ℕ) (h : List Extent) (ks : List Claim) → Holds c (reading r) log h ks → (from to : ℕ) → Bound c from h → Bound c to h → from ≤ to
-    → Tallied c (streamOf r log) h from to
-unfolding streamOf
-by-bounds c r log h ks i from to a b o =
-    subst (λ (x : Shape). Holds x (reading r) log h ks → Bound x from h → Bound x to h → Tallied x (streamOf r log) h from to) (i .is) own i a b
+by-bounds : (c : Shape) (w : World) (h : List Extent) (ks : List Claim) (t : Terms) → Inv c w h ks t → (from to : ℕ) → Boundary c from h → Boundary c to h → from ≤ to → t .cleared ≤ from / c .term
+    → Tallied c (streamOf (w .record·) (w .log)) h from to
+by-bounds c w h ks t i from to a b o k =
+    subst (λ (x : Shape). Inv x w h ks t → Boundary x from h → Boundary x to h → t .cleared ≤ from / x .term → Tallied x (streamOf (w .record·) (w .log)) h from to) (i .holds .is) own i a b k
   where
-    own : let x = shapeOf (reading r) in Holds x (reading r) log h ks → Bound x from h → Bound x to h → Tallied x (streamOf r log) h from to
-    own i a b =
-        let x = shapeOf (reading r) in
+    own : let x = shapeOf (reading (w .record·)) in Inv x w h ks t → Boundary x from h → Boundary x to h → t .cleared ≤ from / x .term → Tallied x (streamOf (w .record·) (w .log)) h from to
+    own i a b k =
+        let x = shapeOf (reading (w .record·)) in
+        let s = streamOf (w .record·) (w .log) in
         let p = parted x from to h a b o in
-        let k = tallied-history (streamOf r log) (reading r) h ks i refl (own-ids r log) (p .before) (p .between·) (p .behind) (p .whole) in
-        let s = streamOf r log in
+        let l = part-laid (w .record·) (w .log) h ks t i (p .before) (p .between·) (p .behind) (p .whole) (subst (λ (n : ℕ). t .cleared ≤ n / x .term) (sym (p .first)) k) in
+        let g = told-by-history x s (sizeAll x (p .before)) (p .between·) (l .0) (l .1) (l .2) (l .3) in
         let q : sizeAll x (p .before) + sizeAll x (p .between·) ≡ to = p .second in
         record {
           before = p .before;
@@ -308,17 +293,13 @@ by-bounds c r log h ks i from to a b o =
           whole = p .whole;
           first = p .first;
           second = q;
-          body = sym (ap₂ (λ (m n : ℕ). sumsOf (between s m n) .body) (p .first) q) ∙ k .0;
-          end = sym (ap₂ (λ (m n : ℕ). endOf m (between s m n)) (p .first) q) ∙ k .1 ∙ ap (λ (m : ℕ). m + sizeAll x (closed (p .between·))) (p .first);
+          body = sym (ap₂ (λ (m n : ℕ). sumsOf (between s m n) .body) (p .first) q) ∙ g .0;
+          end = sym (ap₂ (λ (m n : ℕ). endOf m (between s m n)) (p .first) q) ∙ g .1 ∙ ap (λ (m : ℕ). m + sizeAll x (closed (p .between·))) (p .first);
         }
 
-is-bound : (c : Shape) (p : ℕ) (ts : List (Call × Answer)) → Ends c [] ts → IsStart p ts → Bound c p (told c [] ts)
-is-bound c p ts e (inl z) = subst (λ (n : ℕ). Bound c n (told c [] ts)) (sym z) (bound-zero c (told c [] ts))
-is-bound c p ts e (inr a) = answered-bound c p [] ts e a
-
 pub history-tallied : HistoryTallied
-history-tallied log term mtu initial session stream fresh calls given short from to a b o =
+history-tallied log term mtu initial session stream fresh calls given from to a b o =
     let w = opened log term mtu initial session stream in
-    let k = kept log term mtu initial session stream fresh calls given short in
-    by-bounds (shape w) (left w calls .record·) (left w calls .log) (history w calls) (k .0 .0) (k .0 .1 .holds) from to
-    (is-bound (shape w) from (answers w calls) (k .1) a) (is-bound (shape w) to (answers w calls) (k .1) b) o
+    let k = kept log term mtu initial session stream fresh calls given in
+    by-bounds (shape w) (left w calls) (history w calls) (k .0 .0) (toldTerms noTerms (answers w calls)) (k .0 .1) from to
+    (start-bound (shape w) from (answers w calls) (a .told) (k .1)) (start-bound (shape w) to (answers w calls) (b .told) (k .1)) o (a .kept)

@@ -1,43 +1,19 @@
--- What a tally tells of a log that calls made (R-1 of document 02, with demand 3 of document 01): from 0 or an answered position up to another, its body bytes are those
--- of the history's messages between the two, before the first claim that is still open, and its walk ends at that claim, or at the second position.
+-- What a tally tells of a log that calls made, clearings among them (R-1 of document 02, with R-4's season): from 0 or an answered position up to another, neither of a
+-- term that is cleared, its body bytes are those of the history's messages between the two, before the first claim that is still open, and its walk ends at that claim,
+-- or at the second position.
 -- `history-tallied` (proofs/Histories.antt) proves `HistoryTallied`.
 use mathlib.Core.Path.{_≡_}
-use mathlib.Core.Bool.{true}
 use mathlib.Core.List.{List, [], _∷_, _++_}
-use mathlib.Core.Logic.{_⊎_}
-use Prim.Native.Nat.{ℕ, _+_, _*_, _≤_}
-use lib.IntN.{ℤ, pos}
-use lib.Signed.{ltZ}
-use Rattle.model.specs.declared.Claimed.{Claimed}
-use Rattle.model.specs.declared.Claimed.the-variants.{Position as ClaimPosition, Refused as ClaimRefused}
-use Rattle.model.specs.declared.Offered.{Offered}
-use Rattle.model.specs.declared.Offered.the-variants.{Position as OfferPosition, Refused as OfferRefused}
+use Prim.Native.Nat.{ℕ, _+_, _≤_}
+use lib.IntN.{ℤ}
 use Rattle.model.specs.declared.Outcome.the-variants.{Done}
-use Rattle.model.specs.LogBufferDescriptor.{reading, publisherPosition}
 use Rattle.model.specs.Publication.{openOf}
-use Rattle.model.specs.History.{Call, Answer, offered, claimed, outcome, World, answers, left, Shape, open·, committed, aborted, Extent, message, claimed·, padding, sizeAll, messages, total, AllGiven}
-use Rattle.model.specs.Demand.{opened, shape, history}
+use Rattle.model.specs.History.{Call, left, Shape, open·, committed, aborted, Extent, message, claimed·, padding, sizeAll, messages, total, noTerms, AllGiven}
+use Rattle.model.specs.Demand.{opened, shape, history, Start}
 use Rattle.tally.specs.Walk.{Stream, streamOf, between, endOf}
 use Rattle.tally.specs.Tally.{sumsOf}
 
--- ---- the positions
-
--- p is the position that an answer tells
-abbrev pub Tells : ℕ → Answer → Type 0
-Tells p (offered (OfferPosition q)) = q ≡ pos p
-Tells p (offered (OfferRefused e)) = ⊥
-Tells p (claimed (ClaimPosition q k)) = q ≡ pos p
-Tells p (claimed (ClaimRefused e)) = ⊥
-Tells p (outcome a) = ⊥
-
-unfoldable pub Answered : ℕ → List (Call × Answer) → Type 0
-Answered p [] = ⊥
-Answered p (t ∷ ts) = Tells p (t .1) ⊎ Answered p ts
-
-abbrev pub IsStart : ℕ → List (Call × Answer) → Type 0
-IsStart p ts = (p ≡ 0) ⊎ Answered p ts
-
--- ---- the history between them
+-- ---- the history between two positions
 
 -- the extents before the first claim that is still open
 unfoldable pub closed : List Extent → List Extent
@@ -59,13 +35,14 @@ pub record Tallied (c : Shape) (s : Stream) (h : List Extent) (from to : ℕ) : 
   pub body : sumsOf (between s from to) .body ≡ total (messages middle)
   pub end : endOf from (between s from to) ≡ from + sizeAll c (closed middle)
 
--- ---- with demand 3's premises
+-- ---- with the season's premises
 
+-- The stream may have outgrown its three terms. While no term is cleared, `Start` (model's Demand) asks only that a position is 0 or answered.
 abbrev pub HistoryTallied : Type 0
 HistoryTallied =
     (log : List ℕ) (term mtu initial session stream : ℤ) → openOf log term mtu initial session stream .answer ≡ Done
-    → (calls : List Call) → AllGiven [] (opened log term mtu initial session stream) calls
+    → (calls : List Call)
     → let w = opened log term mtu initial session stream in let end = left w calls in
-    ltZ (publisherPosition (reading (end .record·))) (pos (3 * shape w .term)) ≡ true
-    → (from to : ℕ) → IsStart from (answers w calls) → IsStart to (answers w calls) → from ≤ to
+    AllGiven (shape w) [] noTerms w calls
+    → (from to : ℕ) → Start w calls from → Start w calls to → from ≤ to
     → Tallied (shape w) (streamOf (end .record·) (end .log)) (history w calls) from to

@@ -3,7 +3,7 @@ ghost use mathlib.Core.Path.{_≡_};
 ghost use Prim.Native.Nat.{_≤_};
 ghost use lib.Signed.{leZ};
 ghost use Rattle.model.specs.declared.Verdict.the-variants.{Pass};
-ghost use Rattle.model.specs.Image.{goodPosition};
+ghost use Rattle.model.specs.LogBufferDescriptor.{goodPosition};
 ghost use Rattle.tally.specs.Span.{goodSpan, spanRows};
 use logbuffer::cast;
 use logbuffer::frame_descriptor::FRAME_ALIGNMENT;
