@@ -2,16 +2,15 @@
 use mathlib.Core.Path.{_≡_, refl, sym, ap, ap₂, _∙_, subst}
 use mathlib.Core.Bool.{Bool, true, false}
 use mathlib.Core.List.{List, [], _∷_, _++_, append-assoc}
-use Prim.Native.Nat.{ℕ, zero, suc, _+_, _-_, _%_, _<_}
+use Prim.Native.Nat.{ℕ, zero, suc, _+_, _-_, _/_, _%_, _≤_, _<_}
 use native.Mathlib.Omega.{arith}
 use lib.ListN.{length, take, drop, length-drop, take-append-drop}
 use Rattle.model.specs.declared.Claim.{Claim}
-use Rattle.model.specs.declared.LogRecord.{LogRecord}
 use Rattle.model.specs.Bytes.{long, zeros}
 use Rattle.model.specs.FrameDescriptor.{space, begins, ends}
 use Rattle.model.specs.LogBufferDescriptor.{reading}
-use Rattle.model.specs.TermAppender.{Fragment, fragment, cutFrom, cut}
-use Rattle.model.specs.History.{left, Shape, shapeOf, open·, committed, aborted, Extent, message, claimed·, padding, sizeOf, sizeAll}
+use Rattle.model.specs.TermAppender.{Fragment, cutFrom, cut}
+use Rattle.model.specs.History.{World, answers, left, Shape, shapeOf, open·, committed, aborted, Extent, message, claimed·, padding, sizeOf, sizeAll, Terms, noTerms, toldTerms}
 use Rattle.model.specs.History.{messages as messagesOf}
 use Rattle.model.specs.Demand.{opened, shape, history}
 use Rattle.model.proofs.Choice.{split}
@@ -21,11 +20,11 @@ use Rattle.model.proofs.Walking.{seen as shown}
 use Rattle.model.proofs.Cut.{cut-last, cut-more}
 use Rattle.model.proofs.OneSession.{cells, frames, flat}
 use Rattle.model.proofs.Around.{Pads, message-size}
-use Rattle.model.proofs.Keeping.{Holds}
-use Rattle.model.proofs.Demand.{kept}
+use Rattle.model.proofs.Kept.{Inv}
+use Rattle.model.proofs.Season.{kept}
 use Rattle.tally.specs.Walk.{Stream, streamOf, bytesAt, Passed, between}
 use Rattle.tally.specs.Histories.{Tallied}
-use Rattle.tally.proofs.Histories.{Shows, Laid, done, passed, cells-done, walks-history, laid-front, laid-back, part-laid, own-ids, history-tallied}
+use Rattle.tally.proofs.Histories.{Shows, Laid, done, passed, cells-done, walks-history, laid-front, laid-back, part-laid, history-tallied}
 use Rattle.holding.specs.Messages.{Message, Run, idle, running, joined, told, messages}
 use Rattle.holding.specs.Holding.{cards}
 use Rattle.holding.specs.Theorems.{Piece}
@@ -145,30 +144,29 @@ module _ (s : Stream) (c : Shape) (k : 0 < c .payload) (even : c .payload % 32 �
 -- ---- the theorem
 
 -- for every such cut of a history
-abbrev Same : Shape → LogRecord → List ℕ → List Extent → ℕ → ℕ → Type 0
-Same c r log h from to =
-    let s = streamOf r log in (t : Tallied c s h from to) → messages s idle (between s from to) ≡ placed c from (t .middle)
+abbrev Same : Shape → World → List Extent → ℕ → ℕ → Type 0
+Same c w h from to =
+    let s = streamOf (w .record·) (w .log) in (t : Tallied c s h from to) → messages s idle (between s from to) ≡ placed c from (t .middle)
 
 -- of any world that the invariant holds of
-by-parts : (c : Shape) (r : LogRecord) (log : List ℕ) (h : List Extent) (ks : List Claim) → Holds c (reading r) log h ks → (from to : ℕ) → Same c r log h from to
-unfolding streamOf
-by-parts c r log h ks i from to = subst (λ (x : Shape). Holds x (reading r) log h ks → Same x r log h from to) (i .is) own i
+by-parts : (c : Shape) (w : World) (h : List Extent) (ks : List Claim) (n : Terms) → Inv c w h ks n → (from to : ℕ) → n .cleared ≤ from / c .term → Same c w h from to
+by-parts c w h ks n i from to k = subst (λ (x : Shape). Inv x w h ks n → n .cleared ≤ from / x .term → Same x w h from to) (i .holds .is) own i k
   where
-    own : Holds (shapeOf (reading r)) (reading r) log h ks → Same (shapeOf (reading r)) r log h from to
-    own i t =
-        let x = shapeOf (reading r) in
-        let s = streamOf r log in
+    own : let x = shapeOf (reading (w .record·)) in Inv x w h ks n → n .cleared ≤ from / x .term → Same x w h from to
+    own i k t =
+        let x = shapeOf (reading (w .record·)) in
+        let s = streamOf (w .record·) (w .log) in
         let p = sizeAll x (t .before) in
-        let q = part-laid s (reading r) h ks i refl (own-ids r log) (t .before) (t .middle) (t .behind) (t .whole) in
+        let q = part-laid (w .record·) (w .log) h ks n i (t .before) (t .middle) (t .behind) (t .whole) (subst (λ (m : ℕ). n .cleared ≤ m / x .term) (sym (t .first)) k) in
         sym (ap₂ (λ (m n : ℕ). messages s idle (between s m n)) (t .first) (t .second))
         ∙ ap (messages s idle) (walks-history x s p (t .middle) (q .0) (q .1) (q .2) (q .3))
         ∙ cut-history s x (q .0) (q .1) p (t .middle) (q .2) (q .3)
         ∙ ap (λ (m : ℕ). placed x m (t .middle)) (t .first)
 
 pub history-messages : HistoryMessages
-history-messages log term mtu initial session stream fresh calls given short from to a b o =
+history-messages log term mtu initial session stream fresh calls given from to a b o =
     let w = opened log term mtu initial session stream in
-    let k = kept log term mtu initial session stream fresh calls given short in
-    let t = history-tallied log term mtu initial session stream fresh calls given short from to a b o in
-    let e = by-parts (shape w) (left w calls .record·) (left w calls .log) (history w calls) (k .0 .0) (k .0 .1 .holds) from to t in
+    let k = kept log term mtu initial session stream fresh calls given in
+    let t = history-tallied log term mtu initial session stream fresh calls given from to a b o in
+    let e = by-parts (shape w) (left w calls) (history w calls) (k .0 .0) (toldTerms noTerms (answers w calls)) (k .0 .1) from to (a .kept) t in
     record { parts = t; same = e; same-cards = λ find. ap (cards find) e }

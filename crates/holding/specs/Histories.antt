@@ -1,20 +1,17 @@
--- The messages of a log that calls made (R-9 of document 02, with demand 3 of document 01): from 0 or an answered position up to another they are the history's
--- between the two, before the first claim that is still open, each with the position where its extent ends.
+-- The messages of a log that calls made, clearings among them (R-9 of document 02, with R-4's season): from 0 or an answered position up to another, neither of a term
+-- that is cleared, they are the history's between the two, before the first claim that is still open, each with the position where its extent ends.
 -- `history-messages` (proofs/Histories.antt) proves `HistoryMessages`, and `placed-bodies` proves `PlacedBodies`.
 use mathlib.Core.Path.{_≡_}
-use mathlib.Core.Bool.{true}
 use mathlib.Core.List.{List, [], _∷_}
-use Prim.Native.Nat.{ℕ, _+_, _*_, _≤_}
-use lib.IntN.{ℤ, pos}
-use lib.Signed.{ltZ}
+use Prim.Native.Nat.{ℕ, _+_, _≤_}
+use lib.IntN.{ℤ}
 use Rattle.model.specs.declared.Outcome.the-variants.{Done}
-use Rattle.model.specs.LogBufferDescriptor.{reading, publisherPosition}
 use Rattle.model.specs.Publication.{openOf}
-use Rattle.model.specs.History.{Call, answers, left, Shape, open·, committed, aborted, Extent, message, claimed·, padding, sizeOf, AllGiven}
+use Rattle.model.specs.History.{Call, left, Shape, open·, committed, aborted, Extent, message, claimed·, padding, sizeOf, noTerms, AllGiven}
 use Rattle.model.specs.History.{messages as messagesOf}
-use Rattle.model.specs.Demand.{opened, shape, history}
+use Rattle.model.specs.Demand.{opened, shape, history, Start}
 use Rattle.tally.specs.Walk.{Stream, streamOf, between}
-use Rattle.tally.specs.Histories.{IsStart, Tallied}
+use Rattle.tally.specs.Histories.{Tallied}
 use Rattle.holding.specs.Messages.{Message, idle, messages}
 use Rattle.holding.specs.Holding.{cards, cardsIn}
 
@@ -33,7 +30,7 @@ unfoldable pub bodies : List Message → List (List ℕ)
 bodies [] = []
 bodies (m ∷ ms) = m .body ∷ bodies ms
 
--- Their bodies are the messages that demand 3 tells of.
+-- Their bodies are the messages that demand 3 and the season tell of.
 abbrev pub PlacedBodies : Type 0
 PlacedBodies = (c : Shape) (p : ℕ) (h : List Extent) → bodies (placed c p h) ≡ messagesOf h
 
@@ -45,12 +42,12 @@ pub record SameMessages (c : Shape) (s : Stream) (h : List Extent) (from to : �
   pub same : messages s idle (between s from to) ≡ placed c from (parts .middle)
   pub same-cards : (find : ℕ) → cardsIn s find from to ≡ cards find (placed c from (parts .middle))
 
--- with demand 3's premises
+-- with the season's premises
 abbrev pub HistoryMessages : Type 0
 HistoryMessages =
     (log : List ℕ) (term mtu initial session stream : ℤ) → openOf log term mtu initial session stream .answer ≡ Done
-    → (calls : List Call) → AllGiven [] (opened log term mtu initial session stream) calls
+    → (calls : List Call)
     → let w = opened log term mtu initial session stream in let end = left w calls in
-    ltZ (publisherPosition (reading (end .record·))) (pos (3 * shape w .term)) ≡ true
-    → (from to : ℕ) → IsStart from (answers w calls) → IsStart to (answers w calls) → from ≤ to
+    AllGiven (shape w) [] noTerms w calls
+    → (from to : ℕ) → Start w calls from → Start w calls to → from ≤ to
     → SameMessages (shape w) (streamOf (end .record·) (end .log)) (history w calls) from to
