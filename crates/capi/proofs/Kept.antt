@@ -1,7 +1,8 @@
 -- Packing again what was unpacked changes no word: the theorems of specs/Theorems.antt that say so.
 use mathlib.Core.Path.{_≡_, refl, ap, ap₂, _∙_}
-use mathlib.Core.Bool.{Bool, true, false, cond}
-use Prim.Native.Nat.{ℕ, _+_, _*_, _/_, _%_, _<_}
+use mathlib.Core.Bool.{Bool, true, false, cond, not}
+use Prim.Native.Nat.{ℕ, zero, suc, _+_, _*_, _/_, _%_, _<_}
+use lib.Dec.{eqb}
 use mathlib.Core.List.{List}
 use native.Mathlib.Omega.{arith}
 use lib.IntN.{ℤ, pos, negsuc}
@@ -12,7 +13,7 @@ use mir.Val.{Fits, SFits, ofZ, toZ}
 use mir.Facts.{toZ-ofZ, ofZ-toZ}
 use Rattle.model.specs.Bytes.{word, long}
 use Rattle.logbuffer.specs.Assembler.{sessionsOf}
-use Rattle.capi.specs.Words.{at, lowOf, highOf, pairOf, flagOf, countOut, shutBits, idsFrom, heldFrom, idsTo, heldTo, assemblerFrom, assemblerTo}
+use Rattle.capi.specs.Words.{at, lowOf, highOf, pairOf, flagOf, bitOf, bitNumber, recordIn, marksOut, countOut, shutBits, idsFrom, heldFrom, idsTo, heldTo, assemblerFrom, assemblerTo}
 use Rattle.capi.specs.Theorems.{RecordKept, ImageKept, AssemblerKept, ReplayKept}
 
 -- ---- parts of a word
@@ -61,10 +62,28 @@ count-same w f = toZ-ofZ f
 stored : (w : List ℤ) (i : ℕ) {v : List ℤ} {x : ℤ} → v ≡ w → x ≡ at w i → set v i x ≡ w
 stored w i p q = ap₂ (λ (u : List ℤ) (y : ℤ). set u i y) p q ∙ set-getD w i (pos 0)
 
+-- a bit read and stored again
+bit-same : (n : ℕ) → bitNumber (bitOf n) ≡ n % 2
+bit-same n = go (n % 2) refl
+  where
+    go : (m : ℕ) → n % 2 ≡ m → bitNumber (not (eqb m 0)) ≡ m
+    go zero e = refl
+    go (suc zero) e = refl
+    go (suc (suc m)) e = absurd (omega arith)
+
+-- the marks read and stored again, beside the bits that are kept
+marks-same : (z : ℤ) → SFits w64 z → (n : ℕ) → long z ≡ n → toZ w64 (n / 8 * 8 + (bitNumber (bitOf n) + 2 * bitNumber (bitOf (n / 2)) + 4 * bitNumber (bitOf (n / 4)))) ≡ z
+marks-same z f n e =
+    let k : n / 8 * 8 + (bitNumber (bitOf n) + 2 * bitNumber (bitOf (n / 2)) + 4 * bitNumber (bitOf (n / 4))) ≡ long z = omega (arith, e, bit-same n, bit-same (n / 2), bit-same (n / 4)) in
+    ap (toZ w64) k ∙ toZ-ofZ f
+
 pub record-kept : RecordKept
 record-kept w h =
     let t = stored w 2 (stored w 1 (stored w 0 refl refl) refl) refl in
-    (stored w 3 t (pair-same (at w 3) (h .fits 3)), (stored w 7 refl refl, closed (flagOf (long (at w 9)))))
+    let q = stored w 3 t (pair-same (at w 3) (h .fits 3)) in
+    let m = marks-same (at w 11) (h .fits 11) (long (at w 11)) refl in
+    let marks = stored w 11 refl m in
+    ((ap (λ (v : List ℤ). marksOut v (recordIn w)) q ∙ marks, (stored w 7 refl refl, closed (flagOf (long (at w 9))))), (stored w 10 refl refl, marks))
   where
     closed : (b : Bool) → cond b w (cond b (set w 9 (toZ w64 (long (at w 9) + 1))) w) ≡ w
     closed true = refl

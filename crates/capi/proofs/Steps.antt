@@ -18,19 +18,19 @@ use Rattle.model.specs.declared.Reading.{Reading}
 use Rattle.model.specs.declared.Verdict.{Verdict}
 use Rattle.model.specs.declared.Verdict.the-variants.{Pass, Refuse}
 use Rattle.model.specs.FrameDescriptor.{space}
-use Rattle.model.specs.LogBufferDescriptor.{idPlus, active, reading, readingOf, soundRecord, sound, rawOf, changed, withTail, withCount, withLimit, withClosed, idOf, tailOf, nextTail, rotated, greatest, lastTerm, payloadLimit}
-use Rattle.model.specs.Publication.{refuseIf, changeOf, place, afterClosed, tooLong, fits, onTrip, tripNext, appendNext, needOf, tailRoom, beforeAppend, offerVerdict, nextBy, offerOf, claimVerdict, claimOf}
+use Rattle.model.specs.LogBufferDescriptor.{idPlus, active, reading, readingOf, soundRecord, sound, rawOf, changed, withTail, withCount, withLimit, withClosed, noted, withSlowest, withMark, due, isReady, idOf, tailOf, nextTail, rotated, greatest, lastTerm, payloadLimit}
+use Rattle.model.specs.Publication.{refuseIf, changeOf, place, afterClosed, tooLong, fits, onTrip, tripNext, appendNext, needOf, tailRoom, beforeAppend, offerVerdict, nextBy, offerOf, claimVerdict, claimOf, replyBy, clearVerdict, clearOf, raiseVerdict, raiseOf}
 use Rattle.model.specs.declared.Error.{Error}
 use Rattle.model.specs.declared.Error.the-variants.{IllegalArgument, IllegalRecord, PublicationClosed, ExceedsMaxPayloadLength, ExceedsMaxMessageLength}
 use Rattle.model.specs.declared.Outcome.the-variants.{Done, Refused}
 use Rattle.model.specs.declared.RecordReply.{RecordReply}
 use Rattle.model.specs.Image.{movedTo}
-use Rattle.model.specs.History.{Call, offer, claim, fill, commit, abort, setLimit, close, World, step}
+use Rattle.model.specs.History.{Call, offer, claim, fill, commit, abort, setLimit, close, clear, raise, World, step}
 use Rattle.model.specs.Corollaries.{RefusalsChangeNothing}
 use Rattle.model.proofs.Sound.{sound-true}
 use Rattle.model.proofs.Corollaries.{refusals-change-nothing}
 use Rattle.image.specs.Images.{stateOf}
-use Rattle.capi.specs.Words.{at, lowOf, highOf, pairOf, flagOf, recordIn, recordOut, limitOut, closedOut, imageIn, imageOut}
+use Rattle.capi.specs.Words.{at, lowOf, highOf, pairOf, flagOf, bitOf, bitNumber, recordIn, recordOut, limitOut, closedOut, slowestOut, marksOut, imageIn, imageOut}
 use Rattle.capi.specs.Theorems.{Words, Moved, RecordBack, world, wordsBy, RefusalsKeep, StepsBack, ImageBack}
 use Rattle.capi.proofs.Kept.{long-bound, word-bound, bits64, bits32, record-kept}
 
@@ -85,50 +85,103 @@ two P f w h = split P 1 (λ (a0 : ℤ) (w0 : List ℤ) (h0 : length w0 ≡ 1). s
 three-words : (P : List ℤ → Type 0) → ((a0 a1 a2 : ℤ) → P (a0 ∷ a1 ∷ a2 ∷ [])) → (w : List ℤ) → length w ≡ 3 → P w
 three-words P f w h = split P 2 (λ (a0 : ℤ) (w0 : List ℤ) (h0 : length w0 ≡ 2). split (λ (v : List ℤ). P (a0 ∷ v)) 1 (λ (a1 : ℤ) (w1 : List ℤ) (h1 : length w1 ≡ 1). split (λ (v : List ℤ). P (a0 ∷ a1 ∷ v)) 0 (λ (a2 : ℤ) (w2 : List ℤ) (h2 : length w2 ≡ 0). none (λ (v : List ℤ). P (a0 ∷ a1 ∷ a2 ∷ v)) (f a0 a1 a2) w2 h2) w1 h1) w0 h0) w h
 
-ten : (P : List ℤ → Type 0) → ((a0 a1 a2 a3 a4 a5 a6 a7 a8 a9 : ℤ) → P (a0 ∷ a1 ∷ a2 ∷ a3 ∷ a4 ∷ a5 ∷ a6 ∷ a7 ∷ a8 ∷ a9 ∷ [])) → (w : List ℤ) → length w ≡ 10 → P w
-ten P f w h = split P 9 (λ (a0 : ℤ) (w0 : List ℤ) (h0 : length w0 ≡ 9). split (λ (v : List ℤ). P (a0 ∷ v)) 8 (λ (a1 : ℤ) (w1 : List ℤ) (h1 : length w1 ≡ 8). split (λ (v : List ℤ). P (a0 ∷ a1 ∷ v)) 7 (λ (a2 : ℤ) (w2 : List ℤ) (h2 : length w2 ≡ 7). split (λ (v : List ℤ). P (a0 ∷ a1 ∷ a2 ∷ v)) 6 (λ (a3 : ℤ) (w3 : List ℤ) (h3 : length w3 ≡ 6). split (λ (v : List ℤ). P (a0 ∷ a1 ∷ a2 ∷ a3 ∷ v)) 5 (λ (a4 : ℤ) (w4 : List ℤ) (h4 : length w4 ≡ 5). split (λ (v : List ℤ). P (a0 ∷ a1 ∷ a2 ∷ a3 ∷ a4 ∷ v)) 4 (λ (a5 : ℤ) (w5 : List ℤ) (h5 : length w5 ≡ 4). split (λ (v : List ℤ). P (a0 ∷ a1 ∷ a2 ∷ a3 ∷ a4 ∷ a5 ∷ v)) 3 (λ (a6 : ℤ) (w6 : List ℤ) (h6 : length w6 ≡ 3). split (λ (v : List ℤ). P (a0 ∷ a1 ∷ a2 ∷ a3 ∷ a4 ∷ a5 ∷ a6 ∷ v)) 2 (λ (a7 : ℤ) (w7 : List ℤ) (h7 : length w7 ≡ 2). split (λ (v : List ℤ). P (a0 ∷ a1 ∷ a2 ∷ a3 ∷ a4 ∷ a5 ∷ a6 ∷ a7 ∷ v)) 1 (λ (a8 : ℤ) (w8 : List ℤ) (h8 : length w8 ≡ 1). split (λ (v : List ℤ). P (a0 ∷ a1 ∷ a2 ∷ a3 ∷ a4 ∷ a5 ∷ a6 ∷ a7 ∷ a8 ∷ v)) 0 (λ (a9 : ℤ) (w9 : List ℤ) (h9 : length w9 ≡ 0). none (λ (v : List ℤ). P (a0 ∷ a1 ∷ a2 ∷ a3 ∷ a4 ∷ a5 ∷ a6 ∷ a7 ∷ a8 ∷ a9 ∷ v)) (f a0 a1 a2 a3 a4 a5 a6 a7 a8 a9) w9 h9) w8 h8) w7 h7) w6 h6) w5 h5) w4 h4) w3 h3) w2 h2) w1 h1) w0 h0) w h
+three-marks : (P : List Bool → Type 0) → ((m0 m1 m2 : Bool) → P (m0 ∷ m1 ∷ m2 ∷ [])) → (ms : List Bool) → length ms ≡ 3 → P ms
+three-marks P f [] h = absurd (omega (arith, h))
+three-marks P f (m0 ∷ []) h = absurd (omega (arith, h))
+three-marks P f (m0 ∷ m1 ∷ []) h = absurd (omega (arith, h))
+three-marks P f (m0 ∷ m1 ∷ m2 ∷ []) h = f m0 m1 m2
+three-marks P f (m0 ∷ m1 ∷ m2 ∷ m3 ∷ ms) h = absurd (omega (arith, h))
+
+twelve : (P : List ℤ → Type 0) → ((a0 a1 a2 a3 a4 a5 a6 a7 a8 a9 a10 a11 : ℤ) → P (a0 ∷ a1 ∷ a2 ∷ a3 ∷ a4 ∷ a5 ∷ a6 ∷ a7 ∷ a8 ∷ a9 ∷ a10 ∷ a11 ∷ [])) → (w : List ℤ) → length w ≡ 12 → P w
+twelve P f w h = split P 11 (λ (a0 : ℤ) (w0 : List ℤ) (h0 : length w0 ≡ 11). split (λ (v : List ℤ). P (a0 ∷ v)) 10 (λ (a1 : ℤ) (w1 : List ℤ) (h1 : length w1 ≡ 10). split (λ (v : List ℤ). P (a0 ∷ a1 ∷ v)) 9 (λ (a2 : ℤ) (w2 : List ℤ) (h2 : length w2 ≡ 9). split (λ (v : List ℤ). P (a0 ∷ a1 ∷ a2 ∷ v)) 8 (λ (a3 : ℤ) (w3 : List ℤ) (h3 : length w3 ≡ 8). split (λ (v : List ℤ). P (a0 ∷ a1 ∷ a2 ∷ a3 ∷ v)) 7 (λ (a4 : ℤ) (w4 : List ℤ) (h4 : length w4 ≡ 7). split (λ (v : List ℤ). P (a0 ∷ a1 ∷ a2 ∷ a3 ∷ a4 ∷ v)) 6 (λ (a5 : ℤ) (w5 : List ℤ) (h5 : length w5 ≡ 6). split (λ (v : List ℤ). P (a0 ∷ a1 ∷ a2 ∷ a3 ∷ a4 ∷ a5 ∷ v)) 5 (λ (a6 : ℤ) (w6 : List ℤ) (h6 : length w6 ≡ 5). split (λ (v : List ℤ). P (a0 ∷ a1 ∷ a2 ∷ a3 ∷ a4 ∷ a5 ∷ a6 ∷ v)) 4 (λ (a7 : ℤ) (w7 : List ℤ) (h7 : length w7 ≡ 4). split (λ (v : List ℤ). P (a0 ∷ a1 ∷ a2 ∷ a3 ∷ a4 ∷ a5 ∷ a6 ∷ a7 ∷ v)) 3 (λ (a8 : ℤ) (w8 : List ℤ) (h8 : length w8 ≡ 3). split (λ (v : List ℤ). P (a0 ∷ a1 ∷ a2 ∷ a3 ∷ a4 ∷ a5 ∷ a6 ∷ a7 ∷ a8 ∷ v)) 2 (λ (a9 : ℤ) (w9 : List ℤ) (h9 : length w9 ≡ 2). split (λ (v : List ℤ). P (a0 ∷ a1 ∷ a2 ∷ a3 ∷ a4 ∷ a5 ∷ a6 ∷ a7 ∷ a8 ∷ a9 ∷ v)) 1 (λ (a10 : ℤ) (w10 : List ℤ) (h10 : length w10 ≡ 1). split (λ (v : List ℤ). P (a0 ∷ a1 ∷ a2 ∷ a3 ∷ a4 ∷ a5 ∷ a6 ∷ a7 ∷ a8 ∷ a9 ∷ a10 ∷ v)) 0 (λ (a11 : ℤ) (w11 : List ℤ) (h11 : length w11 ≡ 0). none (λ (v : List ℤ). P (a0 ∷ a1 ∷ a2 ∷ a3 ∷ a4 ∷ a5 ∷ a6 ∷ a7 ∷ a8 ∷ a9 ∷ a10 ∷ a11 ∷ v)) (f a0 a1 a2 a3 a4 a5 a6 a7 a8 a9 a10 a11) w11 h11) w10 h10) w9 h9) w8 h8) w7 h7) w6 h6) w5 h5) w4 h4) w3 h3) w2 h2) w1 h1) w0 h0) w h
 
 -- ---- the record
 
-abbrev ReadBack : List ℤ → ℤ → List ℤ → Type 0
-ReadBack w n ts =
-    recordIn (recordOut w (changed (recordIn w) ts n (recordIn w .«publication_limit») (recordIn w .«is_closed»))) ≡ changed (recordIn w) ts n (recordIn w .«publication_limit») (recordIn w .«is_closed»)
+-- the marks stored and read again
+bit-back : (m : Bool) → not (eqb (bitNumber m) 0) ≡ m
+bit-back true = refl
+bit-back false = refl
 
-back-at : (w ts : List ℤ) (n : ℤ) → length w ≡ 10 → length ts ≡ 3 → SFits w32 n → SFits w64 (at w 3) → ReadBack w n ts
-unfolding changed
-back-at w ts n h k f g =
-    ten (λ (v : List ℤ). SFits w64 (at v 3) → ReadBack v n ts)
-    (λ a0 a1 a2 a3 a4 a5 a6 a7 a8 a9 g3. three-words (ReadBack (a0 ∷ a1 ∷ a2 ∷ a3 ∷ a4 ∷ a5 ∷ a6 ∷ a7 ∷ a8 ∷ a9 ∷ []) n)
-    (λ t0 t1 t2. fields a3 a4 a5 a6 a7 a8 a9 t0 t1 t2 (low-of n (highOf a3) f (high-fits a3 g3)) (high-of n (highOf a3) f (high-fits a3 g3))) ts k) w h g
+bit-low : (m : Bool) → bitNumber m ≤ 1
+bit-low true = omega arith
+bit-low false = omega arith
+
+abbrev stored-marks : ℕ → Bool → Bool → Bool → ℕ
+stored-marks n m0 m1 m2 = n / 8 * 8 + (bitNumber m0 + 2 * bitNumber m1 + 4 * bitNumber m2)
+
+marks-back : (z : ℤ) → SFits w64 z → (m0 m1 m2 : Bool) → let x = long (toZ w64 (stored-marks (long z) m0 m1 m2)) in (bitOf x ≡ m0) × ((bitOf (x / 2) ≡ m1) × (bitOf (x / 4) ≡ m2))
+marks-back z f m0 m1 m2 =
+    let b = long-bound z f in
+    let n = long z in
+    let x = stored-marks n m0 m1 m2 in
+    let s : x < 18446744073709551616 = omega (arith, b, bit-low m0, bit-low m1, bit-low m2) in
+    let e = bits64 x s in
+    let e0 : x % 2 ≡ bitNumber m0 = omega (arith, bit-low m0, bit-low m1, bit-low m2) in
+    let e1 : x / 2 % 2 ≡ bitNumber m1 = omega (arith, bit-low m0, bit-low m1, bit-low m2) in
+    let e2 : x / 4 % 2 ≡ bitNumber m2 = omega (arith, bit-low m0, bit-low m1, bit-low m2) in
+    (ap bitOf e ∙ ap (λ (y : ℕ). not (eqb y 0)) e0 ∙ bit-back m0,
+    (ap (λ (y : ℕ). bitOf (y / 2)) e ∙ ap (λ (y : ℕ). not (eqb y 0)) e1 ∙ bit-back m1,
+    ap (λ (y : ℕ). bitOf (y / 4)) e ∙ ap (λ (y : ℕ). not (eqb y 0)) e2 ∙ bit-back m2))
+
+-- a record with other tails, count and marks
+abbrev after : LogRecord → List ℤ → ℤ → List Bool → LogRecord
+after a ts n ms = noted (changed a ts n (a .«publication_limit») (a .«is_closed»)) (a .«slowest_position») ms
+
+abbrev ReadBack : List ℤ → ℤ → List ℤ → List Bool → Type 0
+ReadBack w n ts ms = recordIn (recordOut w (after (recordIn w) ts n ms)) ≡ after (recordIn w) ts n ms
+
+back-at : (w ts : List ℤ) (n : ℤ) (ms : List Bool) → length w ≡ 12 → length ts ≡ 3 → length ms ≡ 3 → SFits w32 n → SFits w64 (at w 3) → SFits w64 (at w 11) → ReadBack w n ts ms
+unfolding changed noted
+back-at w ts n ms h k j f g g11 =
+    twelve (λ (v : List ℤ). SFits w64 (at v 3) → SFits w64 (at v 11) → ReadBack v n ts ms)
+    (λ a0 a1 a2 a3 a4 a5 a6 a7 a8 a9 a10 a11 g3 g11. three-words (λ (us : List ℤ). ReadBack (a0 ∷ a1 ∷ a2 ∷ a3 ∷ a4 ∷ a5 ∷ a6 ∷ a7 ∷ a8 ∷ a9 ∷ a10 ∷ a11 ∷ []) n us ms)
+    (λ t0 t1 t2. three-marks (ReadBack (a0 ∷ a1 ∷ a2 ∷ a3 ∷ a4 ∷ a5 ∷ a6 ∷ a7 ∷ a8 ∷ a9 ∷ a10 ∷ a11 ∷ []) n (t0 ∷ t1 ∷ t2 ∷ []))
+    (λ m0 m1 m2. let b = marks-back a11 g11 m0 m1 m2 in fields a3 a4 a5 a6 a7 a8 a9 a10 t0 t1 t2 m0 m1 m2 (low-of n (highOf a3) f (high-fits a3 g3)) (high-of n (highOf a3) f (high-fits a3 g3)) (b .0) (b .1 .0) (b .1 .1)) ms j) ts k) w h g g11
   where
-    fields : (a3 a4 a5 a6 a7 a8 a9 t0 t1 t2 : ℤ) {x y z : ℤ} → x ≡ n → y ≡ z
-        → _≡_ {A = LogRecord} (record { tails = t0 ∷ t1 ∷ t2 ∷ []; «active_term_count» = x; «initial_term_id» = y; «term_length» = lowOf a4; «mtu_length» = highOf a4; «session_id» = lowOf a5; «stream_id» = highOf a5; «is_connected» = lowOf a6; «publication_limit» = a7; «end_of_stream_position» = a8; «is_closed» = flagOf (long a9) })
-        (record { tails = t0 ∷ t1 ∷ t2 ∷ []; «active_term_count» = n; «initial_term_id» = z; «term_length» = lowOf a4; «mtu_length» = highOf a4; «session_id» = lowOf a5; «stream_id» = highOf a5; «is_connected» = lowOf a6; «publication_limit» = a7; «end_of_stream_position» = a8; «is_closed» = flagOf (long a9) })
-    fields a3 a4 a5 a6 a7 a8 a9 t0 t1 t2 p q = cc
+    fields : (a3 a4 a5 a6 a7 a8 a9 a10 t0 t1 t2 : ℤ) (m0 m1 m2 : Bool) {x y z : ℤ} {b0 b1 b2 : Bool} → x ≡ n → y ≡ z → b0 ≡ m0 → b1 ≡ m1 → b2 ≡ m2
+        → _≡_ {A = LogRecord} (record { tails = t0 ∷ t1 ∷ t2 ∷ []; «active_term_count» = x; «initial_term_id» = y; «term_length» = lowOf a4; «mtu_length» = highOf a4; «session_id» = lowOf a5; «stream_id» = highOf a5; «is_connected» = lowOf a6; «publication_limit» = a7; «end_of_stream_position» = a8; «is_closed» = flagOf (long a9); «slowest_position» = a10; «is_cleared» = b0 ∷ b1 ∷ b2 ∷ [] })
+        (record { tails = t0 ∷ t1 ∷ t2 ∷ []; «active_term_count» = n; «initial_term_id» = z; «term_length» = lowOf a4; «mtu_length» = highOf a4; «session_id» = lowOf a5; «stream_id» = highOf a5; «is_connected» = lowOf a6; «publication_limit» = a7; «end_of_stream_position» = a8; «is_closed» = flagOf (long a9); «slowest_position» = a10; «is_cleared» = m0 ∷ m1 ∷ m2 ∷ [] })
+    fields a3 a4 a5 a6 a7 a8 a9 a10 t0 t1 t2 m0 m1 m2 p q b0 b1 b2 = cc
 
 pub record-back : RecordBack
 record-back w r h m =
-    subst (λ (x : LogRecord). recordIn (recordOut w x) ≡ x) (sym (m .same)) (back-at w (m .tails) (m .count) (h .count) (m .three) (m .fits) (h .fits 3))
+    subst (λ (x : LogRecord). recordIn (recordOut w x) ≡ x) (sym (m .same))
+    (back-at w (m .tails) (m .count) (m .marks) (h .count) (m .three) (m .three-marks) (m .fits) (h .fits 3) (h .fits 11))
 
 -- ---- the changes that calls make: each leaves a record moved from the one that a call was given
 
 module _ {a : LogRecord} where
   tail-moved : {r : LogRecord} (k id offset : ℕ) → Moved a r → Moved a (withTail r k id offset)
-  unfolding withTail changed
+  unfolding withTail changed noted
   tail-moved k id offset m =
       record {
         tails = set (m .tails) k (rawOf id offset);
         count = m .count;
+        marks = m .marks;
         three = length-set (m .tails) k (rawOf id offset) ∙ m .three;
+        three-marks = m .three-marks;
         fits = m .fits;
         same = ap (λ (r : LogRecord). withTail r k id offset) (m .same);
       }
 
   count-moved : {r : LogRecord} (n : ℕ) → n < 4294967296 → Moved a r → Moved a (withCount r n)
-  unfolding withCount changed
+  unfolding withCount changed noted
   count-moved n h m =
       let k : Fits w32 n = record { fits = h } in
-      record { tails = m .tails; count = toZ w32 n; three = m .three; fits = sfits-toZ k; same = ap (λ (r : LogRecord). withCount r n) (m .same) }
+      record { tails = m .tails; count = toZ w32 n; marks = m .marks; three = m .three; three-marks = m .three-marks; fits = sfits-toZ k; same = ap (λ (r : LogRecord). withCount r n) (m .same) }
+
+  mark-moved : {r : LogRecord} (k : ℕ) (b : Bool) → Moved a r → Moved a (withMark r k b)
+  unfolding withMark changed noted
+  mark-moved k b m =
+      record {
+        tails = m .tails;
+        count = m .count;
+        marks = set (m .marks) k b;
+        three = m .three;
+        three-marks = length-set (m .marks) k b ∙ m .three-marks;
+        fits = m .fits;
+        same = ap (λ (r : LogRecord). withMark r k b) (m .same);
+      }
 
   pick : {r s : LogRecord} (b : Bool) → Moved a r → Moved a s → Moved a (cond b r s)
   pick true m n = m
@@ -137,12 +190,12 @@ module _ {a : LogRecord} where
   rotated-moved : {r : LogRecord} (count id : ℕ) → count + 1 < 4294967296 → Moved a r → Moved a (rotated r count id)
   unfolding rotated nextTail
   rotated-moved {r} count id h m =
-      count-moved (count + 1) h (pick (eqb (idPlus (idOf (tailOf r ((count + 1) % 3))) 2) id) (tail-moved ((count + 1) % 3) (idPlus id 1) 0 m) m)
+      count-moved (count + 1) h (mark-moved (due count) false (pick (eqb (idPlus (idOf (tailOf r ((count + 1) % 3))) 2) id) (tail-moved ((count + 1) % 3) (idPlus id 1) 0 m) m))
 
 -- the record of some words, as it is
 words-moved : (w : List ℤ) → Moved (recordIn w) (recordIn w)
-unfolding changed
-words-moved w = record { tails = recordIn w .tails; count = lowOf (at w 3); three = refl; fits = low-fits (at w 3); same = refl }
+unfolding changed noted
+words-moved w = record { tails = recordIn w .tails; count = lowOf (at w 3); marks = recordIn w .«is_cleared»; three = refl; three-marks = refl; fits = low-fits (at w 3); same = refl }
 
 -- an append that was let through, of a count that row 2 bounds
 append-moved : (w : List ℤ) (needed : ℕ) → reading (recordIn w) .count ≤ 2147483647 → Moved (recordIn w) (appendNext (recordIn w) (reading (recordIn w)) needed)
@@ -151,7 +204,7 @@ append-moved w needed h =
     let v = reading (recordIn w) in
     let m = tail-moved (active (recordIn w)) (v .id) (v .offset + needed) (words-moved w) in
     let b : v .count + 1 < 4294967296 = omega (arith, h) in
-    pick (fits v needed) m (pick (ltb (greatest v) (place v + v .offset)) m (pick (lastTerm (v .count)) m (rotated-moved (v .count) (v .id) b m)))
+    pick (fits v needed) m (pick (ltb (greatest v) (place v + v .offset)) m (pick (lastTerm (v .count)) m (pick (isReady (recordIn w)) (rotated-moved (v .count) (v .id) b m) m)))
 
 -- what passed the ladder has passed row 2
 passed-rung : (b : Bool) (e : Error) (rest : Verdict) → refuseIf b e rest ≡ Pass → (b ≡ false) × (rest ≡ Pass)
@@ -198,9 +251,9 @@ claim-moved w log n =
 
 -- ---- limit and close
 
-limit-at : (w : List ℤ) (n : ℤ) → length w ≡ 10 → recordIn (limitOut w (withLimit (recordIn w) n)) ≡ withLimit (recordIn w) n
+limit-at : (w : List ℤ) (n : ℤ) → length w ≡ 12 → recordIn (limitOut w (withLimit (recordIn w) n)) ≡ withLimit (recordIn w) n
 unfolding withLimit changed
-limit-at w n h = ten (λ (v : List ℤ). recordIn (limitOut v (withLimit (recordIn v) n)) ≡ withLimit (recordIn v) n) (λ a0 a1 a2 a3 a4 a5 a6 a7 a8 a9. refl) w h
+limit-at w n h = twelve (λ (v : List ℤ). recordIn (limitOut v (withLimit (recordIn v) n)) ≡ withLimit (recordIn v) n) (λ a0 a1 a2 a3 a4 a5 a6 a7 a8 a9 a10 a11. refl) w h
 
 -- a flag's byte, set
 set-flag : (z : ℤ) → SFits w64 z → flagOf (long z) ≡ false → flagOf (long (toZ w64 (long z + 1))) ≡ true
@@ -220,18 +273,46 @@ closed-by : (r : LogRecord) (b : Bool) → b ≡ true → changed r (r .tails) (
 unfolding withClosed
 closed-by r b e = ap (changed r (r .tails) (r .«active_term_count») (r .«publication_limit»)) e
 
-close-at : (w : List ℤ) → length w ≡ 10 → SFits w64 (at w 9) → recordIn (closedOut w (withClosed (recordIn w))) ≡ withClosed (recordIn w)
+close-at : (w : List ℤ) → length w ≡ 12 → SFits w64 (at w 9) → recordIn (closedOut w (withClosed (recordIn w))) ≡ withClosed (recordIn w)
 unfolding withClosed changed
 close-at w h f =
-    ten (λ (v : List ℤ). SFits w64 (at v 9) → recordIn (closedOut v (withClosed (recordIn v))) ≡ withClosed (recordIn v))
-    (λ a0 a1 a2 a3 a4 a5 a6 a7 a8 a9 f9. go a0 a1 a2 a3 a4 a5 a6 a7 a8 a9 f9 (flagOf (long a9)) refl) w h f
+    twelve (λ (v : List ℤ). SFits w64 (at v 9) → recordIn (closedOut v (withClosed (recordIn v))) ≡ withClosed (recordIn v))
+    (λ a0 a1 a2 a3 a4 a5 a6 a7 a8 a9 a10 a11 f9. go a0 a1 a2 a3 a4 a5 a6 a7 a8 a9 a10 a11 f9 (flagOf (long a9)) refl) w h f
   where
-    go : (a0 a1 a2 a3 a4 a5 a6 a7 a8 a9 : ℤ) → SFits w64 a9 → (b : Bool) → flagOf (long a9) ≡ b
-        → recordIn (cond b (a0 ∷ a1 ∷ a2 ∷ a3 ∷ a4 ∷ a5 ∷ a6 ∷ a7 ∷ a8 ∷ a9 ∷ []) (a0 ∷ a1 ∷ a2 ∷ a3 ∷ a4 ∷ a5 ∷ a6 ∷ a7 ∷ a8 ∷ toZ w64 (long a9 + 1) ∷ []))
-        ≡ withClosed (recordIn (a0 ∷ a1 ∷ a2 ∷ a3 ∷ a4 ∷ a5 ∷ a6 ∷ a7 ∷ a8 ∷ a9 ∷ []))
-    go a0 a1 a2 a3 a4 a5 a6 a7 a8 a9 f9 true e = closed-by (recordIn (a0 ∷ a1 ∷ a2 ∷ a3 ∷ a4 ∷ a5 ∷ a6 ∷ a7 ∷ a8 ∷ a9 ∷ [])) (flagOf (long a9)) e
-    go a0 a1 a2 a3 a4 a5 a6 a7 a8 a9 f9 false e =
-        closed-by (recordIn (a0 ∷ a1 ∷ a2 ∷ a3 ∷ a4 ∷ a5 ∷ a6 ∷ a7 ∷ a8 ∷ a9 ∷ [])) (flagOf (long (toZ w64 (long a9 + 1)))) (set-flag a9 f9 e)
+    go : (a0 a1 a2 a3 a4 a5 a6 a7 a8 a9 a10 a11 : ℤ) → SFits w64 a9 → (b : Bool) → flagOf (long a9) ≡ b
+        → recordIn (cond b (a0 ∷ a1 ∷ a2 ∷ a3 ∷ a4 ∷ a5 ∷ a6 ∷ a7 ∷ a8 ∷ a9 ∷ a10 ∷ a11 ∷ []) (a0 ∷ a1 ∷ a2 ∷ a3 ∷ a4 ∷ a5 ∷ a6 ∷ a7 ∷ a8 ∷ toZ w64 (long a9 + 1) ∷ a10 ∷ a11 ∷ []))
+        ≡ withClosed (recordIn (a0 ∷ a1 ∷ a2 ∷ a3 ∷ a4 ∷ a5 ∷ a6 ∷ a7 ∷ a8 ∷ a9 ∷ a10 ∷ a11 ∷ []))
+    go a0 a1 a2 a3 a4 a5 a6 a7 a8 a9 a10 a11 f9 true e = closed-by (recordIn (a0 ∷ a1 ∷ a2 ∷ a3 ∷ a4 ∷ a5 ∷ a6 ∷ a7 ∷ a8 ∷ a9 ∷ a10 ∷ a11 ∷ [])) (flagOf (long a9)) e
+    go a0 a1 a2 a3 a4 a5 a6 a7 a8 a9 a10 a11 f9 false e =
+        closed-by (recordIn (a0 ∷ a1 ∷ a2 ∷ a3 ∷ a4 ∷ a5 ∷ a6 ∷ a7 ∷ a8 ∷ a9 ∷ a10 ∷ a11 ∷ [])) (flagOf (long (toZ w64 (long a9 + 1)))) (set-flag a9 f9 e)
+
+-- ---- the slowest reader and the marks
+
+slowest-at : (w : List ℤ) (p : ℤ) → length w ≡ 12 → recordIn (slowestOut w (withSlowest (recordIn w) p)) ≡ withSlowest (recordIn w) p
+unfolding withSlowest noted
+slowest-at w p h = twelve (λ (v : List ℤ). recordIn (slowestOut v (withSlowest (recordIn v) p)) ≡ withSlowest (recordIn v) p) (λ a0 a1 a2 a3 a4 a5 a6 a7 a8 a9 a10 a11. refl) w h
+
+abbrev MarksBack : List ℤ → List Bool → Type 0
+MarksBack w ms = recordIn (marksOut w (noted (recordIn w) (recordIn w .«slowest_position») ms)) ≡ noted (recordIn w) (recordIn w .«slowest_position») ms
+
+marks-at : (w : List ℤ) (ms : List Bool) → length w ≡ 12 → length ms ≡ 3 → SFits w64 (at w 11) → MarksBack w ms
+unfolding noted
+marks-at w ms h j g =
+    twelve (λ (v : List ℤ). SFits w64 (at v 11) → MarksBack v ms)
+    (λ a0 a1 a2 a3 a4 a5 a6 a7 a8 a9 a10 a11 g11. three-marks (MarksBack (a0 ∷ a1 ∷ a2 ∷ a3 ∷ a4 ∷ a5 ∷ a6 ∷ a7 ∷ a8 ∷ a9 ∷ a10 ∷ a11 ∷ []))
+    (λ m0 m1 m2. let b = marks-back a11 g11 m0 m1 m2 in
+    ap₂ (λ (x y : Bool). noted (recordIn (a0 ∷ a1 ∷ a2 ∷ a3 ∷ a4 ∷ a5 ∷ a6 ∷ a7 ∷ a8 ∷ a9 ∷ a10 ∷ a11 ∷ [])) a10 (x ∷ y ∷ bitOf (long (toZ w64 (stored-marks (long a11) m0 m1 m2)) / 4) ∷ [])) (b .0) (b .1 .0)
+    ∙ ap (λ (z : Bool). noted (recordIn (a0 ∷ a1 ∷ a2 ∷ a3 ∷ a4 ∷ a5 ∷ a6 ∷ a7 ∷ a8 ∷ a9 ∷ a10 ∷ a11 ∷ [])) a10 (m0 ∷ m1 ∷ z ∷ [])) (b .1 .1)) ms j) w h g
+
+mark-at : (w : List ℤ) (k : ℕ) → length w ≡ 12 → SFits w64 (at w 11) → recordIn (marksOut w (withMark (recordIn w) k true)) ≡ withMark (recordIn w) k true
+unfolding withMark
+mark-at w k h g = marks-at w (set (recordIn w .«is_cleared») k true) h (length-set (recordIn w .«is_cleared») k true) g
+
+-- one that a verdict lets through, or the old one
+reply-back : (w : List ℤ) (next : LogRecord) (x : Verdict) (out : List ℤ → LogRecord → List ℤ) → recordIn (out w next) ≡ next → recordIn (out w (recordIn w)) ≡ recordIn w
+    → recordIn (out w (replyBy (recordIn w) next x .next)) ≡ replyBy (recordIn w) next x .next
+reply-back w next Pass out new old = new
+reply-back w next (Refuse e) out new old = old
 
 -- the new record, or the old one
 change-back : (w : List ℤ) (next : LogRecord) (out : List ℤ → LogRecord → List ℤ) → recordIn (out w next) ≡ next → recordIn (out w (recordIn w)) ≡ recordIn w
@@ -248,27 +329,33 @@ change-back w next out new old = go (soundRecord (reading next))
 -- ---- the theorems
 
 pub steps-back : StepsBack
-unfolding step
+unfolding step clearOf raiseOf
 steps-back w log (offer m reserved) h = record-back w _ h (offer-moved w log m)
 steps-back w log (claim n) h = record-back w _ h (claim-moved w log n)
 steps-back w log (fill c b) h = refl
 steps-back w log (commit c) h = refl
 steps-back w log (abort c) h = refl
-steps-back w log (setLimit n) h = change-back w (withLimit (recordIn w) n) limitOut (limit-at w n (h .count)) (ap recordIn (record-kept w h .1 .0))
-steps-back w log close h = change-back w (withClosed (recordIn w)) closedOut (close-at w (h .count) (h .fits 9)) (ap recordIn (record-kept w h .1 .1))
+steps-back w log (setLimit n) h = change-back w (withLimit (recordIn w) n) limitOut (limit-at w n (h .count)) (ap recordIn (record-kept w h .0 .1 .0))
+steps-back w log close h = change-back w (withClosed (recordIn w)) closedOut (close-at w (h .count) (h .fits 9)) (ap recordIn (record-kept w h .0 .1 .1))
+steps-back w log (clear k) h =
+    reply-back w (withMark (recordIn w) (word k) true) (clearVerdict (reading (recordIn w)) (length log) (word k)) marksOut (mark-at w (word k) (h .count) (h .fits 11)) (ap recordIn (record-kept w h .1 .1))
+steps-back w log (raise p) h =
+    reply-back w (withSlowest (recordIn w) p) (raiseVerdict (reading (recordIn w)) (long p)) slowestOut (slowest-at w p (h .count)) (ap recordIn (record-kept w h .1 .0))
 
 pub refusals-keep : RefusalsKeep
 unfolding RefusalsChangeNothing
-refusals-keep w log y e h refused trip = ap (wordsBy w y) (ap (λ (x : World). x .record·) (refusals-change-nothing (world w log) y e refused trip)) ∙ kept y
+refusals-keep w log y e h refused = ap (wordsBy w y) (ap (λ (x : World). x .record·) (refusals-change-nothing (world w log) y e refused)) ∙ kept y
   where
     kept : (y : Call) → wordsBy w y (recordIn w) ≡ w
-    kept (offer m reserved) = record-kept w h .0
-    kept (claim n) = record-kept w h .0
+    kept (offer m reserved) = record-kept w h .0 .0
+    kept (claim n) = record-kept w h .0 .0
     kept (fill c b) = refl
     kept (commit c) = refl
     kept (abort c) = refl
-    kept (setLimit n) = record-kept w h .1 .0
-    kept close = record-kept w h .1 .1
+    kept (setLimit n) = record-kept w h .0 .1 .0
+    kept close = record-kept w h .0 .1 .1
+    kept (clear k) = record-kept w h .1 .1
+    kept (raise p) = record-kept w h .1 .0
 
 pub image-back : ImageBack
 image-back w p h = two (λ (v : List ℤ). stateOf (imageIn (imageOut v (movedTo (stateOf (imageIn v)) p))) ≡ movedTo (stateOf (imageIn v)) p) (λ a0 a1. refl) w (h .count)

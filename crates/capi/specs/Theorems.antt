@@ -1,7 +1,7 @@
 -- What is proved of the words, as statements. proofs/ has a proof of each, under the name that is said with it.
 use mathlib.Core.Path.{_≡_}
 use Prim.Native.Nat.{ℕ, _≤_}
-use mathlib.Core.Bool.{false}
+use mathlib.Core.Bool.{Bool}
 use mathlib.Core.List.{List}
 use lib.IntN.{ℤ}
 use lib.ListN.{length}
@@ -9,15 +9,15 @@ use mir.Syntax.{w32, w64}
 use mir.Val.{SFits}
 use Rattle.model.specs.declared.LogRecord.{LogRecord}
 use Rattle.model.specs.declared.Error.{Error}
-use Rattle.model.specs.LogBufferDescriptor.{changed}
+use Rattle.model.specs.LogBufferDescriptor.{changed, noted}
 use Rattle.model.specs.TermReader.{walk}
 use Rattle.model.specs.Image.{movedTo}
-use Rattle.model.specs.History.{Call, offer, claim, fill, commit, abort, setLimit, close, World, step, isTrip}
+use Rattle.model.specs.History.{Call, offer, claim, fill, commit, abort, setLimit, close, clear, raise, World, step}
 use Rattle.model.specs.Corollaries.{RefusedWith}
 use Rattle.logbuffer.specs.Assembler.{sessionsOf}
 use Rattle.image.specs.Images.{stateOf}
 use Rattle.replay.specs.Replays.{stateOf as stateOfReplay}
-use Rattle.capi.specs.Words.{at, recordIn, recordOut, limitOut, closedOut, imageIn, imageOut, shutOut, assemblerIn, assemblerOut, replayIn, replayOut}
+use Rattle.capi.specs.Words.{at, recordIn, recordOut, limitOut, closedOut, slowestOut, marksOut, imageIn, imageOut, shutOut, assemblerIn, assemblerOut, replayIn, replayOut}
 
 -- an array of so many words of 64 bits, as a call is lent it
 pub record Words (n : ℕ) (w : List ℤ) : Type 0 where
@@ -29,7 +29,9 @@ pub record Words (n : ℕ) (w : List ℤ) : Type 0 where
 -- Where the next value of a call is the value that it was given, as after a refusal, no byte of the words changes, gaps among them (Kept, `record-kept`,
 -- `image-kept`, `assembler-kept`, `replay-kept`).
 abbrev pub RecordKept : Type 0
-RecordKept = (w : List ℤ) → Words 10 w → (recordOut w (recordIn w) ≡ w) × ((limitOut w (recordIn w) ≡ w) × (closedOut w (recordIn w) ≡ w))
+RecordKept =
+    (w : List ℤ) → Words 12 w
+    → ((recordOut w (recordIn w) ≡ w) × ((limitOut w (recordIn w) ≡ w) × (closedOut w (recordIn w) ≡ w))) × ((slowestOut w (recordIn w) ≡ w) × (marksOut w (recordIn w) ≡ w))
 
 abbrev pub ImageKept : Type 0
 ImageKept = (w : List ℤ) → Words 2 w → (imageOut w (stateOf (imageIn w)) ≡ w) × (shutOut w (stateOf (imageIn w)) ≡ w)
@@ -49,32 +51,36 @@ wordsBy w (commit c) r = w
 wordsBy w (abort c) r = w
 wordsBy w (setLimit n) r = limitOut w r
 wordsBy w close r = closedOut w r
+wordsBy w (clear k) r = marksOut w r
+wordsBy w (raise p) r = slowestOut w r
 
 abbrev pub world : List ℤ → List ℕ → World
 world w log = record { record· = recordIn w; log = log }
 
--- so each of them that is refused, and not by a trip, leaves every byte of the record (Steps, `refusals-keep`)
+-- so each of them that is refused without a trip leaves every byte of the record (Steps, `refusals-keep`)
 abbrev pub RefusalsKeep : Type 0
-RefusalsKeep = (w : List ℤ) (log : List ℕ) (y : Call) (e : Error) → Words 10 w → RefusedWith (step (world w log) y .answer) e → isTrip e ≡ false
+RefusalsKeep = (w : List ℤ) (log : List ℕ) (y : Call) (e : Error) → Words 12 w → RefusedWith (step (world w log) y .answer) e
     → wordsBy w y (step (world w log) y .next .record·) ≡ w
 
 -- ---- calls in a row
 
--- Tails and count are all that an append or a rotation changes of a record, and what is left in the words is read again (Steps, `record-back`).
+-- Tails, count and marks are all that an append or a rotation changes of a record, and what is left in the words is read again (Steps, `record-back`).
 pub record Moved (a r : LogRecord) : Type 0 where
   pub tails : List ℤ
   pub count : ℤ
+  pub marks : List Bool
   pub three : length tails ≡ 3
+  pub three-marks : length marks ≡ 3
   pub fits : SFits w32 count
-  pub same : r ≡ changed a tails count (a .«publication_limit») (a .«is_closed»)
+  pub same : r ≡ noted (changed a tails count (a .«publication_limit») (a .«is_closed»)) (a .«slowest_position») marks
 
 abbrev pub RecordBack : Type 0
-RecordBack = (w : List ℤ) (r : LogRecord) → Words 10 w → Moved (recordIn w) r → recordIn (recordOut w r) ≡ r
+RecordBack = (w : List ℤ) (r : LogRecord) → Words 12 w → Moved (recordIn w) r → recordIn (recordOut w r) ≡ r
 
 -- So the next call through the face begins at the record that this one gives: a list of calls through the face is a list of calls of demand 3
 -- (Steps, `steps-back`).
 abbrev pub StepsBack : Type 0
-StepsBack = (w : List ℤ) (log : List ℕ) (y : Call) → Words 10 w → recordIn (wordsBy w y (step (world w log) y .next .record·)) ≡ step (world w log) y .next .record·
+StepsBack = (w : List ℤ) (log : List ℕ) (y : Call) → Words 12 w → recordIn (wordsBy w y (step (world w log) y .next .record·)) ≡ step (world w log) y .next .record·
 
 -- The same of an image that a call moves (Steps, `image-back`).
 abbrev pub ImageBack : Type 0

@@ -12,6 +12,8 @@
 --       7     publication limit                         9 to 24   the bytes that each holds
 --       8     end of stream
 --       9     closed (lowest byte), gap of 7
+--      10     the slowest reader's position
+--      11     marks of cleared partitions (bits 0, 1 and 2), gap of 61 bits
 --
 -- `low | high` are the halves. The C header declares the structs; tests/c/layout.c and the Rust crate's layout.rs hold size and offsets to this.
 -- Read Theorems next: what is packed is unpacked again, and a refusal leaves every byte.
@@ -56,6 +58,13 @@ pairOf low high = toZ w64 (word low + word high * 4294967296)
 abbrev pub flagOf : ℕ → Bool
 flagOf n = not (eqb (n % 256) 0)
 
+-- the lowest bit of such bits, and a mark as a bit
+abbrev pub bitOf : ℕ → Bool
+bitOf n = not (eqb (n % 2) 0)
+
+abbrev pub bitNumber : Bool → ℕ
+bitNumber b = cond b 1 0
+
 -- a count, which has no sign
 abbrev pub countOut : ℕ → ℤ
 countOut n = toZ w64 n
@@ -76,12 +85,29 @@ recordIn w =
       «publication_limit» = at w 7;
       «end_of_stream_position» = at w 8;
       «is_closed» = flagOf (long (at w 9));
+      «slowest_position» = at w 10;
+      «is_cleared» = bitOf (long (at w 11)) ∷ bitOf (long (at w 11) / 2) ∷ bitOf (long (at w 11) / 4) ∷ [];
     }
 
--- after an append or a rotation: tails and count
+-- the marks in the three lowest bits, beside bits that are kept
+abbrev pub markBit : LogRecord → ℕ → ℕ
+markBit r k = bitNumber (getD (r .«is_cleared») k false)
+
+abbrev pub marksWord : ℕ → LogRecord → ℤ
+marksWord n r = toZ w64 (n / 8 * 8 + (markBit r 0 + 2 * markBit r 1 + 4 * markBit r 2))
+
+-- after a clearing
+abbrev pub marksOut : List ℤ → LogRecord → List ℤ
+marksOut w r = set w 11 (marksWord (long (at w 11)) r)
+
+-- after the slowest reader's rise
+abbrev pub slowestOut : List ℤ → LogRecord → List ℤ
+slowestOut w r = set w 10 (r .«slowest_position»)
+
+-- after an append or a rotation: tails, count and marks
 abbrev pub recordOut : List ℤ → LogRecord → List ℤ
 recordOut w r =
-    set (set (set (set w 0 (at (r .tails) 0)) 1 (at (r .tails) 1)) 2 (at (r .tails) 2)) 3 (pairOf (r .«active_term_count») (r .«initial_term_id»))
+    marksOut (set (set (set (set w 0 (at (r .tails) 0)) 1 (at (r .tails) 1)) 2 (at (r .tails) 2)) 3 (pairOf (r .«active_term_count») (r .«initial_term_id»))) r
 
 -- after a limit change
 abbrev pub limitOut : List ℤ → LogRecord → List ℤ
@@ -96,13 +122,15 @@ closedOut w r =
 -- after opening, which leaves it open: every word, flag and gaps 0; refused, as it was
 abbrev pub recordFilled : List ℤ → LogRecord → List ℤ
 recordFilled w r =
-    set (set (set (set (set (set (recordOut w r)
+    set (set (set (set (set (set (set (set (recordOut w r)
     4 (pairOf (r .«term_length») (r .«mtu_length»)))
     5 (pairOf (r .«session_id») (r .«stream_id»)))
     6 (pairOf (r .«is_connected») (pos 0)))
     7 (r .«publication_limit»))
     8 (r .«end_of_stream_position»))
-    9 (pos 0)
+    9 (pos 0))
+    10 (r .«slowest_position»))
+    11 (marksWord 0 r)
 
 abbrev pub openedBy : List ℤ → LogRecord → Outcome → List ℤ
 openedBy w r Done = recordFilled w r

@@ -32,7 +32,7 @@ pub extern "C" fn logbuffer_assembler_new(assembler: &mut [i64; 25])
 #[no_mangle]
 pub extern "C" fn logbuffer_assembler_on_fragment(
     assembler: &mut [i64; 25],
-    rec: &[i64; 10],
+    rec: &[i64; 12],
     log: &[u8],
     buffer: &mut [u8],
     partition: i32,
@@ -51,14 +51,14 @@ pub extern "C" fn logbuffer_assembler_on_fragment(
 }
 
 #[no_mangle]
-pub extern "C" fn logbuffer_replay_new(replay: &mut [i64; 27], session_id: i32)
-    ensures { λ _. ⌜ now (replay .exit) ≡ replayFilled (now (replay .entry)) (fromStart «session_id» []) ⌝ }
+pub extern "C" fn logbuffer_replay_new(replay: &mut [i64; 27], position: i64, session_id: i32)
+    ensures { λ _. ⌜ now (replay .exit) ≡ replayFilled (now (replay .entry)) (fromStart position «session_id» []) ⌝ }
 {
-    words::replay_filled(replay, Replay::new(session_id))
+    words::replay_filled(replay, Replay::new(position, session_id))
 }
 
 // The next message by every word of the replay: what is not handed out as it lies.
-fn next_by_all(replay: &mut [i64; 27], rec: &[i64; 10], log: &[u8], buffer: &mut [u8]) -> NextReply
+fn next_by_all(replay: &mut [i64; 27], rec: &[i64; 12], log: &[u8], buffer: &mut [u8]) -> NextReply
     ensures { λ r. ⌜ r ≡ nextReply (nextOf (recordIn (now (rec .entry))) (now (log .entry)) (stateOf (replayIn (now (replay .entry))) (now (buffer .entry))) .answer) ⌝ }
     ensures { λ _. ⌜ now (replay .exit) ≡ replayOut (now (replay .entry)) (nextOf (recordIn (now (rec .entry))) (now (log .entry)) (stateOf (replayIn (now (replay .entry))) (now (buffer .entry))) .next) ⌝ }
     ensures { λ _. ⌜ now (buffer .exit) ≡ nextOf (recordIn (now (rec .entry))) (now (log .entry)) (stateOf (replayIn (now (replay .entry))) (now (buffer .entry))) .next .buffer ⌝ }
@@ -76,7 +76,7 @@ fn next_by_all(replay: &mut [i64; 27], rec: &[i64; 10], log: &[u8], buffer: &mut
 #[no_mangle]
 pub extern "C" fn logbuffer_replay_next(
     replay: &mut [i64; 27],
-    rec: &[i64; 10],
+    rec: &[i64; 12],
     log: &[u8],
     buffer: &mut [u8],
 ) -> NextReply
@@ -88,7 +88,8 @@ pub extern "C" fn logbuffer_replay_next(
         return next_by_all(replay, rec, log, buffer);
     }
     let image = words::replay_image(replay);
-    let n = frames::next_whole(image, words::record_in(rec), log, buffer.len());
+    let whole = frames::next_whole(image, words::record_in(rec), log, buffer.len());
+    let n = whole.length;
     if n == 0 {
         return next_by_all(replay, rec, log, buffer);
     }
@@ -98,7 +99,7 @@ pub extern "C" fn logbuffer_replay_next(
     NextReply {
         code: 0,
         place: 1,
-        start: p + HEADER_LENGTH,
+        start: whole.index + HEADER_LENGTH,
         length: n - HEADER_LENGTH,
     }
 }
@@ -106,7 +107,7 @@ pub extern "C" fn logbuffer_replay_next(
 #[no_mangle]
 pub extern "C" fn logbuffer_replay_next_batch(
     replay: &mut [i64; 27],
-    rec: &[i64; 10],
+    rec: &[i64; 12],
     log: &[u8],
     buffer: &mut [u8],
     numbers: &mut [usize],
@@ -126,13 +127,14 @@ pub extern "C" fn logbuffer_replay_next_batch(
 
 #[no_mangle]
 pub extern "C" fn logbuffer_replay_count(
-    rec: &[i64; 10],
+    rec: &[i64; 12],
     log: &[u8],
     buffer: &mut [u8],
+    position: i64,
     session_id: i32,
 ) -> CountReply
-    ensures { λ r. ⌜ r ≡ countReply (countOf (recordIn (now (rec .entry))) (now (log .entry)) «session_id» (now (buffer .entry)) .answer) ⌝ }
-    ensures { λ _. ⌜ now (buffer .exit) ≡ countOf (recordIn (now (rec .entry))) (now (log .entry)) «session_id» (now (buffer .entry)) .buffer ⌝ }
+    ensures { λ r. ⌜ r ≡ countReply (countOf (recordIn (now (rec .entry))) (now (log .entry)) position «session_id» (now (buffer .entry)) .answer) ⌝ }
+    ensures { λ _. ⌜ now (buffer .exit) ≡ countOf (recordIn (now (rec .entry))) (now (log .entry)) position «session_id» (now (buffer .entry)) .buffer ⌝ }
 {
-    replies::counted(replay::count(words::record_in(rec), log, buffer, session_id))
+    replies::counted(replay::count(words::record_in(rec), log, buffer, position, session_id))
 }

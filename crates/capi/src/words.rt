@@ -7,7 +7,7 @@ ghost use mir.Syntax.{w64};
 ghost use mir.Val.{SFits};
 ghost use Rattle.logbuffer.specs.Assembler.{sessionsOf};
 ghost use Rattle.image.specs.Images.{stateOf};
-ghost use Rattle.capi.specs.Words.{at, lowOf, highOf, pairOf, flagOf, countOut, recordIn, recordOut, limitOut, closedOut, recordFilled, imageAt, imageIn, imageOut, shutBits, shutOut, imageFilled, idsFrom, heldFrom, idsTo, heldTo, assemblerIn, assemblerFrom, assemblerTo, assemblerOut, replayIn, claimWords};
+ghost use Rattle.capi.specs.Words.{at, lowOf, highOf, pairOf, flagOf, bitOf, bitNumber, countOut, recordIn, marksWord, marksOut, slowestOut, recordOut, limitOut, closedOut, recordFilled, imageAt, imageIn, imageOut, shutBits, shutOut, imageFilled, idsFrom, heldFrom, idsTo, heldTo, assemblerIn, assemblerFrom, assemblerTo, assemblerOut, replayIn, claimWords};
 use image::Image;
 use logbuffer::cast;
 use logbuffer::fragment_assembler::FragmentAssembler;
@@ -43,11 +43,28 @@ fn flag(bits: usize) -> bool
     bits % 256 != 0
 }
 
+// The lowest bit.
+fn bit(bits: usize) -> bool
+    ensures { λ r. ⌜ r ≡ bitOf bits ⌝ }
+{
+    bits % 2 != 0
+}
+
+fn bit_number(mark: bool) -> usize
+    ensures { λ r. ⌜ r ≡ bitNumber mark ⌝ }
+{
+    if mark {
+        return 1;
+    }
+    0
+}
+
 // ---- the record
 
-pub(crate) fn record_in(w: &[i64; 10]) -> LogRecord
+pub(crate) fn record_in(w: &[i64; 12]) -> LogRecord
     ensures { λ r. ⌜ r ≡ recordIn (now (w .entry)) ⌝ }
 {
+    let marks = cast::long(w[11]);
     LogRecord {
         tails: [w[0], w[1], w[2]],
         active_term_count: low(w[3]),
@@ -60,11 +77,40 @@ pub(crate) fn record_in(w: &[i64; 10]) -> LogRecord
         publication_limit: w[7],
         end_of_stream_position: w[8],
         is_closed: flag(cast::long(w[9])),
+        slowest_position: w[10],
+        is_cleared: [bit(marks), bit(marks / 2), bit(marks / 4)],
     }
 }
 
+// The marks in their three bits, beside bits that are kept.
+fn marks_word(bits: usize, next: LogRecord) -> i64
+    ensures { λ r. ⌜ r ≡ marksWord bits next ⌝ }
+{
+    let marks = next.is_cleared;
+    let first = bit_number(marks[0]);
+    let second = bit_number(marks[1]);
+    let third = bit_number(marks[2]);
+    cast::to_i64(bits / 8 * 8 + (first + 2 * second + 4 * third))
+}
+
+// After a clearing.
+pub(crate) fn marks_out(w: &mut [i64; 12], next: LogRecord)
+    ensures { λ _. ⌜ now (w .exit) ≡ marksOut (now (w .entry)) next ⌝ }
+{
+    let bits = cast::long(w[11]);
+    w[11] = marks_word(bits, next);
+}
+
+// After the slowest reader's rise.
+pub(crate) fn slowest_out(w: &mut [i64; 12], next: LogRecord)
+    ensures { λ _. ⌜ now (w .exit) ≡ slowestOut (now (w .entry)) next ⌝ }
+{
+    let position = next.slowest_position;
+    w[10] = position;
+}
+
 // After an append or a rotation.
-pub(crate) fn record_out(w: &mut [i64; 10], next: LogRecord)
+pub(crate) fn record_out(w: &mut [i64; 12], next: LogRecord)
     ensures { λ _. ⌜ now (w .exit) ≡ recordOut (now (w .entry)) next ⌝ }
 {
     let tails = next.tails;
@@ -72,10 +118,11 @@ pub(crate) fn record_out(w: &mut [i64; 10], next: LogRecord)
     w[1] = tails[1];
     w[2] = tails[2];
     w[3] = pair(next.active_term_count, next.initial_term_id);
+    marks_out(w, next);
 }
 
 // After a limit change.
-pub(crate) fn limit_out(w: &mut [i64; 10], next: LogRecord)
+pub(crate) fn limit_out(w: &mut [i64; 12], next: LogRecord)
     ensures { λ _. ⌜ now (w .exit) ≡ limitOut (now (w .entry)) next ⌝ }
 {
     let limit = next.publication_limit;
@@ -83,7 +130,7 @@ pub(crate) fn limit_out(w: &mut [i64; 10], next: LogRecord)
 }
 
 // After closing: a record that was closed, or that is not, stays.
-pub(crate) fn closed_out(w: &mut [i64; 10], next: LogRecord)
+pub(crate) fn closed_out(w: &mut [i64; 12], next: LogRecord)
     ensures { λ _. ⌜ now (w .exit) ≡ closedOut (now (w .entry)) next ⌝ }
 {
     let bits = cast::long(w[9]);
@@ -96,7 +143,7 @@ pub(crate) fn closed_out(w: &mut [i64; 10], next: LogRecord)
 }
 
 // Every word of a record that is not closed, the gaps 0.
-pub(crate) fn record_filled(w: &mut [i64; 10], next: LogRecord)
+pub(crate) fn record_filled(w: &mut [i64; 12], next: LogRecord)
     ensures { λ _. ⌜ now (w .exit) ≡ recordFilled (now (w .entry)) next ⌝ }
 {
     record_out(w, next);
@@ -108,6 +155,9 @@ pub(crate) fn record_filled(w: &mut [i64; 10], next: LogRecord)
     let end = next.end_of_stream_position;
     w[8] = end;
     w[9] = 0;
+    let position = next.slowest_position;
+    w[10] = position;
+    w[11] = marks_word(0, next);
 }
 
 // ---- an image

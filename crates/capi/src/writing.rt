@@ -5,8 +5,8 @@ ghost use Rattle.model.specs.Parts.{locatedNumber};
 ghost use Rattle.model.specs.LogBufferDescriptor.{rotateLogOf};
 ghost use Rattle.model.specs.BufferClaim.{locateOf, writeOf, writeBytes, commitOf, commitBytes, abortBytes};
 ghost use Rattle.model.specs.TermAppender.{unfragmentedReply, unfragmentedBytes, fragmentedReply, fragmentedBytes, claimAppendReply, claimAppendBytes};
-ghost use Rattle.model.specs.Publication.{openOf, openBytes, limitOf, closeOf, positionCall, limitCall, windowCall, offerOf, offerBytes, claimOf, claimBytes};
-ghost use Rattle.capi.specs.Words.{recordIn, recordOut, limitOut, closedOut, openedOut};
+ghost use Rattle.model.specs.Publication.{openOf, openBytes, limitOf, closeOf, raiseOf, clearOf, clearBytes, positionCall, limitCall, windowCall, offerOf, offerBytes, claimOf, claimBytes};
+ghost use Rattle.capi.specs.Words.{recordIn, recordOut, limitOut, closedOut, slowestOut, marksOut, openedOut};
 ghost use Rattle.capi.specs.Replies.{outcomeNumber, positionReply, offerReply, claimReply, spanReply, appendReply, appendClaimReply};
 use crate::replies;
 use crate::replies::AppendClaimReply;
@@ -22,13 +22,14 @@ use logbuffer::log_buffer_descriptor;
 use logbuffer::term_appender;
 use model::Claim;
 use model::Outcome;
+use publication::clearing;
 use publication::opening;
 use publication::positions;
 
 // Refused, it leaves record and log as they were.
 #[no_mangle]
 pub extern "C" fn logbuffer_open(
-    rec: &mut [i64; 10],
+    rec: &mut [i64; 12],
     log: &mut [u8],
     term_length: i32,
     mtu_length: i32,
@@ -60,7 +61,7 @@ pub extern "C" fn logbuffer_open(
 }
 
 #[no_mangle]
-pub extern "C" fn logbuffer_set_publication_limit(rec: &mut [i64; 10], limit: i64) -> i32
+pub extern "C" fn logbuffer_set_publication_limit(rec: &mut [i64; 12], limit: i64) -> i32
     ensures { λ r. ⌜ r ≡ outcomeNumber (limitOf (recordIn (now (rec .entry))) limit .answer) ⌝ }
     ensures { λ _. ⌜ now (rec .exit) ≡ limitOut (now (rec .entry)) (limitOf (recordIn (now (rec .entry))) limit .next) ⌝ }
 {
@@ -72,7 +73,7 @@ pub extern "C" fn logbuffer_set_publication_limit(rec: &mut [i64; 10], limit: i6
 }
 
 #[no_mangle]
-pub extern "C" fn logbuffer_close(rec: &mut [i64; 10]) -> i32
+pub extern "C" fn logbuffer_close(rec: &mut [i64; 12]) -> i32
     ensures { λ r. ⌜ r ≡ outcomeNumber (closeOf (recordIn (now (rec .entry))) .answer) ⌝ }
     ensures { λ _. ⌜ now (rec .exit) ≡ closedOut (now (rec .entry)) (closeOf (recordIn (now (rec .entry))) .next) ⌝ }
 {
@@ -84,7 +85,36 @@ pub extern "C" fn logbuffer_close(rec: &mut [i64; 10]) -> i32
 }
 
 #[no_mangle]
-pub extern "C" fn logbuffer_rotate_log(rec: &mut [i64; 10], count: i32, term_id: i32) -> i32
+pub extern "C" fn logbuffer_set_slowest_position(rec: &mut [i64; 12], position: i64) -> i32
+    ensures { λ r. ⌜ r ≡ outcomeNumber (raiseOf (recordIn (now (rec .entry))) position .answer) ⌝ }
+    ensures { λ _. ⌜ now (rec .exit) ≡ slowestOut (now (rec .entry)) (raiseOf (recordIn (now (rec .entry))) position .next) ⌝ }
+{
+    let o = clearing::set_slowest_position(words::record_in(rec), position);
+    let next = o.next;
+    let answer = o.answer;
+    words::slowest_out(rec, next);
+    replies::outcome_code(answer)
+}
+
+#[no_mangle]
+pub extern "C" fn logbuffer_clear_partition(
+    rec: &mut [i64; 12],
+    log: &mut [u8],
+    partition: i32,
+) -> i32
+    ensures { λ r. ⌜ r ≡ outcomeNumber (clearOf (recordIn (now (rec .entry))) (now (log .entry)) partition .answer) ⌝ }
+    ensures { λ _. ⌜ now (rec .exit) ≡ marksOut (now (rec .entry)) (clearOf (recordIn (now (rec .entry))) (now (log .entry)) partition .next) ⌝ }
+    ensures { λ _. ⌜ now (log .exit) ≡ clearBytes (recordIn (now (rec .entry))) (now (log .entry)) partition ⌝ }
+{
+    let o = clearing::clear_partition(words::record_in(rec), log, partition);
+    let next = o.next;
+    let answer = o.answer;
+    words::marks_out(rec, next);
+    replies::outcome_code(answer)
+}
+
+#[no_mangle]
+pub extern "C" fn logbuffer_rotate_log(rec: &mut [i64; 12], count: i32, term_id: i32) -> i32
     ensures { λ r. ⌜ r ≡ outcomeNumber (rotateLogOf (recordIn (now (rec .entry))) count «term_id» .answer) ⌝ }
     ensures { λ _. ⌜ now (rec .exit) ≡ recordOut (now (rec .entry)) (rotateLogOf (recordIn (now (rec .entry))) count «term_id» .next) ⌝ }
 {
@@ -96,21 +126,21 @@ pub extern "C" fn logbuffer_rotate_log(rec: &mut [i64; 10], count: i32, term_id:
 }
 
 #[no_mangle]
-pub extern "C" fn logbuffer_position(rec: &[i64; 10]) -> PositionReply
+pub extern "C" fn logbuffer_position(rec: &[i64; 12]) -> PositionReply
     ensures { λ r. ⌜ r ≡ positionReply (positionCall (recordIn (now (rec .entry)))) ⌝ }
 {
     replies::positioned(positions::position(words::record_in(rec)))
 }
 
 #[no_mangle]
-pub extern "C" fn logbuffer_publication_limit(rec: &[i64; 10]) -> PositionReply
+pub extern "C" fn logbuffer_publication_limit(rec: &[i64; 12]) -> PositionReply
     ensures { λ r. ⌜ r ≡ positionReply (limitCall (recordIn (now (rec .entry)))) ⌝ }
 {
     replies::positioned(positions::publication_limit(words::record_in(rec)))
 }
 
 #[no_mangle]
-pub extern "C" fn logbuffer_available_window(rec: &[i64; 10]) -> PositionReply
+pub extern "C" fn logbuffer_available_window(rec: &[i64; 12]) -> PositionReply
     ensures { λ r. ⌜ r ≡ positionReply (windowCall (recordIn (now (rec .entry)))) ⌝ }
 {
     replies::positioned(positions::available_window(words::record_in(rec)))
@@ -118,7 +148,7 @@ pub extern "C" fn logbuffer_available_window(rec: &[i64; 10]) -> PositionReply
 
 #[no_mangle]
 pub extern "C" fn logbuffer_offer(
-    rec: &mut [i64; 10],
+    rec: &mut [i64; 12],
     log: &mut [u8],
     message: &[u8],
     reserved_value: i64,
@@ -137,7 +167,7 @@ pub extern "C" fn logbuffer_offer(
 
 #[no_mangle]
 pub extern "C" fn logbuffer_try_claim(
-    rec: &mut [i64; 10],
+    rec: &mut [i64; 12],
     log: &mut [u8],
     length: i32,
 ) -> ClaimReply
@@ -154,14 +184,14 @@ pub extern "C" fn logbuffer_try_claim(
 }
 
 #[no_mangle]
-pub extern "C" fn logbuffer_claim_body(rec: &[i64; 10], log: &[u8], claim: Claim) -> SpanReply
+pub extern "C" fn logbuffer_claim_body(rec: &[i64; 12], log: &[u8], claim: Claim) -> SpanReply
     ensures { λ r. ⌜ r ≡ spanReply (locateOf (recordIn (now (rec .entry))) (now (log .entry)) claim) ⌝ }
 {
     replies::located(buffer_claim::locate(words::record_in(rec), log, claim))
 }
 
 #[no_mangle]
-pub extern "C" fn logbuffer_claim_body_number(rec: &[i64; 10], log: &[u8], claim: Claim) -> i32
+pub extern "C" fn logbuffer_claim_body_number(rec: &[i64; 12], log: &[u8], claim: Claim) -> i32
     ensures { λ r. ⌜ r ≡ locatedNumber (locateOf (recordIn (now (rec .entry))) (now (log .entry)) claim) ⌝ }
 {
     buffer_claim::body_number(words::record_in(rec), log, claim)
@@ -169,7 +199,7 @@ pub extern "C" fn logbuffer_claim_body_number(rec: &[i64; 10], log: &[u8], claim
 
 #[no_mangle]
 pub extern "C" fn logbuffer_claim_write(
-    rec: &[i64; 10],
+    rec: &[i64; 12],
     log: &mut [u8],
     claim: Claim,
     bytes: &[u8],
@@ -181,7 +211,7 @@ pub extern "C" fn logbuffer_claim_write(
 }
 
 #[no_mangle]
-pub extern "C" fn logbuffer_commit(rec: &[i64; 10], log: &mut [u8], claim: Claim) -> i32
+pub extern "C" fn logbuffer_commit(rec: &[i64; 12], log: &mut [u8], claim: Claim) -> i32
     ensures { λ r. ⌜ r ≡ outcomeNumber (commitOf (recordIn (now (rec .entry))) (now (log .entry)) claim) ⌝ }
     ensures { λ _. ⌜ now (log .exit) ≡ commitBytes (recordIn (now (rec .entry))) (now (log .entry)) claim ⌝ }
 {
@@ -189,7 +219,7 @@ pub extern "C" fn logbuffer_commit(rec: &[i64; 10], log: &mut [u8], claim: Claim
 }
 
 #[no_mangle]
-pub extern "C" fn logbuffer_abort(rec: &[i64; 10], log: &mut [u8], claim: Claim) -> i32
+pub extern "C" fn logbuffer_abort(rec: &[i64; 12], log: &mut [u8], claim: Claim) -> i32
     ensures { λ r. ⌜ r ≡ outcomeNumber (commitOf (recordIn (now (rec .entry))) (now (log .entry)) claim) ⌝ }
     ensures { λ _. ⌜ now (log .exit) ≡ abortBytes (recordIn (now (rec .entry))) (now (log .entry)) claim ⌝ }
 {
@@ -198,7 +228,7 @@ pub extern "C" fn logbuffer_abort(rec: &[i64; 10], log: &mut [u8], claim: Claim)
 
 #[no_mangle]
 pub extern "C" fn logbuffer_append_unfragmented_message(
-    rec: &mut [i64; 10],
+    rec: &mut [i64; 12],
     log: &mut [u8],
     partition: i32,
     message: &[u8],
@@ -225,7 +255,7 @@ pub extern "C" fn logbuffer_append_unfragmented_message(
 
 #[no_mangle]
 pub extern "C" fn logbuffer_append_fragmented_message(
-    rec: &mut [i64; 10],
+    rec: &mut [i64; 12],
     log: &mut [u8],
     partition: i32,
     message: &[u8],
@@ -254,7 +284,7 @@ pub extern "C" fn logbuffer_append_fragmented_message(
 
 #[no_mangle]
 pub extern "C" fn logbuffer_append_claim(
-    rec: &mut [i64; 10],
+    rec: &mut [i64; 12],
     log: &mut [u8],
     partition: i32,
     length: i32,

@@ -285,6 +285,11 @@ module _ (log : List ℕ) (full : length log ≡ 196608) where
   unfolding offerOf readingOf soundRecord sound rawOf pressed afterClosed beforeAppend need sizes cut cutFrom zeros ones onesIn onTrip
   cleared-rotates = rw full
 
+  -- and the mark goes
+  cleared-turns : offerOf (thirdAt 65536 true) log (bytes 0) .next .«is_cleared» ≡ false ∷ false ∷ false ∷ []
+  unfolding offerOf readingOf soundRecord sound rawOf pressed afterClosed beforeAppend need sizes cut cutFrom zeros ones onesIn onTrip appendNext changed noted withMark withTail withCount nextTail rotated
+  cleared-turns = rw full
+
   clear-marks : clearOf (thirdAt 65536 false) log (pos 0) ≡ record { next = thirdAt 65536 true; answer = Done }
   unfolding clearOf clearVerdict notDue noted withMark readingOf soundRecord sound rawOf ones onesIn
   clear-marks = rw full

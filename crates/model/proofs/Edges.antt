@@ -8,19 +8,90 @@ use native.Mathlib.Omega.{arith}
 use lib.ListN.{length, replicate}
 use lib.IntN.{ℤ, pos, negsuc}
 use lib.Count.{ones, onesIn, ones-cat}
+use Rattle.model.specs.Replay.{isBelow}
 use Rattle.model.specs.declared.LogRecord.{LogRecord}
 use Rattle.model.specs.Bytes.{le4, u16, u32}
 use Rattle.model.specs.Answers.{Told, outcomeTold, frameLengthTold, lengthReadTold, scannedTold, gapTold, positionedTold, appendedTold, readTold, polledTold, blockTold, endTold, assembledTold}
 use Rattle.model.specs.FrameDescriptor.{frameAt, frameLength, unsoundFrame}
 use Rattle.model.specs.LogBufferDescriptor.{reading, readingOf, soundRecord, sound, changed, withTail, rawOf, termOffset}
 use Rattle.model.specs.TermAppender.{course, unfragmentedCourse, unfragmentedReply}
-use Rattle.model.specs.Publication.{noRecord, openRecord, windowCall}
+use Rattle.model.specs.Publication.{noRecord, openRecord, windowCall, raiseVerdict, raiseOf}
 use Rattle.model.specs.TermReader.{walk, goodActions, readVerdict, readOf, headerVerdict, lengthCall}
 use Rattle.model.specs.TermScan.{scanFrom, scanVerdict, scanJudge, scanOf, rebuild, gapLength, gapJudge, gapOf}
 use Rattle.model.specs.Image.{Image, newImage, readable, reachable, pollVerdict, pollOf, controlledPollOf, blockPollOf, setPositionOf, endOfStreamOf, closeImageOf}
 use Rattle.model.specs.declared.Joining.the-variants.{Join, Complete}
 use Rattle.model.specs.FragmentAssembler.{Sessions, fresh, placeIn, joining, assembleVerdict, assembleOf}
 use Rattle.model.proofs.Cases.{recordAt, tailsAt, tailAt, is}
+
+-- ---- the slowest reader (R-4 of document 02): row 2 at its edges, and its rise
+
+abbrev slowestAt : ℤ → LogRecord
+slowestAt p =
+    record {
+      tails = tailsAt 64;
+      «active_term_count» = pos 0;
+      «initial_term_id» = pos 7;
+      «term_length» = pos 65536;
+      «mtu_length» = pos 96;
+      «session_id» = pos 5;
+      «stream_id» = pos 6;
+      «is_connected» = pos 1;
+      «publication_limit» = pos 0;
+      «end_of_stream_position» = pos 9223372036854775807;
+      «is_closed» = true;
+      «slowest_position» = p;
+      «is_cleared» = false ∷ true ∷ true ∷ [];
+    }
+
+abbrev slowest-sounds : ℤ → Bool
+slowest-sounds p = soundRecord (reading (slowestAt p))
+
+slowest-highest : slowest-sounds (pos 140737488355328) ≡ true
+unfolding readingOf soundRecord rawOf ones onesIn
+slowest-highest = refl
+
+slowest-above : slowest-sounds (pos 140737488355360) ≡ false
+unfolding readingOf soundRecord rawOf ones onesIn
+slowest-above = refl
+
+slowest-between : slowest-sounds (pos 16) ≡ false
+unfolding readingOf soundRecord rawOf ones onesIn
+slowest-between = refl
+
+slowest-below : slowest-sounds (negsuc 31) ≡ false
+unfolding readingOf soundRecord rawOf ones onesIn
+slowest-below = refl
+
+-- it rises, also on a closed publication; the same again is accepted
+raised : outcomeTold (raiseOf (slowestAt (pos 64)) (pos 96) .answer) ≡ is (pos 0) []
+unfolding raiseOf raiseVerdict readingOf soundRecord rawOf ones onesIn
+raised = refl
+
+raised-again : outcomeTold (raiseOf (slowestAt (pos 64)) (pos 64) .answer) ≡ is (pos 0) []
+unfolding raiseOf raiseVerdict readingOf soundRecord rawOf ones onesIn
+raised-again = refl
+
+raised-lower : outcomeTold (raiseOf (slowestAt (pos 64)) (pos 32) .answer) ≡ is (pos 15) []
+unfolding raiseOf raiseVerdict readingOf soundRecord rawOf ones onesIn
+raised-lower = refl
+
+-- row 3 comes before 15, and row 2, of the record as it stands, before row 3
+raised-off : outcomeTold (raiseOf (slowestAt (pos 64)) (pos 16) .answer) ≡ is (pos 3) []
+unfolding raiseOf raiseVerdict readingOf soundRecord rawOf ones onesIn
+raised-off = refl
+
+raised-unsound : outcomeTold (raiseOf (slowestAt (pos 16)) (pos 16) .answer) ≡ is (pos 2) []
+unfolding raiseOf raiseVerdict readingOf soundRecord rawOf ones onesIn
+raised-unsound = refl
+
+-- a replay goes on below the publisher's position, here 64, and not at it
+goes-below : isBelow (slowestAt (pos 0)) (pos 32) ≡ true
+unfolding readingOf rawOf
+goes-below = refl
+
+stops-at : isBelow (slowestAt (pos 0)) (pos 64) ≡ false
+unfolding readingOf rawOf
+stops-at = refl
 
 -- ---- row 2, each range at its edge and past it
 
