@@ -70,10 +70,14 @@ fn mixed(rec: LogRecord, log: &mut [u8], message: &[u8]) -> LogRecord {
 }
 
 // Seven of the longest fit the rest of the term; the eighth trips, and leaves padding.
+fn rest(rec: LogRecord, log: &mut [u8], message: &[u8]) -> LogRecord {
+    let a = longest(rec, log, message);
+    longest(a, log, message)
+}
+
 pub fn fill(log: &mut [u8]) -> LogRecord {
     let message = [5u8; 8192];
     let fresh = fresh(log);
     let a = mixed(fresh, log, &message);
-    let b = longest(a, log, &message);
-    longest(b, log, &message)
+    rest(a, log, &message)
 }
