@@ -118,10 +118,13 @@ marks-back z f m0 m1 m2 =
     let e = bits64 x s in
     let e0 : x % 2 ≡ bitNumber m0 = omega (arith, bit-low m0, bit-low m1, bit-low m2) in
     let e1 : x / 2 % 2 ≡ bitNumber m1 = omega (arith, bit-low m0, bit-low m1, bit-low m2) in
-    let e2 : x / 4 % 2 ≡ bitNumber m2 = omega (arith, bit-low m0, bit-low m1, bit-low m2) in
-    (ap bitOf e ∙ ap (λ (y : ℕ). not (eqb y 0)) e0 ∙ bit-back m0,
-    (ap (λ (y : ℕ). bitOf (y / 2)) e ∙ ap (λ (y : ℕ). not (eqb y 0)) e1 ∙ bit-back m1,
-    ap (λ (y : ℕ). bitOf (y / 4)) e ∙ ap (λ (y : ℕ). not (eqb y 0)) e2 ∙ bit-back m2))
+    let e2 : x / 4 % 2 ≡ bitNumber m2 = omega (arith, bit-low m0, bit-low m1, bit-low m2) in (
+      ap bitOf e ∙ ap (λ (y : ℕ). not (eqb y 0)) e0 ∙ bit-back m0,
+      (
+        ap (λ (y : ℕ). bitOf (y / 2)) e ∙ ap (λ (y : ℕ). not (eqb y 0)) e1 ∙ bit-back m1,
+        ap (λ (y : ℕ). bitOf (y / 4)) e ∙ ap (λ (y : ℕ). not (eqb y 0)) e2 ∙ bit-back m2,
+      ),
+    )
 
 -- a record with other tails, count and marks
 abbrev after : LogRecord → List ℤ → ℤ → List Bool → LogRecord

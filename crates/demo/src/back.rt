@@ -119,7 +119,7 @@ pub fn stopped(replay: Replay, rec: LogRecord, log: &[u8]) {
 
 pub fn count(rec: LogRecord, log: &[u8]) {
     let mut buffer = [0u8; 131072];
-    match replay::count(rec, log, &mut buffer, rec.session_id) {
+    match replay::count(rec, log, &mut buffer, 0, rec.session_id) {
         Counted::Counts(messages, bytes) => {
             tell::number(messages);
             tell::put(b" messages, ");

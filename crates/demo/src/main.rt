@@ -1,6 +1,7 @@
 // The log at work: two writers catalogue their finds into one log, then a replay reads it back. Each call is printed with its answer.
-// writers.rt makes the calls, back.rt replays, tell.rt has the words; docs/GUIDE.md explains terms, frames and positions.
+// writers.rt makes the calls, back.rt replays, season.rt goes on for twelve terms, tell.rt has the words; docs/GUIDE.md explains terms, frames and positions.
 mod back;
+mod season;
 mod tell;
 mod writers;
 
@@ -83,7 +84,7 @@ fn full_term(rec: LogRecord, log: &mut [u8]) -> LogRecord {
 fn read_back(rec: LogRecord, log: &mut [u8], open: Claimed) {
     let mut buffer = [0u8; 131072];
     tell::heading(b"The replay, from position 0, each message with the position behind it:");
-    let a = back::read_on(Replay::new(rec.session_id), rec, log, &mut buffer);
+    let a = back::read_on(Replay::new(0, rec.session_id), rec, log, &mut buffer);
     back::stopped(a, rec, log);
     writers::write(b'A', rec, log, open, b"lamp, clay, trench A");
     writers::commit(b'A', rec, log, open);
@@ -117,4 +118,6 @@ fn main() {
     let c = refused_calls(aborted_claim(b, &mut log), &mut log);
     let d = next_photos(first_photos(c, &mut log), &mut log);
     open_claim(full_term(d, &mut log), &mut log);
+    let again = writers::open(&mut log, 65536, 1408);
+    season::run(again, &mut log);
 }

@@ -135,6 +135,10 @@ fn words(error: Error) {
         Error::AssemblyFull => put(
             b"begin frame of a 17th session, or fragments longer together than their part of the buffer",
         ),
+        Error::NotCleared => put(b"the term was full and the next partition is not cleared"),
+        Error::NotDue => put(
+            b"another partition is due next, or the slowest reader may still read this one",
+        ),
         Error::FrameTooShort(place) => at(b"the first frame has a length of 1 to 31", place),
         Error::FramePastTerm(place) => at(b"the first frame runs past its term's end", place),
     }

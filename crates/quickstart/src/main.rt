@@ -60,7 +60,7 @@ fn main() {
     let limited = positions::set_publication_limit(opened.next, 131072);
     let first = request(limited.next, &mut log, b"trench A asks for a block");
     let second = request(first, &mut log, b"trench B asks for a block");
-    let one = replayed(Replay::new(11), second, &log, &mut buffer);
+    let one = replayed(Replay::new(0, 11), second, &log, &mut buffer);
     let two = replayed(one, second, &log, &mut buffer);
     let _end = replayed(two, second, &log, &mut buffer);
 }

@@ -154,6 +154,8 @@ fn record(term_length: i32) -> LogRecord {
         publication_limit: 0,
         end_of_stream_position: 224,
         is_closed: false,
+        slowest_position: 0,
+        is_cleared: [false, true, true],
     }
 }
 

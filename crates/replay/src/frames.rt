@@ -134,7 +134,10 @@ pub fn next_whole(image: Image, rec: LogRecord, log: &[u8], lent: usize) -> Whol
     let p = cast::long(image.position);
     let n = whole_at(log, term, stop_at(v), p);
     if n == 0 {
-        return Whole { index: 0, length: 0 };
+        return Whole {
+            index: 0,
+            length: 0,
+        };
     }
     Whole {
         index: index_at(term, p),

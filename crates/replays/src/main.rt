@@ -164,7 +164,7 @@ fn four(replay: Replay, rec: LogRecord, log: &[u8], buffer: &mut [u8]) -> Replay
 
 fn replay_all(rec: LogRecord, log: &[u8]) {
     let mut buffer = [0u8; 131072];
-    let a = four(Replay::new(11), rec, log, &mut buffer);
+    let a = four(Replay::new(0, 11), rec, log, &mut buffer);
     let b = four(a, rec, log, &mut buffer);
     let c = four(b, rec, log, &mut buffer);
     let _d = four(c, rec, log, &mut buffer);
@@ -172,13 +172,13 @@ fn replay_all(rec: LogRecord, log: &[u8]) {
 
 fn short_buffer(rec: LogRecord, log: &[u8]) {
     let mut buffer = [0u8; 16];
-    let a = next(Replay::new(11), rec, log, &mut buffer);
+    let a = next(Replay::new(0, 11), rec, log, &mut buffer);
     let _b = next(a, rec, log, &mut buffer);
 }
 
 fn count_all(rec: LogRecord, log: &[u8]) {
     let mut buffer = [0u8; 131072];
-    match replay::count(rec, log, &mut buffer, 11) {
+    match replay::count(rec, log, &mut buffer, 0, 11) {
         Counted::Counts(messages, bytes) => {
             io::write_all(1, b"count: messages ");
             io::print_decimal(1, messages as u64);

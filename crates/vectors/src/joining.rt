@@ -150,7 +150,7 @@ fn next(
 }
 
 fn count(v: Vector, input: &[u8], rec: LogRecord, log: &[u8], buffer: &mut [u8]) -> Values {
-    match replay::count(rec, log, buffer, decode::int(v, input, 0)) {
+    match replay::count(rec, log, buffer, 0, decode::int(v, input, 0)) {
         Counted::Counts(messages, bytes) => values::three(
             0,
             values::count(messages),
@@ -176,7 +176,7 @@ fn advance(
 }
 
 fn started(number: i64, session: i32) -> Stepped {
-    Stepped::new(Replay::new(session), values::one(number))
+    Stepped::new(Replay::new(0, session), values::one(number))
 }
 
 pub fn step(

@@ -53,7 +53,7 @@ fn start() -> Course {
         port: Port {
             rec: record::record_of(want),
             assembler: FragmentAssembler::new(),
-            replay: Replay::new(0),
+            replay: Replay::new(0, 0),
         },
         want: want,
         at: 1160,

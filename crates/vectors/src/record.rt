@@ -27,6 +27,7 @@ pub fn fields_of(rec: LogRecord) -> Fields {
     Fields { at: at }
 }
 
+// The vectors know no marks and no slowest reader, as the Rust does not: every partition counts as cleared, so that every trip may rotate.
 pub fn record_of(f: Fields) -> LogRecord {
     LogRecord {
         tails: [f.at[0], f.at[1], f.at[2]],
@@ -40,6 +41,8 @@ pub fn record_of(f: Fields) -> LogRecord {
         publication_limit: f.at[10],
         end_of_stream_position: f.at[11],
         is_closed: f.at[12] != 0,
+        slowest_position: 0,
+        is_cleared: [true, true, true],
     }
 }
 
