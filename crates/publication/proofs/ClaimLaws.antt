@@ -34,6 +34,8 @@ use Rattle.model.specs.Publication.{refuseIf, place, afterClosed, tailRoom, cla
 use Rattle.model.proofs.Append.{claimingReply, claimingBytes, course-says}
 use Rattle.model.proofs.OfferLaws.{Turns, closed-pass, closed-refuse, trip-turns}
 use Rattle.model.proofs.RuleLaws.{refusedRule, tripRule, claim-rule-refused, claim-rule-passed}
+use Rattle.publication.specs.Trips.{nextMarked}
+use Rattle.publication.proofs.OfferBy.{ready-of, marks-kept}
 
 -- ---- the ladder
 
@@ -193,6 +195,16 @@ module _ (r : LogRecord) (log : List ℕ) (v : Reading) (k n g : ℕ) (a : Appen
       let one : (u : Reading) (j : ℕ) → v ≡ u → k ≡ j → a ≡ claimingReply r log j (word len) (u .id) = λ u j eu ej. cc in
       let two : (u : Reading) (j : ℕ) → v ≡ u → k ≡ j → log′ ≡ claimingBytes r log j (word len) (u .id) = λ u j eu ej. cc in
       (ap₂ (λ (x : Reading) (y : AppendClaimReply). after x (isReady r) y) ev (one (reading r) (active r) ev ek) ∙ law .0, two (reading r) (active r) ev ek ∙ law .1)
+
+  -- the marks that it leaves
+  pub claim-ready : nextMarked (a .next) v ≡ isReady r
+  claim-ready = ready-of r (a .next) v (ap (λ (x : AppendClaimReply). x .next .«is_cleared») ea ∙ go (course (readingOf r k) (length log) (space n) g)) ev
+    where
+      go : (x : Course) → claimAppendedBy r (readingOf r k) k n x .next .«is_cleared» ≡ r .«is_cleared»
+      go (Deny e) = refl
+      go Stray = marks-kept r (readingOf r k) k (space n) Stray
+      go Trip = marks-kept r (readingOf r k) k (space n) Trip
+      go Fit = marks-kept r (readingOf r k) k (space n) Fit
 
   -- one that is taken ends in its term
   pub claim-end : (end : ℕ) (claim : Claim) → a .answer ≡ Taken end claim → end ≤ v .term

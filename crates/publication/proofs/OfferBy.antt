@@ -1,35 +1,47 @@
 -- The laws of offers by the numbers that the code has.
 use mathlib.Core.Path.{_≡_, refl, sym, ap, ap₂, _∙_, subst}
+use mathlib.Core.Bool.{Bool, false}
 use mathlib.Core.List.{List}
 use Prim.Native.Nat.{ℕ, _-_, _%_, _≤_}
-use lib.ListN.{length}
+use lib.ListN.{length, getD}
 use lib.IntN.{ℤ}
 use Rattle.model.specs.declared.LogRecord.{LogRecord}
 use Rattle.model.specs.declared.Reading.{Reading}
 use Rattle.model.specs.declared.Error.{Error}
 use Rattle.model.specs.declared.Rule.{Rule}
 use Rattle.model.specs.declared.Verdict.the-variants.{Pass, Refuse}
+use Rattle.model.specs.declared.Course.{Course}
+use Rattle.model.specs.declared.Course.the-variants.{Refuse as Deny, Stray, Trip, Fit}
 use Rattle.model.specs.declared.Offered.the-variants.{Refused as Declined}
 use Rattle.model.specs.declared.Appended.the-variants.{Offset, Tripped}
 use Rattle.model.specs.declared.AppendReply.{AppendReply}
 use Rattle.model.specs.Bytes.{word, long}
-use Rattle.model.specs.LogBufferDescriptor.{readingOf, reading, active, payloadLimit, due, isMarked, isReady}
-use Rattle.model.specs.TermAppender.{need, course}
+use Rattle.model.specs.LogBufferDescriptor.{readingOf, reading, active, payloadLimit, changed, withTail, due, isMarked, isReady}
+use Rattle.model.specs.TermAppender.{need, course, movedBy}
 use Rattle.model.specs.Publication.{beforeAppend, offerOf, offerBytes}
 use Rattle.model.proofs.Append.{appendReply, appendBytes}
 use Rattle.model.proofs.Cut.{need-32}
 use Rattle.model.proofs.OfferLaws.{Turns, after, refused-is, offer-is, end-in, trip-turns}
 use Rattle.model.proofs.RuleLaws.{refusedRule}
+use Rattle.publication.specs.Trips.{nextMarked}
 
 -- the active partition, by the count that was read
 pub active-by : (r : LogRecord) (v : Reading) → v ≡ reading r → v .count % 3 ≡ active r
 unfolding readingOf
 active-by r v e = ap (λ (x : Reading). x .count % 3) e
 
--- whether the partition due next is marked, by it
-pub ready-by : (r : LogRecord) (v : Reading) → v ≡ reading r → isMarked r (due (v .count)) ≡ isReady r
+-- whether the partition due next is marked, in a record with the same marks
+pub ready-of : (r next : LogRecord) (v : Reading) → next .«is_cleared» ≡ r .«is_cleared» → v ≡ reading r → nextMarked next v ≡ isReady r
 unfolding readingOf
-ready-by r v e = ap (λ (x : Reading). isMarked r (due (x .count))) e
+ready-of r next v em ev = ap (λ (l : List Bool). getD l (due (v .count)) false) em ∙ ap (λ (x : Reading). isMarked r (due (x .count))) ev
+
+-- an append leaves the marks as they were
+pub marks-kept : (r : LogRecord) (v : Reading) (k needed : ℕ) (x : Course) → movedBy r v k needed x .«is_cleared» ≡ r .«is_cleared»
+unfolding withTail changed
+marks-kept r v k needed (Deny e) = refl
+marks-kept r v k needed Stray = refl
+marks-kept r v k needed Trip = refl
+marks-kept r v k needed Fit = refl
 
 -- an offer that is refused before its append, with the rule of the refusal
 pub refused-by : (r : LogRecord) (log m : List ℕ) (reserved : ℤ) (e : Error) (x : Rule) → x ≡ refusedRule e → beforeAppend (reading r) (length log) (length m) Pass ≡ Refuse e
@@ -51,6 +63,12 @@ module _ (r : LogRecord) (log m : List ℕ) (v : Reading) (k g : ℕ) (a : Appen
       let one : (u : Reading) (j : ℕ) → v ≡ u → k ≡ j → a ≡ appendReply r log j (payloadLimit u) m (u .id) = λ u j eu ej. cc in
       let two : (u : Reading) (j : ℕ) → v ≡ u → k ≡ j → log′ ≡ appendBytes r log j (payloadLimit u) m (long reserved) (u .id) = λ u j eu ej. cc in
       (ap₂ (λ (x : Reading) (y : AppendReply). after x (isReady r) (length m) y) ev (one (reading r) (active r) ev ek) ∙ law .0, two (reading r) (active r) ev ek ∙ law .1)
+
+  -- the marks that it leaves
+  pub ready-by : nextMarked (a .next) v ≡ isReady r
+  ready-by =
+      let nd = need (v .mtu - 32) (length m) in
+      ready-of r (a .next) v (ap (λ (x : AppendReply). x .next .«is_cleared») ea ∙ marks-kept r (readingOf r k) k nd (course (readingOf r k) (length log) nd g)) ev
 
   -- one that ends at an offset ends in its term
   pub end-by : (end : ℕ) → a .answer ≡ Offset end → end ≤ v .term

@@ -11,6 +11,7 @@ ghost use Rattle.model.proofs.Sound.{Bounds};
 ghost use Rattle.model.proofs.Append.{appendReply, appendBytes, claimingReply, claimingBytes};
 ghost use Rattle.model.proofs.OfferLaws.{Turns};
 ghost use Rattle.model.proofs.RuleLaws.{tripRule};
+ghost use Rattle.publication.specs.Trips.{nextMarked};
 use logbuffer::cast;
 use logbuffer::data_frame_header::HEADER_LENGTH;
 use logbuffer::log_buffer_descriptor;
@@ -60,18 +61,11 @@ fn own_term_id(rec: LogRecord, k: usize) -> i32
     log_buffer_descriptor::term_id(rec.tails[2])
 }
 
-// After a trip: 7, 12, 19 unless the next partition is `ready`, or rotated and 6. `next` is the record with the tail moved; its count and term id
-// are handed to the rotation. The active term begins at `begin`.
-fn after_trip(
-    next: LogRecord,
-    v: Reading,
-    ready: bool,
-    begin: usize,
-    count: i32,
-    term_id: i32,
-) -> Trip
+// After a trip: 7, 12, 19 where the next partition is not marked, or rotated and 6. `next` is the record with the tail moved; its count and term
+// id are handed to the rotation. The active term begins at `begin`.
+fn after_trip(next: LogRecord, v: Reading, begin: usize, count: i32, term_id: i32) -> Trip
     requires { ⌜ Bounds v × ((begin ≡ v .count * v .term) × Turns next v count «term_id») ⌝ }
-    ensures { λ r. ⌜ (r .next ≡ tripNext next v ready) × ((r .error ≡ tripError v ready) × (r .rule ≡ tripRule v ready)) ⌝ }
+    ensures { λ r. ⌜ (r .next ≡ tripNext next v (nextMarked next v)) × ((r .error ≡ tripError v (nextMarked next v)) × (r .rule ≡ tripRule v (nextMarked next v))) ⌝ }
 {
     let term = v.term;
     let active = v.count;
@@ -90,7 +84,7 @@ fn after_trip(
             rule: Rule::LastTerm,
         };
     }
-    if !ready {
+    if !log_buffer_descriptor::is_marked(next, (active + 1) % 3) {
         return Trip {
             next: next,
             error: Error::NotCleared,
@@ -147,8 +141,7 @@ fn offer_on(rec: LogRecord, log: &mut [u8], v: Reading, message: &[u8], reserved
     let Appended::Offset(end) = answer else {
         let Appended::Refused(e) = answer else {
             let term_id = own_term_id(rec, count % 3);
-            let ready = log_buffer_descriptor::is_marked(rec, (count + 1) % 3);
-            let t = after_trip(next, v, ready, begin, rec.active_term_count, term_id);
+            let t = after_trip(next, v, begin, rec.active_term_count, term_id);
             let last = t.next;
             let error = t.error;
             let rule = t.rule;
@@ -227,8 +220,7 @@ fn claim_on(rec: LogRecord, log: &mut [u8], v: Reading, length: i32) -> ClaimRep
     let next = a.next;
     let AppendedClaim::Claimed(end, claim) = answer else {
         let AppendedClaim::Refused(e) = answer else {
-            let ready = log_buffer_descriptor::is_marked(rec, (count + 1) % 3);
-            let t = after_trip(next, v, ready, begin, rec.active_term_count, term_id);
+            let t = after_trip(next, v, begin, rec.active_term_count, term_id);
             let last = t.next;
             let error = t.error;
             let rule = t.rule;

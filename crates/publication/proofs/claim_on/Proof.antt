@@ -29,8 +29,9 @@ use Rattle.model.specs.LogBufferDescriptor.{readingOf, active, isReady, Sound}
 use Rattle.model.specs.Publication.{claimOf, claimBytes}
 use Rattle.model.proofs.Append.{claimingReply, claimingBytes}
 use Rattle.model.proofs.Sound.{sound-true, bounds, begin-most}
-use Rattle.publication.proofs.OfferBy.{active-by, ready-by}
-use Rattle.publication.proofs.ClaimLaws.{Passed, passed, after, afterBy, claim-by, claim-end, claim-turns}
+use Rattle.publication.proofs.OfferBy.{active-by}
+use Rattle.publication.proofs.ClaimLaws.{Passed, passed, after, afterBy, claim-by, claim-ready, claim-end, claim-turns}
+use Rattle.publication.specs.Trips.{nextMarked}
 use borrow.Author.Needs.{needs}
 use Rattle.publication.proofs.claim_on.Statement.{statement}
 use Rattle.publication.proofs.claim_on.Tie as tie
@@ -86,6 +87,11 @@ module _ (c : tie.After-claiming) where
       let a = start .args in
       claim-by (a .rec) (a .log .now) (a .v) k· (word (a .length)) (a .v .id) (c .claiming .result) (part start) (start .pre .0) refl (does .0) (c .claiming .last .1 .0) (a .length) refl (start .pre .1) (does .1)
 
+  ready : nextMarked (c .claiming .result .next) (start .args .v) ≡ isReady (start .args .rec)
+  ready =
+      let a = start .args in
+      claim-ready (a .rec) (a .log .now) (a .v) k· (word (a .length)) (a .v .id) (c .claiming .result) (part start) (start .pre .0) refl (does .0)
+
   ends : (end : ℕ) (x : Claim) → c .claiming .result .answer ≡ Claimed end x → start .args .v .count * start .args .v .term + end < 9223372036854775808
   ends end x h =
       let a = start .args in
@@ -97,24 +103,17 @@ claiming-requires c κs = let s = c .before .before .before .before .before in (
   (omega arith, (subst (λ (n : ℕ). s .args .v .offset + space n ≤ 2147483647) (sym (asked c)) (pass s .room), given-is (c .before .before))),
 )
 
--- whether the partition due next is marked
-marked-is : (c : tie.After-is-marked) → (let s = c .before .before .before .before .before .before .before .before .before .before .before .before in c .is-marked .result ≡ isReady (s .args .rec))
-marked-is c = let s = c .before .before .before .before .before .before .before .before .before .before .before .before in c .is-marked .ensures ∙ ready-by (s .args .rec) (s .args .v) (s .pre .0)
-
-add-is-marked : tie.Need-add-is-marked
-add-is-marked c = omega (arith, so (c .before .before .before .before .before .before .before .before .before .before .before) .count-high)
-
 after-trip-requires : tie.Need-after-trip-requires
 after-trip-requires c κs =
-    let d = c .before .before .before .before .before .before .before in
-    let s = c .before .before .before .before .before .before .before .before .before .before .before .before .before in
+    let d = c .before .before .before .before .before .before in
+    let s = c .before .before .before .before .before .before .before .before .before .before .before .before in
     let a = s .args in
-    let e = neither (d .claiming .result .answer) (c .before .before .before .match .keys2) (c .before .before .match2 .keys2) in
+    let e = neither (d .claiming .result .answer) (c .before .before .match .keys2) (c .before .match2 .keys2) in
     let three : length (a .rec .tails) ≡ 3 = search needs in
     let active-fits : SFits w32 (a .rec .«active_term_count») = search needs in (
       bounds _ _ (so s),
       (
-        c .before .before .before .before .before .before .before .before .before .before .before .begin-position .ensures,
+        c .before .before .before .before .before .before .before .before .before .before .begin-position .ensures,
         claim-turns (a .rec) (a .log .now) (a .v) (a .v .count % 3) (word (a .length)) (a .v .id) (d .claiming .result) (part s) (s .pre .0) refl (does d .0)
             (toZ w32 (ofZ w32 (a .rec .«active_term_count»))) (toZ w32 (ofZ w32 (d .before .before .before .own-term-id .result))) (toZ-ofZ active-fits) (given-is (d .before .before .before)) three e,
       ),
@@ -122,11 +121,11 @@ after-trip-requires c κs =
 
 returns : tie.Need-returns
 returns c =
-    let d = c .before .before .before .before .before .before .before .before .before in
-    let a = c .before .before .before .before .before .before .before .before .before .before .before .before .before .before .before .args in
-    let e = neither (d .claiming .result .answer) (c .before .before .before .before .before .match .keys2) (c .before .before .before .before .match2 .keys2) in (
+    let d = c .before .before .before .before .before .before .before .before in
+    let a = c .before .before .before .before .before .before .before .before .before .before .before .before .before .before .args in
+    let e = neither (d .claiming .result .answer) (c .before .before .before .before .match .keys2) (c .before .before .before .match2 .keys2) in (
       trip-reply _ _ _ _ _ _ (c .before .after-trip .ensures .0) (c .before .after-trip .ensures .1 .0) (c .before .after-trip .ensures .1 .1)
-          ∙ ap (λ (b : Bool). afterBy (a .v) b (d .claiming .result .next) Tripped) (marked-is (c .before .before .before))
+          ∙ ap (λ (b : Bool). afterBy (a .v) b (d .claiming .result .next) Tripped) (ready d)
           ∙ sym (ap (afterBy (a .v) (isReady (a .rec)) (d .claiming .result .next)) e) ∙ law d .0,
       law d .1,
     )
@@ -140,11 +139,11 @@ returns-2 c =
 begin-position-requires : tie.Need-begin-position-requires
 begin-position-requires c κs = let s = c .before in (bounds _ _ (so s), so s .one-bit)
 
-add-t22 : tie.Need-add-t22
-add-t22 c = omega (arith, ends (c .before .before .before .before .before .before) _ _ (c .before .answer .given .1), c .before .before .before .before .before .before .before .before .before .before .begin-position .ensures)
+add-t21 : tie.Need-add-t21
+add-t21 c = omega (arith, ends (c .before .before .before .before .before .before) _ _ (c .before .answer .given .1), c .before .before .before .before .before .before .before .before .before .before .begin-position .ensures)
 
-cast-t28 : tie.Need-cast-t28
-cast-t28 c = record { sfits = omega (arith, ends (c .before .before .before .before .before .before) _ _ (c .before .answer .given .1), c .before .before .before .before .before .before .before .before .before .before .begin-position .ensures) }
+cast-t25 : tie.Need-cast-t25
+cast-t25 c = record { sfits = omega (arith, ends (c .before .before .before .before .before .before) _ _ (c .before .answer .given .1), c .before .before .before .before .before .before .before .before .before .before .begin-position .ensures) }
 
 returns-3 : tie.Need-returns-3
 returns-3 c =
@@ -167,15 +166,13 @@ claim-on-spec =
     claiming-requires
     (search needs)
     (search needs)
-    add-is-marked
-    (search needs)
     after-trip-requires
     (search needs)
     returns
     (search needs)
     (search needs)
     returns-2
-    add-t22
-    cast-t28
+    add-t21
+    cast-t25
     (search needs)
     returns-3)

@@ -27,6 +27,7 @@ use Rattle.model.specs.Publication.{offerOf, offerBytes}
 use Rattle.model.proofs.Sound.{sound-true, bounds, begin-most}
 use Rattle.model.proofs.OfferLaws.{Passed, passed, after, afterBy}
 use Rattle.publication.proofs.OfferBy.{active-by, ready-by, offer-by, end-by, turns-by}
+use Rattle.publication.specs.Trips.{nextMarked}
 use borrow.Author.Needs.{needs}
 use Rattle.publication.proofs.offer_on.Statement.{statement}
 use Rattle.publication.proofs.offer_on.Tie as tie
@@ -63,6 +64,11 @@ module _ (c : tie.After-append-message) where
       offer-by (a .rec) (a .log .now) (a .message .now) (a .v) (a .v .count % 3) (a .v .id) (c .append-message .result) (part start) (start .pre .0) refl (c .append-message .ensures .0)
       (c .append-message .last .1 .0) (a .reserved) (long (toZ w64 (ofZ w64 (a .reserved)))) (ap long (toZ-ofZ (start .fits .reserved))) (start .pre .1) (c .append-message .ensures .1)
 
+  ready : nextMarked (c .append-message .result .next) (start .args .v) ≡ isReady (start .args .rec)
+  ready =
+      let a = start .args in
+      ready-by (a .rec) (a .log .now) (a .message .now) (a .v) (a .v .count % 3) (a .v .id) (c .append-message .result) (part start) (start .pre .0) refl (c .append-message .ensures .0)
+
   ends : (end : ℕ) → c .append-message .result .answer ≡ Offset end → start .args .v .count * start .args .v .term + end < 9223372036854775808
   ends end h =
       let a = start .args in
@@ -85,36 +91,29 @@ given-is c = let s = c .before .before .before .before .before .before .before .
     ap word (toZ-ofZ {w = w32} {z = c .own-term-id .result} (search needs)) ∙ c .own-term-id .ensures
     ∙ ap (λ (n : ℕ). readingOf (s .args .rec) n .id) (part s) ∙ sym (ap (λ (x : Reading). x .id) (s .pre .0))
 
--- whether the partition due next is marked
-marked-is : (c : tie.After-is-marked) → (let s = c .before .before .before .before .before .before .before .before .before .before .before .before in c .is-marked .result ≡ isReady (s .args .rec))
-marked-is c = let s = c .before .before .before .before .before .before .before .before .before .before .before .before in c .is-marked .ensures ∙ ready-by (s .args .rec) (s .args .v) (s .pre .0)
-
-add-is-marked : tie.Need-add-is-marked
-add-is-marked c = omega (arith, so (c .before .before .before .before .before .before .before .before .before .before .before) .count-high)
-
 after-trip-requires : tie.Need-after-trip-requires
 after-trip-requires c κs =
-    let d = c .before .before .before .before .before .before .before .before in
-    let s = c .before .before .before .before .before .before .before .before .before .before .before .before .before in
+    let d = c .before .before .before .before .before .before .before in
+    let s = c .before .before .before .before .before .before .before .before .before .before .before .before in
     let a = s .args in
-    let e = neither (d .append-message .result .answer) (c .before .before .before .before .match .keys2) (c .before .before .before .match2 .keys2) in
+    let e = neither (d .append-message .result .answer) (c .before .before .before .match .keys2) (c .before .before .match2 .keys2) in
     let three : length (a .rec .tails) ≡ 3 = search needs in
     let active-fits : SFits w32 (a .rec .«active_term_count») = search needs in (
       bounds _ _ (so s),
       (
-        c .before .before .before .before .before .before .before .before .before .before .begin-position .ensures,
+        c .before .before .before .before .before .before .before .before .before .begin-position .ensures,
         turns-by (a .rec) (a .log .now) (a .message .now) (a .v) (a .v .count % 3) (a .v .id) (d .append-message .result) (part s) (s .pre .0) refl (d .append-message .ensures .0)
-            (toZ w32 (ofZ w32 (a .rec .«active_term_count»))) (toZ w32 (ofZ w32 (c .before .before .own-term-id .result))) (toZ-ofZ active-fits) (given-is (c .before .before)) three (omega (arith, so s .mtu-32, so s .mtu-low)) e,
+            (toZ w32 (ofZ w32 (a .rec .«active_term_count»))) (toZ w32 (ofZ w32 (c .before .own-term-id .result))) (toZ-ofZ active-fits) (given-is (c .before)) three (omega (arith, so s .mtu-32, so s .mtu-low)) e,
       ),
     )
 
 returns : tie.Need-returns
 returns c =
-    let d = c .before .before .before .before .before .before .before .before .before .before in
-    let a = c .before .before .before .before .before .before .before .before .before .before .before .before .before .before .before .args in
-    let e = neither (d .append-message .result .answer) (c .before .before .before .before .before .before .match .keys2) (c .before .before .before .before .before .match2 .keys2) in (
+    let d = c .before .before .before .before .before .before .before .before .before in
+    let a = c .before .before .before .before .before .before .before .before .before .before .before .before .before .before .args in
+    let e = neither (d .append-message .result .answer) (c .before .before .before .before .before .match .keys2) (c .before .before .before .before .match2 .keys2) in (
       trip-reply _ _ _ _ _ _ (c .before .after-trip .ensures .0) (c .before .after-trip .ensures .1 .0) (c .before .after-trip .ensures .1 .1)
-          ∙ ap (λ (b : Bool). afterBy (a .v) b (length (a .message .now)) (d .append-message .result .next) Tripped) (marked-is (c .before .before .before))
+          ∙ ap (λ (b : Bool). afterBy (a .v) b (length (a .message .now)) (d .append-message .result .next) Tripped) (ready d)
           ∙ sym (ap (afterBy (a .v) (isReady (a .rec)) (length (a .message .now)) (d .append-message .result .next)) e) ∙ law d .0,
       law d .1,
     )
@@ -128,11 +127,11 @@ returns-2 c =
 begin-position-requires : tie.Need-begin-position-requires
 begin-position-requires c κs = let s = c .before .before in (bounds _ _ (so s), so s .one-bit)
 
-add-t23 : tie.Need-add-t23
-add-t23 c = omega (arith, ends (c .before .before .before .before .before .before) _ (c .before .answer .given .1), c .before .before .before .before .before .before .before .before .begin-position .ensures)
+add-t22 : tie.Need-add-t22
+add-t22 c = omega (arith, ends (c .before .before .before .before .before .before) _ (c .before .answer .given .1), c .before .before .before .before .before .before .before .before .begin-position .ensures)
 
-cast-t29 : tie.Need-cast-t29
-cast-t29 c = record { sfits = omega (arith, ends (c .before .before .before .before .before .before) _ (c .before .answer .given .1), c .before .before .before .before .before .before .before .before .begin-position .ensures) }
+cast-t27 : tie.Need-cast-t27
+cast-t27 c = record { sfits = omega (arith, ends (c .before .before .before .before .before .before) _ (c .before .answer .given .1), c .before .before .before .before .before .before .before .before .begin-position .ensures) }
 
 returns-3 : tie.Need-returns-3
 returns-3 c =
@@ -155,16 +154,14 @@ offer-on-spec =
     (search needs)
     (search needs)
     (search needs)
-    add-is-marked
-    (search needs)
     after-trip-requires
     (search needs)
     returns
     (search needs)
     (search needs)
     returns-2
-    add-t23
-    cast-t29
+    add-t22
+    cast-t27
     (search needs)
     (search needs)
     returns-3)
