@@ -1,5 +1,5 @@
 -- Packing again what was unpacked changes no word: the theorems of specs/Theorems.antt that say so.
-use mathlib.Core.Path.{_≡_, refl, ap, ap₂, _∙_}
+use mathlib.Core.Path.{_≡_, refl, sym, ap, ap₂, _∙_}
 use mathlib.Core.Bool.{Bool, true, false, cond, not}
 use Prim.Native.Nat.{ℕ, zero, suc, _+_, _*_, _/_, _%_, _<_}
 use lib.Dec.{eqb}
@@ -71,10 +71,16 @@ bit-same n = go (n % 2) refl
     go (suc zero) e = refl
     go (suc (suc m)) e = absurd (omega arith)
 
+-- a number is its bits and what is behind them
+halves : (n a b c : ℕ) {x y z : ℕ} → x ≡ n % 2 → y ≡ a % 2 → z ≡ b % 2 → n / 2 ≡ a → a / 2 ≡ b → b / 2 ≡ c → c * 8 + (x + 2 * y + 4 * z) ≡ n
+halves n a b c p q r f g h = omega arith
+
 -- the marks read and stored again, beside the bits that are kept
 marks-same : (z : ℤ) → SFits w64 z → (n : ℕ) → long z ≡ n → toZ w64 (n / 8 * 8 + (bitNumber (bitOf n) + 2 * bitNumber (bitOf (n / 2)) + 4 * bitNumber (bitOf (n / 4)))) ≡ z
 marks-same z f n e =
-    let k : n / 8 * 8 + (bitNumber (bitOf n) + 2 * bitNumber (bitOf (n / 2)) + 4 * bitNumber (bitOf (n / 4))) ≡ long z = omega (arith, e, bit-same n, bit-same (n / 2), bit-same (n / 4)) in
+    let a : n / 2 / 2 ≡ n / 4 = omega arith in
+    let b : n / 4 / 2 ≡ n / 8 = omega arith in
+    let k : n / 8 * 8 + (bitNumber (bitOf n) + 2 * bitNumber (bitOf (n / 2)) + 4 * bitNumber (bitOf (n / 4))) ≡ long z = halves n (n / 2) (n / 4) (n / 8) (bit-same n) (bit-same (n / 2)) (bit-same (n / 4)) refl a b ∙ sym e in
     ap (toZ w64) k ∙ toZ-ofZ f
 
 pub record-kept : RecordKept

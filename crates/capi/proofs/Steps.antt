@@ -109,20 +109,27 @@ bit-low false = omega arith
 abbrev stored-marks : ℕ → Bool → Bool → Bool → ℕ
 stored-marks n m0 m1 m2 = n / 8 * 8 + (bitNumber m0 + 2 * bitNumber m1 + 4 * bitNumber m2)
 
+-- a number made of three bits and what is behind them
+bits-of : (q a b c : ℕ) → a ≤ 1 → b ≤ 1 → c ≤ 1 → let x = q * 8 + (a + 2 * b + 4 * c) in (x % 2 ≡ a) × ((x / 2 % 2 ≡ b) × (x / 4 % 2 ≡ c))
+bits-of q a b c f g h =
+    let x = q * 8 + (a + 2 * b + 4 * c) in
+    let d : x / 2 ≡ q * 4 + (b + 2 * c) = omega arith in
+    let e : x / 4 ≡ q * 2 + c = omega arith in
+    (omega arith, (omega (arith, d), omega (arith, e)))
+
 marks-back : (z : ℤ) → SFits w64 z → (m0 m1 m2 : Bool) → let x = long (toZ w64 (stored-marks (long z) m0 m1 m2)) in (bitOf x ≡ m0) × ((bitOf (x / 2) ≡ m1) × (bitOf (x / 4) ≡ m2))
 marks-back z f m0 m1 m2 =
     let b = long-bound z f in
     let n = long z in
+    let h : n / 8 < 2305843009213693952 = omega (arith, b) in
     let x = stored-marks n m0 m1 m2 in
-    let s : x < 18446744073709551616 = omega (arith, b, bit-low m0, bit-low m1, bit-low m2) in
+    let s : x < 18446744073709551616 = omega (arith, h, bit-low m0, bit-low m1, bit-low m2) in
     let e = bits64 x s in
-    let e0 : x % 2 ≡ bitNumber m0 = omega (arith, bit-low m0, bit-low m1, bit-low m2) in
-    let e1 : x / 2 % 2 ≡ bitNumber m1 = omega (arith, bit-low m0, bit-low m1, bit-low m2) in
-    let e2 : x / 4 % 2 ≡ bitNumber m2 = omega (arith, bit-low m0, bit-low m1, bit-low m2) in (
-      ap bitOf e ∙ ap (λ (y : ℕ). not (eqb y 0)) e0 ∙ bit-back m0,
+    let o = bits-of (n / 8) (bitNumber m0) (bitNumber m1) (bitNumber m2) (bit-low m0) (bit-low m1) (bit-low m2) in (
+      ap bitOf e ∙ ap (λ (y : ℕ). not (eqb y 0)) (o .0) ∙ bit-back m0,
       (
-        ap (λ (y : ℕ). bitOf (y / 2)) e ∙ ap (λ (y : ℕ). not (eqb y 0)) e1 ∙ bit-back m1,
-        ap (λ (y : ℕ). bitOf (y / 4)) e ∙ ap (λ (y : ℕ). not (eqb y 0)) e2 ∙ bit-back m2,
+        ap (λ (y : ℕ). bitOf (y / 2)) e ∙ ap (λ (y : ℕ). not (eqb y 0)) (o .1 .0) ∙ bit-back m1,
+        ap (λ (y : ℕ). bitOf (y / 4)) e ∙ ap (λ (y : ℕ). not (eqb y 0)) (o .1 .1) ∙ bit-back m2,
       ),
     )
 

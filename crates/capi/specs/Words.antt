@@ -104,10 +104,12 @@ marksOut w r = set w 11 (marksWord (long (at w 11)) r)
 abbrev pub slowestOut : List ℤ → LogRecord → List ℤ
 slowestOut w r = set w 10 (r .«slowest_position»)
 
--- after an append or a rotation: tails, count and marks
+-- after an append or a rotation: tails and count, then the marks
+abbrev pub tailsOut : List ℤ → LogRecord → List ℤ
+tailsOut w r = set (set (set (set w 0 (at (r .tails) 0)) 1 (at (r .tails) 1)) 2 (at (r .tails) 2)) 3 (pairOf (r .«active_term_count») (r .«initial_term_id»))
+
 abbrev pub recordOut : List ℤ → LogRecord → List ℤ
-recordOut w r =
-    marksOut (set (set (set (set w 0 (at (r .tails) 0)) 1 (at (r .tails) 1)) 2 (at (r .tails) 2)) 3 (pairOf (r .«active_term_count») (r .«initial_term_id»))) r
+recordOut w r = marksOut (tailsOut w r) r
 
 -- after a limit change
 abbrev pub limitOut : List ℤ → LogRecord → List ℤ

@@ -3,37 +3,48 @@ use mathlib.Core.Path.{_≡_}
 use mathlib.Core.List.{List}
 use lib.IntN.{ℤ, pos}
 use lib.ListN.{set}
-use mir.Syntax.{w64}
+use mir.Syntax.{w32, w64}
 use mir.Val.{SFits}
 use mir.Facts.{toZ-ofZ}
 use Rattle.model.specs.declared.LogRecord.{LogRecord}
-use Rattle.capi.specs.Words.{pairOf, recordOut, recordFilled}
+use Rattle.capi.specs.Words.{pairOf, marksWord, recordOut}
 use Rattle.capi.proofs.Halves.{pair-by}
+use Rattle.capi.proofs.Promised.{promised64}
 use borrow.Author.Needs.{needs}
 use Rattle.capi.proofs.words.record_filled.Statement.{statement}
 use Rattle.capi.proofs.words.record_filled.Tie as tie
 
-same : (w v : List ℤ) (r : LogRecord) (a b c d e : ℤ) → v ≡ recordOut w r → a ≡ pairOf (r .«term_length») (r .«mtu_length») → b ≡ pairOf (r .«session_id») (r .«stream_id»)
-    → c ≡ pairOf (r .«is_connected») (pos 0) → d ≡ r .«publication_limit» → e ≡ r .«end_of_stream_position»
-    → set (set (set (set (set (set v 4 a) 5 b) 6 c) 7 d) 8 e) 9 (pos 0) ≡ recordFilled w r
-same w v r a b c d e h1 h2 h3 h4 h5 h6 = cc
+same : (v u : List ℤ) (r : LogRecord) (a b c d e f g : ℤ) → v ≡ u → a ≡ pairOf (r .«term_length») (r .«mtu_length») → b ≡ pairOf (r .«session_id») (r .«stream_id»)
+    → c ≡ pairOf (r .«is_connected») (pos 0) → d ≡ r .«publication_limit» → e ≡ r .«end_of_stream_position» → f ≡ r .«slowest_position» → g ≡ marksWord 0 r
+    → set (set (set (set (set (set (set (set v 4 a) 5 b) 6 c) 7 d) 8 e) 9 (pos 0)) 10 f) 11 g
+    ≡ set (set (set (set (set (set (set (set u 4 (pairOf (r .«term_length») (r .«mtu_length»))) 5 (pairOf (r .«session_id») (r .«stream_id»))) 6 (pairOf (r .«is_connected») (pos 0))) 7 (r .«publication_limit»)) 8 (r .«end_of_stream_position»)) 9 (pos 0)) 10 (r .«slowest_position»)) 11 (marksWord 0 r)
+same v u r a b c d e f g h1 h2 h3 h4 h5 h6 h7 h8 = cc
 
 end-fits : (c : tie.Start) → SFits w64 (c .args .next .«end_of_stream_position»)
 end-fits c = search needs
 
+connected-fits : (c : tie.Start) → SFits w32 (c .args .next .«is_connected»)
+connected-fits c = search needs
+
+limit-fits : (c : tie.Start) → SFits w64 (c .args .next .«publication_limit»)
+limit-fits c = search needs
+
+slowest-fits : (c : tie.Start) → SFits w64 (c .args .next .«slowest_position»)
+slowest-fits c = search needs
+
 returns : tie.Need-returns
 returns c =
-    let s = c .before .before .before .before .before .before .before .before .before .before .before .before .args in
+    let t = c .before .before .before .before .before .before .before .before .before .before .before .before .before .before in
+    let s = t .args in
     let r = s .next in
-    same (s .w .now) _ r _ _ _ _ _ (c .before .before .before .before .before .before .before .before .before .before .record-out .ensures)
-    (pair-by (r .«term_length») (r .«mtu_length») (c .before .before .before .before .before .before .before .pair .ensures) (search needs) (search needs) (search needs))
-    (pair-by (r .«session_id») (r .«stream_id») (c .before .before .before .before .pair2 .ensures) (search needs) (search needs) (search needs))
-    (pair-by (r .«is_connected») (pos 0) (c .before .before .pair3 .ensures) (search needs) (search needs) (search needs))
-    (search needs) (toZ-ofZ (end-fits (c .before .before .before .before .before .before .before .before .before .before .before .before)))
+    same _ (recordOut (s .w .now) r) r _ _ _ _ _ _ _ (c .before .before .before .before .before .before .before .before .before .before .before .before .record-out .ensures)
+    (pair-by (r .«term_length») (r .«mtu_length») (c .before .before .before .before .before .before .before .before .before .pair .ensures) (search needs) (search needs) (search needs))
+    (pair-by (r .«session_id») (r .«stream_id») (c .before .before .before .before .before .before .pair2 .ensures) (search needs) (search needs) (search needs))
+    (pair-by (r .«is_connected») (pos 0) (c .before .before .before .before .pair3 .ensures) (connected-fits t) (search needs) (search needs))
+    (toZ-ofZ (limit-fits t)) (toZ-ofZ (end-fits t)) (toZ-ofZ (slowest-fits t)) (promised64 (c .marks-word .ensures) (search needs))
 
 pub record-filled-spec : {M : Type 1} → statement M
 record-filled-spec =
     tie.close
     (tie.spec
-    (search needs) (search needs) (search needs) (search needs) (search needs) (search needs) (search needs) (search needs) (search needs)
-    (search needs) returns)
+    (search needs) (search needs) (search needs) (search needs) (search needs) (search needs) (search needs) (search needs) (search needs) (search needs) (search needs) (search needs) (search needs) returns)
