@@ -26,14 +26,17 @@
  *    3  a reader's position is out of its range       12  tripped in the last term (tail and padding stay)
  *    4  claim longer than the payload limit           13  appender: the tail has another term id (the tail has moved)
  *    5  the publication is closed                     14  the header does not show the open claim
- *    6  tripped and rotated: call again (tail,        15  new position before the current one or past the term's end
- *       padding, rotation stay); or count and id
+ *    6  tripped and rotated: call again (tail,        15  new position before the current one or past the term's end;
+ *       padding, rotation stay); or count and id          slowest reader's position lower than it was
  *       differ: not this log's record (`rule` tells)
  *    7  the greatest position is reached (after a     16  new position not a multiple of 32
  *       trip, tail and padding stay)
  *    8  back pressure: the limit is reached           17  retired: no call answers it
  *    9  the same, and not connected                   18  assembler: a 17th session; or fragments longer than their part
  *                                                         (their session stays entered, emptied)
+ *                                                     19  tripped, and the next partition is not cleared: clear it before the
+ *                                                         next call (tail and padding stay)
+ *                                                     20  the partition to be cleared is not due, or a reader still needs it
  *                                                     21  a find card, or bytes, that break its format
  *                                                     22  the first frame has a length of 1 to 31 (with its place)
  *                                                     23  the first frame runs past its term's end (with its place)
@@ -49,7 +52,7 @@
  *   logbuffer_set_publication_limit(&rec, 2 * 65536); // two terms ahead of the slowest reader, here at 0
  *   struct logbuffer_offer_reply o = logbuffer_offer(&rec, bytes, sizeof bytes, (const uint8_t *)"coin", 4, 0);
  *   // o.code is 0, o.position 64, and the record's first tail has moved
- *   logbuffer_replay_new(&replay, 11);
+ *   logbuffer_replay_new(&replay, 0, 11);
  *   struct logbuffer_next_reply n = logbuffer_replay_next(&replay, &rec, bytes, sizeof bytes, buffer, sizeof buffer);
  *   // n.place is LOGBUFFER_IN_LOG, and bytes[n.start .. n.start + n.length) is "coin"
  */
@@ -73,7 +76,7 @@ extern "C" {
 
 /* ---- numbers */
 
-/* The refusals. 17 is retired; 19, 20 and 25 are not in use. */
+/* The refusals. 17 is retired; 25 is not in use. */
 enum {
     LOGBUFFER_DONE = 0,
     LOGBUFFER_ILLEGAL_ARGUMENT = 1,
@@ -93,6 +96,8 @@ enum {
     LOGBUFFER_NEW_POSITION_OUT_OF_RANGE = 15,
     LOGBUFFER_NEW_POSITION_NOT_ALIGNED = 16,
     LOGBUFFER_ASSEMBLY_FULL = 18,
+    LOGBUFFER_NOT_CLEARED = 19,
+    LOGBUFFER_NOT_DUE = 20,
     LOGBUFFER_BROKEN_CARD = 21,
     LOGBUFFER_FRAME_TOO_SHORT = 22,
     LOGBUFFER_FRAME_PAST_TERM = 23,
@@ -126,7 +131,8 @@ enum {
 
 /* ---- values */
 
-/* A log's record. A raw tail has a term id in its upper 32 bits and an offset in its lower. */
+/* A log's record. A raw tail has a term id in its upper 32 bits and an offset in its lower. Bit k of cleared_marks, of k 0 to 2, says that
+ * partition k is cleared and not written yet; the other bits mean nothing, and calls leave them as they are. */
 struct logbuffer_record {
     int64_t tails[3];
     int32_t active_term_count;
@@ -139,6 +145,8 @@ struct logbuffer_record {
     int64_t publication_limit;
     int64_t end_of_stream_position;
     bool is_closed;
+    int64_t slowest_position; /* of the slowest reader: what lies before it may be cleared */
+    uint64_t cleared_marks; /* 6 at opening: partitions 1 and 2 */
 };
 
 /* An open claim: partition, offset of its frame in the term, frame length (32 more than the body), term id. */
@@ -256,10 +264,11 @@ enum {
     LOGBUFFER_RULE_TAIL_OVERFLOW = 10,              /* 11: too many calls after the term was full: rotate, or go back to the last good record */
     LOGBUFFER_RULE_TRIP_PAST_MAX_POSITION = 11,     /* 7: the stream is at its end: open a new log */
     LOGBUFFER_RULE_LAST_TERM = 12,                  /* 12: the stream is at its end: open a new log */
-    LOGBUFFER_RULE_TERM_ROTATED = 13,               /* 6: make the same call again, with the record that was answered */
-    LOGBUFFER_RULE_UNFRAGMENTED = 14,               /* accepted, as one frame */
-    LOGBUFFER_RULE_FRAGMENTED = 15,                 /* accepted, as several frames */
-    LOGBUFFER_RULE_CLAIMED = 16                     /* accepted: write the body, then commit or abort */
+    LOGBUFFER_RULE_NOT_CLEARED = 13,                /* 19: clear the partition that is due before the next call */
+    LOGBUFFER_RULE_TERM_ROTATED = 14,               /* 6: make the same call again, with the record that was answered */
+    LOGBUFFER_RULE_UNFRAGMENTED = 15,               /* accepted, as one frame */
+    LOGBUFFER_RULE_FRAGMENTED = 16,                 /* accepted, as several frames */
+    LOGBUFFER_RULE_CLAIMED = 17                     /* accepted: write the body, then commit or abort */
 };
 
 /* ---- replies */
@@ -450,34 +459,49 @@ struct logbuffer_holding_reply {
 /* ---- this face */
 
 /* Its version, which the function's name carries too: an archive of another version does not link. */
-#define LOGBUFFER_FACE_VERSION 1
-LOGBUFFER_ANSWER uint32_t logbuffer_face_1(void);
+#define LOGBUFFER_FACE_VERSION 2
+LOGBUFFER_ANSWER uint32_t logbuffer_face_2(void);
 
 /* ---- opening, and calls on the record alone */
 
-/* Zeroes the log, three terms, and fills the record of an empty one: limit 0, connected, not closed. Term length: a power of two from
+/* Zeroes the log, three terms, and fills the record of an empty one: limit 0, connected, not closed, slowest reader at 0, partitions 1 and 2
+ * marked as cleared. Term length: a power of two from
  * 65,536 to 2^30. Mtu: a multiple of 32 from 64 to 65,504. Initial id: any; after 2147483647 comes
  * -2147483648. Answers 0, or refuses 2 and writes nothing, not to
  * the record either. */
 LOGBUFFER_ANSWER int32_t logbuffer_open(struct logbuffer_record *rec, uint8_t *log, size_t log_length, int32_t term_length, int32_t mtu_length,
                        int32_t initial_term_id, int32_t session_id, int32_t stream_id);
 
-/* Offers and claims that begin below this position are let through: from 0 to 2^62. Keep it at most two terms ahead of the slowest
- * reader, and raise it as readers move on: only the start is judged, so a message may end past the limit, and what comes to lie three terms
- * ahead of a reader overwrites, without a word, what it has not read. The answer is the number: 0, 2. */
+/* Offers and claims that begin below this position are let through: from 0 to 2^62. Keep it at (slowest / term length + 2) * term length, slowest being
+ * the slowest reader's position, and raise it as readers move on. Nothing that a reader still needs is overwritten without it either, for a trip
+ * into a partition that is not cleared is refused 19, which leaves the tail moved; but with this limit, and the partition that is due cleared as soon as
+ * it may be, 19 never comes: writers that are ahead are refused 8, which leaves everything as it was. The answer is the number: 0, 2. */
 LOGBUFFER_ANSWER int32_t logbuffer_set_publication_limit(struct logbuffer_record *rec, int64_t limit);
+
+/* Says how far the slowest reader has come: a multiple of 32 from 0 to term length * 2^31, which may only rise; the same again is accepted.
+ * Terms that end at or before it may be cleared, and nobody reads them any more, so take the lowest of all readers' positions. Also on a
+ * closed publication. The answer is the number: 0, 2 (the record as it stands), 3 (a position out of that range), 15 (lower than it was). */
+LOGBUFFER_ANSWER int32_t logbuffer_set_slowest_position(struct logbuffer_record *rec, int64_t position);
 
 /* Offers, claims and the three numbers below then refuse 5. The answer is the number: 0, 2. */
 LOGBUFFER_ANSWER int32_t logbuffer_close(struct logbuffer_record *rec);
 
-/* The next partition's tail becomes (term_id + 1, 0) if its id is term_id - 2, and the count rises by one if it is the one given.
- * The answer is the number: 0, 1, 2, 12. */
+/* The next partition's tail becomes (term_id + 1, 0) if its id is term_id - 2, and the count rises by one if it is the one given. In any case
+ * the mark of the next partition, (count + 1) % 3, goes; a partition that was not marked is no hindrance here. The answer is the number: 0, 1, 2, 12. */
 LOGBUFFER_ANSWER int32_t logbuffer_rotate_log(struct logbuffer_record *rec, int32_t count, int32_t term_id);
 
 /* The publisher's position; its limit; what is left up to the limit, below 0 where the position is past it. Each refuses 2, 5. */
 LOGBUFFER_ANSWER struct logbuffer_position_reply logbuffer_position(const struct logbuffer_record *rec);
 LOGBUFFER_ANSWER struct logbuffer_position_reply logbuffer_publication_limit(const struct logbuffer_record *rec);
 LOGBUFFER_ANSWER struct logbuffer_position_reply logbuffer_available_window(const struct logbuffer_record *rec);
+
+/* ---- terms used again */
+
+/* Zeroes the partition due next, (active_term_count + 1) % 3, and marks it as cleared, so that the log can be rotated into it; again it is harmless. From
+ * count 2 on it holds the term before the last full one, which is gone then: the slowest reader must have reached that term's end, (count - 1) * term length. Finish
+ * the claims of that term first, and use none of their records afterwards. Also on a closed publication. The answer is the number: 0, 1 (partition not 0
+ * to 2), 2, 20 (another partition is due, or the slowest reader is below that end). */
+LOGBUFFER_ANSWER int32_t logbuffer_clear_partition(struct logbuffer_record *rec, uint8_t *log, size_t log_length, int32_t partition);
 
 /* ---- numbers of tails and positions, which refuse nothing but where said */
 
@@ -501,12 +525,14 @@ LOGBUFFER_ANSWER struct logbuffer_position_reply logbuffer_compute_position(int3
 
 /* Appends a message of 0 to 2147483647 bytes, in fragments where it is longer than the payload limit (mtu - 32), and answers the position after it: at most an eighth
  * of a term and 16 MiB, unless one frame holds it. Refuses 1, 2,
- * 5, 6, 7, 8, 9, 10, 11, 12. After 6 by LOGBUFFER_RULE_TERM_ROTATED call again: with the term full the log has been rotated. */
+ * 5, 6, 7, 8, 9, 10, 11, 12, 19. After 6 by LOGBUFFER_RULE_TERM_ROTATED call again: with the term full the log has been rotated. After 19 raise the
+ * slowest reader's position, clear the partition that is due, then call again: it is refused 6, and the call after that finds the next term. Do not call again
+ * before that: each call that is refused 19 moves the tail on, so that the limit is reached and 8 comes for good (docs/GUIDE.md has figures). */
 LOGBUFFER_ANSWER struct logbuffer_offer_reply logbuffer_offer(struct logbuffer_record *rec, uint8_t *log, size_t log_length, const uint8_t *message,
                                              size_t message_length, int64_t reserved_value);
 
 /* Claims a frame for a body of this length, 0 up to the payload limit. Readers stop before it until it is committed or aborted. Refuses 1,
- * 2, 4, 5, 6, 7, 8, 9, 11, 12. On a closed publication a length over the payload limit refuses 5, not 4. */
+ * 2, 4, 5, 6, 7, 8, 9, 11, 12, 19, the last as an offer does. On a closed publication a length over the payload limit refuses 5, not 4. */
 LOGBUFFER_ANSWER struct logbuffer_claim_reply logbuffer_try_claim(struct logbuffer_record *rec, uint8_t *log, size_t log_length, int32_t length);
 
 /* Where the body of an open claim lies in the log, to be written by the caller; and the number alone. Each refuses 1, 2, 14. */
@@ -622,10 +648,13 @@ LOGBUFFER_ANSWER struct logbuffer_assembly_reply logbuffer_assembler_on_fragment
                                                                 const uint8_t *log, size_t log_length, uint8_t *buffer,
                                                                 size_t buffer_length, int32_t partition, int32_t offset);
 
-/* Makes it a replay from position 0. It gives the history of a stream short of three full terms; of a longer one the first terms are written anew. */
-void logbuffer_replay_new(struct logbuffer_replay *replay, int32_t session_id);
+/* Makes it a replay from a position: 0, or one that an accepted call or a reader answered. It goes up to the publisher's position, and gives what was
+ * accepted after its start, each message once. The start lies in a term that is not cleared; from a cleared one nothing comes, or what was written in its
+ * place since. Refuses nothing: each call judges the position. */
+void logbuffer_replay_new(struct logbuffer_replay *replay, int64_t position, int32_t session_id);
 
-/* The next message; LOGBUFFER_NOTHING at the end, which is also before the first claim still open. Fragments are joined in the buffer, the
+/* The next message; LOGBUFFER_NOTHING at the end, which is the publisher's position or before the first claim still open. In the log it lies at the
+ * index (p / term length % 3) * term length + p % term length + 32 of the position p where its frame begins. Fragments are joined in the buffer, the
  * same from call to call. Refuses 1 (buffer over 2147483647), 2, 3, 22, 23 as a poll does, and 18 as the assembler does. What it read before
  * a frame that it refuses stays read; it then stands before that frame, and called again it refuses the same again. */
 LOGBUFFER_ANSWER struct logbuffer_next_reply logbuffer_replay_next(struct logbuffer_replay *replay, const struct logbuffer_record *rec, const uint8_t *log,
@@ -639,9 +668,9 @@ LOGBUFFER_ANSWER struct logbuffer_batch_reply logbuffer_replay_next_batch(struct
                                                          const uint8_t *log, size_t log_length, uint8_t *buffer, size_t buffer_length,
                                                          size_t *numbers, size_t numbers_length);
 
-/* A whole replay: how many messages, and how many bytes they have together. Refuses as logbuffer_replay_next. */
+/* A whole replay from a position: how many messages, and how many bytes they have together. Refuses as logbuffer_replay_next. */
 LOGBUFFER_ANSWER struct logbuffer_count_reply logbuffer_replay_count(const struct logbuffer_record *rec, const uint8_t *log, size_t log_length,
-                                                    uint8_t *buffer, size_t buffer_length, int32_t session_id);
+                                                    uint8_t *buffer, size_t buffer_length, int64_t position, int32_t session_id);
 
 /* ---- find cards: message bodies that every reader understands alike */
 
@@ -701,7 +730,7 @@ static inline const char *logbuffer_strerror(int32_t code) {
     case LOGBUFFER_DONE: return "done";
     case LOGBUFFER_ILLEGAL_ARGUMENT: return "an argument is out of its range";
     case LOGBUFFER_ILLEGAL_RECORD: return "the record or the log breaks its ranges";
-    case LOGBUFFER_POSITION_OUT_OF_RANGE: return "the image's position is negative, over the greatest, or not a multiple of 32";
+    case LOGBUFFER_POSITION_OUT_OF_RANGE: return "a position is negative, over the greatest, or not a multiple of 32";
     case LOGBUFFER_EXCEEDS_MAX_PAYLOAD_LENGTH: return "claim longer than the payload limit, mtu - 32";
     case LOGBUFFER_PUBLICATION_CLOSED: return "the publication is closed";
     case LOGBUFFER_ADMIN_ACTION: return "the term was full and the log has been rotated, or count and term id differ: the reply's rule tells";
@@ -713,9 +742,11 @@ static inline const char *logbuffer_strerror(int32_t code) {
     case LOGBUFFER_LAST_TERM: return "the term is full and there is no next one";
     case LOGBUFFER_ACTION_POSSIBLY_DELAYED: return "the tail's term id is not the one given to the appender";
     case LOGBUFFER_CLAIM_MISMATCH: return "the frame's header does not show this open claim";
-    case LOGBUFFER_NEW_POSITION_OUT_OF_RANGE: return "the new position is before the current one or past the term's end";
+    case LOGBUFFER_NEW_POSITION_OUT_OF_RANGE: return "the new position is before the current one or past the term's end, or the slowest reader's is lower than it was";
     case LOGBUFFER_NEW_POSITION_NOT_ALIGNED: return "the new position is not a multiple of 32";
     case LOGBUFFER_ASSEMBLY_FULL: return "begin frame of a 17th session, or fragments longer together than their part of the buffer";
+    case LOGBUFFER_NOT_CLEARED: return "the term is full and the next partition is not cleared";
+    case LOGBUFFER_NOT_DUE: return "the partition is not the one due next, or the slowest reader may still read it";
     case LOGBUFFER_BROKEN_CARD: return "a find card, or bytes, that break its format";
     case LOGBUFFER_FRAME_TOO_SHORT: return "the first frame has a length of 1 to 31";
     case LOGBUFFER_FRAME_PAST_TERM: return "the first frame runs past its term's end";
@@ -727,7 +758,7 @@ static inline const char *logbuffer_strerror(int32_t code) {
 
 /* What makes the linker look for the version. */
 #if defined(__GNUC__) || defined(__clang__)
-static uint32_t (*const logbuffer_face_linked)(void) __attribute__((used)) = logbuffer_face_1;
+static uint32_t (*const logbuffer_face_linked)(void) __attribute__((used)) = logbuffer_face_2;
 #endif
 
 #ifdef __cplusplus

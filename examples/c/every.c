@@ -33,9 +33,9 @@ static void say(const char *call, const char *names, const int64_t *numbers) {
 #define SAY(call, names, ...) say(call, names, (int64_t[]){__VA_ARGS__})
 
 static void say_record(const char *call, struct logbuffer_record r, int32_t code) {
-    SAY(call, "code tail tail tail count initial term mtu session stream connected limit end closed", code, r.tails[0], r.tails[1],
+    SAY(call, "code tail tail tail count initial term mtu session stream connected limit end closed slowest marks", code, r.tails[0], r.tails[1],
         r.tails[2], r.active_term_count, r.initial_term_id, r.term_length, r.mtu_length, r.session_id, r.stream_id, r.is_connected,
-        r.publication_limit, r.end_of_stream_position, r.is_closed);
+        r.publication_limit, r.end_of_stream_position, r.is_closed, r.slowest_position, (int64_t)r.cleared_marks);
 }
 
 static void say_claim(const char *call, struct logbuffer_claim c) {
@@ -213,7 +213,7 @@ static void assemblies(struct logbuffer_record rec) {
 
 static void replays(struct logbuffer_record rec) {
     struct logbuffer_replay replay;
-    logbuffer_replay_new(&replay, 44);
+    logbuffer_replay_new(&replay, 0, 44);
     say_image("replay_new", replay.image);
     say_assembler("  assembler", replay.assembler);
     replay.assembler.count = 1; /* a session entered before, so that the message lies in the second part */
@@ -224,7 +224,7 @@ static void replays(struct logbuffer_record rec) {
         say_image("  image", replay.image);
         say_assembler("  assembler", replay.assembler);
     }
-    logbuffer_replay_new(&replay, 44);
+    logbuffer_replay_new(&replay, 0, 44);
     for (int k = 0; k < 3; k++) {
         size_t numbers[9] = {0}; /* two messages and a rest */
         struct logbuffer_batch_reply b =
@@ -237,7 +237,7 @@ static void replays(struct logbuffer_record rec) {
         say_image("  image", replay.image);
         say_assembler("  assembler", replay.assembler);
     }
-    struct logbuffer_count_reply c = logbuffer_replay_count(&rec, log_bytes, sizeof log_bytes, buffer, sizeof buffer, 55);
+    struct logbuffer_count_reply c = logbuffer_replay_count(&rec, log_bytes, sizeof log_bytes, buffer, sizeof buffer, 128, 55);
     SAY("replay_count", "code messages bytes", c.code, c.messages, c.bytes);
 }
 
@@ -330,7 +330,7 @@ static void tallies(void) {
     say_tally(logbuffer_tally(&rec, second_log, sizeof second_log, 0, 40));
 }
 
-/* Offers of 40 bytes until the fifth term has begun, 682 to a term and then padding. From behind the first message of the second term, which lies in partition 1, to before
+/* Offers of 40 bytes, 682 to a term and then padding, until the fourth term is full and the next partition not cleared. From behind the first message of the second term, which lies in partition 1, to before
  * the padding of the fourth, which lies in partition 0; from the last message of a term to the first of the next. Then a frame being written first in partition 2, past which the walk
  * does not come; bytes in four terms; positions not on a boundary; a length of 5 first. */
 static void partitions(void) {
@@ -338,9 +338,13 @@ static void partitions(void) {
     struct logbuffer_record rec;
     must(logbuffer_open(&rec, second_log, sizeof second_log, TERM, 96, 7, 33, 44));
     must(logbuffer_set_publication_limit(&rec, 8 * TERM));
-    while (rec.active_term_count < 4) {
-        int32_t code = logbuffer_offer(&rec, second_log, sizeof second_log, message, sizeof message, 0).code;
-        must(code == LOGBUFFER_ADMIN_ACTION ? 0 : code);
+    for (int32_t code = 0; code != LOGBUFFER_NOT_CLEARED;) {
+        if (rec.active_term_count == 2 && rec.cleared_marks == 0) {
+            must(logbuffer_set_slowest_position(&rec, TERM));
+            must(logbuffer_clear_partition(&rec, second_log, sizeof second_log, 0));
+        }
+        code = logbuffer_offer(&rec, second_log, sizeof second_log, message, sizeof message, 0).code;
+        must(code == LOGBUFFER_ADMIN_ACTION || code == LOGBUFFER_NOT_CLEARED ? 0 : code);
     }
     say_partitions(logbuffer_tally_by_partition(&rec, second_log, sizeof second_log, TERM + 96, 4 * TERM - 64));
     say_partitions(logbuffer_tally_by_partition(&rec, second_log, sizeof second_log, 2 * TERM - 64 - 96, 2 * TERM + 96));
@@ -388,8 +392,89 @@ static void holdings(void) {
     say_holding(logbuffer_holding(&rec, second_log, sizeof second_log, 1001, 0, 40));
 }
 
+static void say_offer(const char *call, struct logbuffer_record rec, struct logbuffer_offer_reply o) {
+    say_record(call, rec, o.code);
+    SAY("  answer", "position rule", o.position, o.rule);
+}
+
+/* Of offers of 64 bytes the 682 that a term has room for, and one more, which trips. */
+static struct logbuffer_offer_reply filled(struct logbuffer_record *rec) {
+    static const uint8_t message[64] = {7};
+    for (int i = 0; i < 682; i++) must(logbuffer_offer(rec, second_log, sizeof second_log, message, sizeof message, 0).code);
+    return logbuffer_offer(rec, second_log, sizeof second_log, message, sizeof message, 0);
+}
+
+/* The slowest reader raised, and not raised: 3 below 0, past the greatest position and not a multiple of 32; 15. A partition cleared, and not: 1, 2, 20. */
+static void clearings(struct logbuffer_record *rec) {
+    SAY("set_slowest_position", "not_aligned negative past", logbuffer_set_slowest_position(rec, 8), logbuffer_set_slowest_position(rec, -32),
+        logbuffer_set_slowest_position(rec, ((int64_t)TERM << 31) + 32));
+    struct logbuffer_record last = *rec;
+    int32_t code = logbuffer_set_slowest_position(&last, (int64_t)TERM << 31);
+    SAY("set_slowest_position", "greatest lower", code, logbuffer_set_slowest_position(&last, 32));
+    code = logbuffer_set_slowest_position(rec, 64);
+    say_record("set_slowest_position", *rec, code);
+    SAY("set_slowest_position", "again lower", logbuffer_set_slowest_position(rec, 64), logbuffer_set_slowest_position(rec, 32));
+    SAY("clear_partition", "3 negative shorter_log 0 2", logbuffer_clear_partition(rec, second_log, sizeof second_log, 3),
+        logbuffer_clear_partition(rec, second_log, sizeof second_log, -1), logbuffer_clear_partition(rec, second_log, sizeof second_log - 1, 1),
+        logbuffer_clear_partition(rec, second_log, sizeof second_log, 0), logbuffer_clear_partition(rec, second_log, sizeof second_log, 2));
+    code = logbuffer_clear_partition(rec, second_log, sizeof second_log, 1);
+    say_record("clear_partition", *rec, code);
+}
+
+/* Four terms in a log of three: the trip from the third is refused 19 until the slowest reader has left the first and its partition is cleared. Then replays from the
+ * second term and from the fourth, which lies where the first lay. Last, 2 for a slowest reader out of its range, and both calls after close. */
+static void seasons(void) {
+    struct logbuffer_record rec;
+    must(logbuffer_open(&rec, second_log, sizeof second_log, TERM, 96, 7, 33, 44));
+    must(logbuffer_set_publication_limit(&rec, 8 * TERM));
+    clearings(&rec);
+    struct logbuffer_offer_reply o = filled(&rec);
+    say_offer("offer that trips in term 0", rec, o);
+    o = filled(&rec);
+    say_offer("offer that trips in term 1", rec, o);
+    o = filled(&rec);
+    say_offer("offer that trips in term 2", rec, o);
+    struct logbuffer_claim_reply c = logbuffer_try_claim(&rec, second_log, sizeof second_log, 10);
+    say_record("try_claim", rec, c.code);
+    SAY("  answer", "position rule", c.position, c.rule);
+    SAY("clear_partition", "too_early", logbuffer_clear_partition(&rec, second_log, sizeof second_log, 0));
+    must(logbuffer_set_slowest_position(&rec, TERM));
+    SAY("  bytes", "0 65536", second_log[0], second_log[TERM]);
+    int32_t code = logbuffer_clear_partition(&rec, second_log, sizeof second_log, 0);
+    say_record("clear_partition", rec, code);
+    SAY("  bytes", "0 65536", second_log[0], second_log[TERM]);
+    SAY("clear_partition", "again", logbuffer_clear_partition(&rec, second_log, sizeof second_log, 0));
+    o = logbuffer_offer(&rec, second_log, sizeof second_log, (const uint8_t *)"coin", 4, 0);
+    say_offer("offer again", rec, o);
+    o = logbuffer_offer(&rec, second_log, sizeof second_log, (const uint8_t *)"coin", 4, 0);
+    say_offer("offer once more", rec, o);
+    struct logbuffer_count_reply n = logbuffer_replay_count(&rec, second_log, sizeof second_log, buffer, sizeof buffer, TERM, 33);
+    SAY("replay_count", "code messages bytes", n.code, n.messages, n.bytes);
+    struct logbuffer_replay replay;
+    logbuffer_replay_new(&replay, 3 * TERM, 33);
+    say_image("replay_new", replay.image);
+    struct logbuffer_next_reply next = logbuffer_replay_next(&replay, &rec, second_log, sizeof second_log, buffer, sizeof buffer);
+    SAY("replay_next", "code place start length", next.code, next.place, next.start, next.length);
+    logbuffer_replay_new(&replay, 3 * TERM - 160, 33);
+    size_t numbers[12] = {0};
+    struct logbuffer_batch_reply b = logbuffer_replay_next_batch(&replay, &rec, second_log, sizeof second_log, buffer, sizeof buffer, numbers, 12);
+    SAY("replay_next_batch", "code messages", b.code, b.messages);
+    for (size_t i = 0; i < b.messages; i++) {
+        const size_t *m = numbers + 4 * i;
+        SAY("  message", "place start length position", m[0], m[1], m[2], m[3]);
+    }
+    struct logbuffer_record broken = rec;
+    broken.slowest_position = 33;
+    SAY("slowest at 33", "offer claim limit raise clear", logbuffer_offer(&broken, second_log, sizeof second_log, (const uint8_t *)"coin", 4, 0).code,
+        logbuffer_try_claim(&broken, second_log, sizeof second_log, 4).code, logbuffer_set_publication_limit(&broken, 0),
+        logbuffer_set_slowest_position(&broken, 64), logbuffer_clear_partition(&broken, second_log, sizeof second_log, 1));
+    must(logbuffer_close(&rec));
+    code = logbuffer_set_slowest_position(&rec, 2 * TERM);
+    SAY("after close", "raise clear", code, logbuffer_clear_partition(&rec, second_log, sizeof second_log, 1));
+}
+
 int main(void) {
-    printf("face: %" PRIu32 "\n", logbuffer_face_1());
+    printf("face: %" PRIu32 "\n", logbuffer_face_2());
     numbers();
     struct logbuffer_record rec = written(), second = appended();
     positions(rec);
@@ -402,5 +487,6 @@ int main(void) {
     tallies();
     partitions();
     holdings();
+    seasons();
     return 0;
 }

@@ -70,7 +70,7 @@ static void stopped(const struct logbuffer_record *rec, int64_t position) {
 
 static void replay(const struct logbuffer_record *rec) {
     struct logbuffer_replay at;
-    logbuffer_replay_new(&at, rec->session_id);
+    logbuffer_replay_new(&at, 0, rec->session_id);
     for (;;) {
         struct logbuffer_next_reply n = logbuffer_replay_next(&at, rec, log_bytes, sizeof log_bytes, buffer, sizeof buffer);
         if (n.code != 0 || n.place == LOGBUFFER_NOTHING) {
@@ -88,7 +88,7 @@ int main(void) {
     struct logbuffer_record rec;
     printf("open: %" PRId32 "\n", logbuffer_open(&rec, log_bytes, sizeof log_bytes, TERM, 96, 7, 11, 22));
     offer(&rec, "offer before a limit is set", (const uint8_t *)"coin", 4);
-    /* two terms ahead of the slowest reader, here at 0: include/logbuffer.h says why */
+    /* two terms ahead of the slowest reader, here at 0: include/logbuffer.h says why, and season.c how to go on for longer */
     must(logbuffer_set_publication_limit(&rec, 2 * TERM));
     request(&rec, "offer of 4 bytes", "coin");
     claim(&rec, "claim of 8 bytes", "potsherd", true);
@@ -104,7 +104,7 @@ int main(void) {
     must(logbuffer_close(&rec));
     offer(&rec, "offer after close", (const uint8_t *)"late", 4);
     replay(&rec);
-    struct logbuffer_count_reply n = logbuffer_replay_count(&rec, log_bytes, sizeof log_bytes, buffer, sizeof buffer, 11);
+    struct logbuffer_count_reply n = logbuffer_replay_count(&rec, log_bytes, sizeof log_bytes, buffer, sizeof buffer, 0, 11);
     printf("count: %zu messages, %zu bytes\n", n.messages, n.bytes);
     return 0;
 }

@@ -5,7 +5,7 @@
 #include "replayed.h"
 
 #define AT(type, field, word, byte) _Static_assert(offsetof(struct type, field) == 8 * (word) + (byte), #type "." #field)
-_Static_assert(sizeof(struct logbuffer_record) == 10 * 8, "a record is 10 words");
+_Static_assert(sizeof(struct logbuffer_record) == 12 * 8, "a record is 12 words");
 AT(logbuffer_record, tails, 0, 0);
 AT(logbuffer_record, active_term_count, 3, 0);
 AT(logbuffer_record, initial_term_id, 3, 4);
@@ -17,6 +17,8 @@ AT(logbuffer_record, is_connected, 6, 0);
 AT(logbuffer_record, publication_limit, 7, 0);
 AT(logbuffer_record, end_of_stream_position, 8, 0);
 AT(logbuffer_record, is_closed, 9, 0);
+AT(logbuffer_record, slowest_position, 10, 0);
+AT(logbuffer_record, cleared_marks, 11, 0);
 _Static_assert(sizeof(struct logbuffer_image) == 2 * 8, "an image is 2 words");
 AT(logbuffer_image, position, 0, 0);
 AT(logbuffer_image, session_id, 1, 0);
@@ -37,24 +39,25 @@ AT(logbuffer_claim, term_id, 1, 4);
 
 /* A record between two margins, all of it bytes. */
 static struct {
-    uint8_t before[64], record[80], after[64];
+    uint8_t before[64], record[96], after[64];
 } memory, kept;
 
 static struct logbuffer_record *rec(void) {
     return (struct logbuffer_record *)memory.record;
 }
 
-/* The bytes between the record's fields, set; opening has made them 0. */
+/* The bytes between the record's fields, and the bits above the three marks, set; opening has made them 0. */
 static void fill_gaps(void) {
     memset(memory.record + 52, 0xa7, 4);
     memset(memory.record + 73, 0xb9, 7);
+    rec()->cleared_marks |= 0xf1e2d3c4b5a69780;
 }
 
 static bool gaps_are_kept(void) {
     bool same = true;
     for (int i = 0; i < 4; i++) same &= memory.record[52 + i] == 0xa7;
     for (int i = 0; i < 7; i++) same &= memory.record[73 + i] == 0xb9;
-    return same;
+    return same && (rec()->cleared_marks & ~(uint64_t)7) == 0xf1e2d3c4b5a69780;
 }
 
 static void refused(const char *call, int32_t code, int32_t wanted) {
@@ -74,6 +77,7 @@ int main(void) {
     kept = memory;
     refused("open", logbuffer_open(rec(), log_bytes, LOG - 1, TERM, MTU, 7, SESSION, 22), 2);
     expect(logbuffer_open(rec(), log_bytes, LOG, TERM, MTU, 7, SESSION, 22) == 0, "open", 0);
+    expect(rec()->slowest_position == 0 && rec()->cleared_marks == 6, "the slowest reader and the marks of an opened log", 0);
     fill_gaps();
     kept = memory;
     refused("offer over the limit", logbuffer_offer(rec(), log_bytes, LOG, (const uint8_t *)"coin", 4, 0).code, 8);
@@ -82,6 +86,14 @@ int main(void) {
     done("offer", logbuffer_offer(rec(), log_bytes, LOG, (const uint8_t *)"coin", 4, 0).code);
     refused("claim", logbuffer_try_claim(rec(), log_bytes, LOG, MTU).code, 4);
     refused("rotation", logbuffer_rotate_log(rec(), -1, 7), 1);
+    refused("slowest reader, not aligned", logbuffer_set_slowest_position(rec(), 8), 3);
+    done("slowest reader", logbuffer_set_slowest_position(rec(), 64));
+    refused("slowest reader, lower", logbuffer_set_slowest_position(rec(), 32), 15);
+    refused("clearing what is not due", logbuffer_clear_partition(rec(), log_bytes, LOG, 2), 20);
+    done("clearing", logbuffer_clear_partition(rec(), log_bytes, LOG, 1));
+    expect(rec()->slowest_position == 64 && (rec()->cleared_marks & 7) == 6, "marks after a clearing", 1);
+    done("rotation", logbuffer_rotate_log(rec(), 7, 7));
+    expect((rec()->cleared_marks & 7) == 2, "marks after a rotation of another count", 2);
     done("close", logbuffer_close(rec()));
     done("close again", logbuffer_close(rec()));
     refused("offer after close", logbuffer_offer(rec(), log_bytes, LOG, (const uint8_t *)"pin", 3, 0).code, 5);

@@ -31,7 +31,7 @@ static void batched(const struct logbuffer_record *rec, const uint8_t *log, cons
                     int32_t code, size_t where) {
     size_t numbers[4 * 7 + 3], laid = 0;
     struct logbuffer_replay at;
-    logbuffer_replay_new(&at, SESSION);
+    logbuffer_replay_new(&at, 0, SESSION);
     for (int after = 0; after < 2;) {
         struct logbuffer_batch_reply b = logbuffer_replay_next_batch(&at, rec, log, LOG, buffer, sizeof buffer, numbers, 4 * most + most % 4);
         if (b.code != 0 || b.messages == 0) {
@@ -54,12 +54,12 @@ static size_t place; /* of the frame that the last replay was refused at: its of
 /* Replays a log up to its end or a refusal, holds each message to the list, and answers the refusal's number. */
 static int32_t replayed(const struct logbuffer_record *rec, const uint8_t *log, const struct message *list, size_t count, size_t where) {
     struct logbuffer_replay at;
-    logbuffer_replay_new(&at, SESSION);
+    logbuffer_replay_new(&at, 0, SESSION);
     for (size_t i = 0;; i++) {
         struct logbuffer_next_reply n = logbuffer_replay_next(&at, rec, log, LOG, buffer, sizeof buffer);
         if (n.code != 0 || n.place == LOGBUFFER_NOTHING) {
             expect(i == count, "not as many messages as there should be", where);
-            struct logbuffer_count_reply c = logbuffer_replay_count(rec, log, LOG, buffer, sizeof buffer, SESSION);
+            struct logbuffer_count_reply c = logbuffer_replay_count(rec, log, LOG, buffer, sizeof buffer, 0, SESSION);
             place = n.start;
             batched(rec, log, list, count, 1 + where % 7, n.code, where);
             expect(c.code == n.code && c.messages == (c.code != 0 ? place : count), "the count is another", where);
