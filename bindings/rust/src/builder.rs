@@ -63,7 +63,7 @@ impl Builder {
         self
     }
 
-    /// How far writers may go at first, 0 to 2^62; two terms if not said, so that nothing is overwritten.
+    /// How far writers may go at first, 0 to 2^62; two terms if not said, at which writers are pressed back until readers have moved on.
     pub fn publication_limit(mut self, limit: i64) -> Builder {
         self.publication_limit = Some(limit);
         self

@@ -22,13 +22,13 @@ impl fmt::Display for Place {
 
 macro_rules! overrun {
     () => {
-        "the reader's place has been written anew"
+        "the reader's place has been cleared or written anew"
     };
 }
 
 macro_rules! go_on {
     () => {
-        "what it did not read is gone: go on at the publisher's position, and keep the limit at most two terms past the slowest reader"
+        "what it did not read is gone: go on at the publisher's position, with a reader that is registered"
     };
 }
 
@@ -55,9 +55,9 @@ macro_rules! refusals {
 
         impl Error {
             /// Every refusal that has a number; those of a frame, at offset 0, and of a walk, at position 0, come last.
-            pub const ALL: [Error; 22] = [$(Error::$name,)* $(Error::$frame(Place { partition: None, offset: 0 }),)* $(Error::$walk(0)),*];
+            pub const ALL: [Error; 24] = [$(Error::$name,)* $(Error::$frame(Place { partition: None, offset: 0 }),)* $(Error::$walk(0)),*];
 
-            /// The refusal's number: 1 to 18 without 17, which is retired, 21 for a card, 22 and 23 for a frame, 24 for the card that
+            /// The refusal's number: 1 to 20 without 17, which is retired, 21 for a card, 22 and 23 for a frame, 24 for the card that
             /// holds, 26 for the shelf; 0 for [`Overrun`](Error::Overrun), which only this crate answers.
             ///
             /// ```
@@ -97,8 +97,8 @@ refusals! {
         "the record or the log breaks its ranges"
         "the record is not one that the last call answered, or the slice is not three terms long: go back to the last good record"
     3 PositionOutOfRange
-        "the image's position, or one of a tally, is negative, over the greatest, or not a multiple of 32"
-        "make a new image at a position that a reader answered; tally between such positions"
+        "a position of an image, of a tally or of the slowest reader is negative, over the greatest, or not a multiple of 32"
+        "make a new image at a position that a reader answered; tally between such positions; raise the slowest reader to one"
     4 ExceedsMaxPayloadLength
         "claim longer than the payload limit, mtu - 32"
         "offer the message instead, which cuts it into fragments"
@@ -133,14 +133,20 @@ refusals! {
         "the frame's header does not show this open claim"
         "it was committed or aborted before, or is of another log: drop the claim"
     15 NewPositionOutOfRange
-        "the new position is before the current one or past the term's end"
-        "set a position between the two"
+        "the new position is before the current one or past the term's end, or the slowest reader's is lower than it was"
+        "set a position between the two; leave the slowest reader's, which only rises"
     16 NewPositionNotAligned
         "the new position is not a multiple of 32"
         "set the position of a frame"
     18 AssemblyFull
         "begin frame of a 17th session, or fragments longer together than their part of the buffer"
         "a session of too long fragments stays entered, emptied; a 17th changes nothing: lend 16 times the longest message, or a fresh assembler"
+    19 NotCleared
+        "the term is full and the next partition is not cleared"
+        "tail and padding stay, and each such call moves the tail on: raise the slowest reader and clear the partition due next before the call is made again"
+    20 NotDue
+        "the partition is not the one due next, or the slowest reader may still read it"
+        "clear the partition of the count and 1, by 3; from count 2 on wait until the slowest reader has reached (count - 1) × term length, and say so first"
     21 BrokenCard
         "a find card, or bytes, that break its format"
         "of a card, mend the material (1 to 9) or the note (1 to 255 bytes); of bytes, pass the message over: it is no card"

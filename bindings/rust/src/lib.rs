@@ -19,8 +19,9 @@
 //! ```
 //!
 //! - [`Log`]: opening, offers, claims, limit, close, scans, replay.
+//! - [`Reader`], [`Log::append`], [`Log::housekeep`]: a log that lives on past its three terms, which are used again when every registered reader has left them.
 //! - [`Claim`] and [`OpenClaim`]: a frame to be written in place.
-//! - [`Poller`]: a reader at a position. [`Assembler`]: messages out of fragments. [`Replay`]: both, from the start, a message or a
+//! - [`Poller`]: a reader at a position. [`Assembler`]: messages out of fragments. [`Replay`]: both, from the start or a position, a message or a
 //!   [`Batch`] at a time.
 //! - [`Card`]: a find card, a message body of one format.
 //! - [`Log::shelve`], [`Record::unshelve`]: a finished term with all its headers together, and back.
@@ -33,8 +34,9 @@
 //! A [`Log`] lies in a `Vec<u8>`, or in any [`Bytes`]: a lent slice, a mapped file. It is `Send` and `Sync` where its memory is: writing takes `&mut`, so threads
 //! that write share it behind a lock.
 //!
-//! A log keeps three terms and what is older is overwritten. [`Builder`] sets a publication limit of two terms, at which writers are
-//! pressed back before that happens; raise it as readers move on.
+//! A log keeps three terms. A term is used again once its partition is cleared, which a record allows when the slowest reader has left it: register the
+//! readers and write with [`Log::append`], or keep their places and call [`Log::set_slowest_position`], [`Log::clear_partition`] and
+//! [`Log::set_publication_limit`]. [`Builder`] sets a publication limit of two terms, at which writers are pressed back.
 
 #![deny(unsafe_code)]
 #![deny(missing_docs)]
@@ -51,6 +53,7 @@ mod poller;
 mod replay;
 mod rule;
 mod scan;
+mod season;
 mod shelf;
 #[allow(unsafe_code)]
 mod sys;
@@ -70,5 +73,6 @@ pub use poller::{Action, Block, Fragment, Fragments, Poller};
 pub use replay::{Batch, Count, Replay};
 pub use rule::Rule;
 pub use scan::{Availability, FrameLength, GapScan};
+pub use season::Reader;
 pub use sys::{Header, Record, Sums};
 pub use tally::{PartitionTally, Stop, Tally};

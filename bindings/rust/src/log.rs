@@ -2,6 +2,7 @@
 
 use crate::claim::{Claim, OpenClaim};
 use crate::sys::{self, Header, Record};
+use crate::season::Readers;
 use crate::{Builder, Error, FrameLength, Poller, Rule};
 use std::fmt;
 use std::sync::atomic::{AtomicU64, Ordering};
@@ -29,7 +30,8 @@ pub struct Log<B: Bytes = Vec<u8>> {
     pub(crate) record: Record,
     pub(crate) bytes: B,
     // Of the last offer or claim: a place in the order, 0 before the first.
-    rule: u32,
+    pub(crate) rule: u32,
+    pub(crate) readers: Readers,
     // No two logs of a process share it, so that a claim of one is no claim of another.
     pub(crate) identity: u64,
 }
@@ -68,6 +70,11 @@ impl Log {
 }
 
 impl<B: Bytes> Log<B> {
+    /// A log that knows no reader yet.
+    fn new(record: Record, bytes: B, rule: u32) -> Log<B> {
+        Log { record, bytes, rule, readers: Readers::default(), identity: new_identity() }
+    }
+
     /// Opens an empty log in memory that is given: exactly three terms, which are zeroed. Refuses as [`open`](Log::open), and any other length, with
     /// [`Error::IllegalRecord`]; then nothing is written.
     ///
@@ -92,7 +99,7 @@ impl<B: Bytes> Log<B> {
         stream_id: i32,
     ) -> Result<Log<B>, Error> {
         match sys::open(bytes.as_mut(), term_length, mtu_length, initial_term_id, session_id, stream_id) {
-            Ok(record) => Ok(Log { record, bytes, rule: 0, identity: new_identity() }),
+            Ok(record) => Ok(Log::new(record, bytes, 0)),
             Err(code) => Err(Error::check(code).expect_err("a number that is not 0 is a refusal's")),
         }
     }
@@ -115,7 +122,7 @@ impl<B: Bytes> Log<B> {
     pub fn from_parts(record: Record, bytes: B) -> Result<Log<B>, Error> {
         // A scan with limit 0 judges record and log and looks at no frame. Its only other refusal, 1, is for a term length below 1.
         Error::check(sys::scan(&record, bytes.as_ref(), 0, 0, 0).code).map_err(|_| Error::IllegalRecord)?;
-        Ok(Log { record, bytes, rule: 0, identity: new_identity() })
+        Ok(Log::new(record, bytes, 0))
     }
 
     /// The record and the bytes, to be kept for [`from_parts`](Log::from_parts).
@@ -138,7 +145,7 @@ impl<B: Bytes> Log<B> {
     /// # Ok::<(), logbuffer::Error>(())
     /// ```
     pub fn snapshot(&self) -> Log {
-        Log { record: self.record, bytes: self.bytes.as_ref().to_vec(), rule: self.rule, identity: new_identity() }
+        Log::new(self.record, self.bytes.as_ref().to_vec(), self.rule)
     }
 
     /// The record as the last call left it.
@@ -167,8 +174,8 @@ impl<B: Bytes> Log<B> {
     /// Lets offers and claims through that begin below a position from 0 to 2^62; any other is refused with [`Error::IllegalRecord`]. A
     /// limit may also be set lower, and after a close.
     ///
-    /// Keep it at most two terms ahead of the slowest reader: only the start is judged, so a message may end past the limit, and what
-    /// comes to lie three terms ahead of a reader overwrites what it has not read.
+    /// Keep it at two terms past the beginning of the slowest reader's term, as [`housekeep`](Log::housekeep) does. Further on a writer that trips into a partition which is
+    /// not cleared is refused [`Error::NotCleared`], and its tail moves; nothing that the slowest reader needs is ever overwritten.
     ///
     /// ```
     /// use logbuffer::{Error, Log};
@@ -252,7 +259,8 @@ impl<B: Bytes> Log<B> {
     /// Refuses [`PublicationClosed`](Error::PublicationClosed), [`AdminAction`](Error::AdminAction) where the term was full (by
     /// [`Rule::TermRotated`]: make the call again), [`BackPressured`](Error::BackPressured) or [`NotConnected`](Error::NotConnected) at the limit,
     /// [`ExceedsMaxMessageLength`](Error::ExceedsMaxMessageLength), at the very end of a stream
-    /// [`MaxPositionExceeded`](Error::MaxPositionExceeded) or [`LastTerm`](Error::LastTerm), in a record made by hand
+    /// [`MaxPositionExceeded`](Error::MaxPositionExceeded) or [`LastTerm`](Error::LastTerm), where the term was full and the next partition is not
+    /// cleared [`NotCleared`](Error::NotCleared) (the tail has moved, so clear before the next call; [`append`](Log::append) does), in a record made by hand
     /// [`TailOverflow`](Error::TailOverflow), and a message over 2147483647 bytes as [`IllegalArgument`](Error::IllegalArgument).
     ///
     /// ```
@@ -449,11 +457,12 @@ impl<B: Bytes> Log<B> {
         sys::position(&Record { is_closed: false, ..self.record }).position
     }
 
-    /// A reader's place that has been written anew is refused: three terms on the partition holds another term. Positions out of range are left to
-    /// the calls.
+    /// A reader's place that has been cleared or written anew is refused: three terms on the partition holds another term, two terms on it may be cleared for that.
+    /// Positions out of range are left to the calls.
     pub(crate) fn check_place(&self, position: i64) -> Result<(), Error> {
-        let count = position.div_euclid(i64::from(self.record.term_length));
-        match position >= 0 && i64::from(self.record.active_term_count) - count >= 3 {
+        let behind = i64::from(self.record.active_term_count) - position.div_euclid(i64::from(self.record.term_length));
+        let is_cleared = behind == 2 && self.record.is_cleared(self.record.due_partition());
+        match position >= 0 && (behind >= 3 || is_cleared) {
             true => Err(Error::Overrun),
             false => Ok(()),
         }

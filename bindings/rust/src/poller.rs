@@ -1,6 +1,6 @@
 //! A reader at a position: polls, the peek, blocks, and fragments one by one. Read assembler.rs and replay.rs next.
 //!
-//! Readers of the C face do not compare a frame's term id with their position, and nobody wipes a term that is written a second time.
+//! Readers of the C face do not compare a frame's term id with their position, and until the next partition is cleared it holds an older term.
 //! So every call here is bounded by the publisher's position: what lies past it is of an older term, or nothing.
 
 use crate::log::Bytes;
@@ -74,8 +74,8 @@ pub struct Block<'a> {
 
 /// A reader at a position of a log. Made by [`Log::poller`]; it borrows nothing, so each call is handed the log.
 ///
-/// A reader three terms behind the publisher finds its place written anew, and is refused [`Error::Overrun`]: what it did not read is gone. Keep the publication limit
-/// at most two terms past the slowest reader, for a message may end past the limit.
+/// The log does not wait for it: a reader whose term was cleared, or written anew, is refused [`Error::Overrun`], for what it did not read is gone. A
+/// [`Reader`](crate::Reader) is one that the log waits for.
 ///
 /// Its calls refuse a position that is negative, over the greatest, or not a multiple of 32 with [`Error::PositionOutOfRange`], and a
 /// damaged frame at their start with [`Error::FrameTooShort`] or [`Error::FramePastTerm`] and its place.

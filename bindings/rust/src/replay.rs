@@ -1,13 +1,14 @@
-//! A log's messages from the start, one after another or in batches. The last of the files; tests/ has the calls in use.
+//! A log's messages from the start or a position, one after another or in batches. The last of the files; tests/ has the calls in use.
 
 use crate::log::Bytes;
 use crate::sys;
 use crate::{Error, Log};
 
-/// The messages of a log from position 0, whole, up to the end or the first claim still open. Made by [`Log::replay`].
+/// The messages of a log from position 0 or another one, whole, up to the publisher's position or the first claim still open. Made by [`Log::replay`] and
+/// [`Log::replay_from`].
 ///
-/// Up to the publisher's position, and while that is not past three terms, these are the messages accepted, in order, byte for byte. Further on the first
-/// terms are written anew, and a replay is refused [`Error::Overrun`]: follow the log with a [`Poller`](crate::Poller).
+/// These are the messages accepted after the start, in order, byte for byte, each once. A start in a term that has been cleared is refused
+/// [`Error::Overrun`].
 ///
 /// It ends with the first refusal: that one, or [`Error::FrameTooShort`], [`Error::FramePastTerm`] or [`Error::AssemblyFull`], which only a log damaged or made by hand brings.
 ///
@@ -51,7 +52,7 @@ pub struct Count {
 }
 
 impl<B: Bytes> Replay<'_, B> {
-    /// The position behind the last message that was handed out, or the last batch; 0 before the first.
+    /// The position behind the last message that was handed out, or the last batch; the start before the first.
     ///
     /// ```
     /// let mut log = logbuffer::Log::builder().open()?;
@@ -65,13 +66,17 @@ impl<B: Bytes> Replay<'_, B> {
         self.replay.image.position
     }
 
-    /// Whether nothing more comes: all was handed out, the publisher's position is reached, or the place was written anew, which is told once.
+    /// Whether fragments were read of a message that has not come whole.
+    pub(crate) fn is_between_fragments(&self) -> bool {
+        self.replay.assembler.held.iter().any(|&held| held > 0)
+    }
+
+    /// Whether nothing more comes: all was handed out, or the place was cleared or written anew, which is told once.
     fn end(&mut self) -> Option<Result<(), Error>> {
-        let position = self.replay.image.position;
-        if self.is_ended || position >= self.log.publisher_position() {
+        if self.is_ended {
             return Some(Ok(()));
         }
-        let place = self.log.check_place(position);
+        let place = self.log.check_place(self.replay.image.position);
         self.is_ended = place.is_err();
         place.err().map(Err)
     }
@@ -130,11 +135,7 @@ impl<B: Bytes> Replay<'_, B> {
             self.is_ended = true;
             return answer.err().map(Err);
         }
-        // Behind the publisher's position the frames of an older term may lie.
-        let end = self.log.publisher_position();
-        let messages = self.numbers[..4 * reply.messages].chunks_exact(4).take_while(|message| message[3] as i64 <= end).count();
-        self.is_ended = messages < reply.messages;
-        let messages = self.numbers[..4 * messages].chunks_exact(4);
+        let messages = self.numbers[..4 * reply.messages].chunks_exact(4);
         Some(Ok(Batch { log: self.log.bytes.as_ref(), buffer: &self.buffer, messages }))
     }
 }
@@ -197,7 +198,21 @@ impl<B: Bytes> Log<B> {
     /// # Ok::<(), logbuffer::Error>(())
     /// ```
     pub fn replay(&self) -> Replay<'_, B> {
-        let replay = sys::replay_new(self.record.session_id);
+        self.replay_from(0)
+    }
+
+    /// The log's messages from a position that an offer, claim or reader answered. Any position is taken; a replay from one that is out of range is
+    /// refused [`Error::PositionOutOfRange`].
+    ///
+    /// ```
+    /// let mut log = logbuffer::Log::builder().open()?;
+    /// let after = log.offer(b"coin")?;
+    /// log.offer(b"pin")?;
+    /// assert_eq!(log.replay_from(after).collect::<Vec<_>>(), [Ok(b"pin".to_vec())]);
+    /// # Ok::<(), logbuffer::Error>(())
+    /// ```
+    pub fn replay_from(&self, position: i64) -> Replay<'_, B> {
+        let replay = sys::replay_new(position, self.record.session_id);
         Replay { log: self, replay, buffer: self.assembly_buffer(), numbers: Vec::new(), is_ended: false }
     }
 
@@ -213,24 +228,23 @@ impl<B: Bytes> Log<B> {
     /// # Ok::<(), logbuffer::Error>(())
     /// ```
     pub fn count(&self) -> Result<Count, Error> {
-        self.check_place(0)?;
-        if self.publisher_position() >= 3 * i64::from(self.record.term_length) {
-            return self.count_up_to_the_end();
-        }
-        let reply = sys::replay_count(&self.record, self.bytes.as_ref(), &mut self.assembly_buffer(), self.record.session_id);
-        Error::check_frame(reply.code, None, reply.messages).map(|()| Count { messages: reply.messages, bytes: reply.bytes })
+        self.count_from(0)
     }
 
-    /// The same of three full terms, behind which the first one's frames lie again.
-    fn count_up_to_the_end(&self) -> Result<Count, Error> {
-        let (mut replay, mut count) = (self.replay(), Count { messages: 0, bytes: 0 });
-        while let Some(batch) = replay.next_batch(1_024) {
-            for message in batch? {
-                count.messages += 1;
-                count.bytes += message.len();
-            }
-        }
-        Ok(count)
+    /// The same of a [`replay_from`](Log::replay_from) a position.
+    ///
+    /// ```
+    /// let mut log = logbuffer::Log::builder().open()?;
+    /// let after = log.offer(b"coin")?;
+    /// log.offer(b"pin")?;
+    /// assert_eq!(log.count_from(after)?.bytes, 3);
+    /// # Ok::<(), logbuffer::Error>(())
+    /// ```
+    pub fn count_from(&self, position: i64) -> Result<Count, Error> {
+        self.check_place(position)?;
+        let mut buffer = self.assembly_buffer();
+        let reply = sys::replay_count(&self.record, self.bytes.as_ref(), &mut buffer, position, self.record.session_id);
+        Error::check_frame(reply.code, None, reply.messages).map(|()| Count { messages: reply.messages, bytes: reply.bytes })
     }
 
     /// The longest body of one frame: mtu - 32.

@@ -24,7 +24,7 @@ macro_rules! rules {
 
         impl Rule {
             /// Every rule, in the order of the checks.
-            pub const ALL: [Rule; 16] = [$(Rule::$name),*];
+            pub const ALL: [Rule; 17] = [$(Rule::$name),*];
 
             /// The number of the answer: that of the refusal, 0 where it accepts.
             ///
@@ -70,14 +70,15 @@ rules! {
     10 TailOverflow 11 "tail overflow" "too many calls after the term was full: rotate, or go back to the last good record"
     11 TripPastMaxPosition 7 "tripped, past the greatest position" "the stream is at its end: open a new log"
     12 LastTerm 12 "last term" "the stream is at its end: open a new log"
-    13 TermRotated 6 "term rotated" "make the same call again, with the record that was answered"
-    14 Unfragmented 0 "unfragmented" "accepted, as one frame"
-    15 Fragmented 0 "fragmented" "accepted, as several frames"
-    16 Claimed 0 "claimed" "accepted: write the body, then commit or abort"
+    13 NotCleared 19 "not cleared" "clear the partition due next before the next call: each call that is refused so moves the tail"
+    14 TermRotated 6 "term rotated" "make the same call again, with the record that was answered"
+    15 Unfragmented 0 "unfragmented" "accepted, as one frame"
+    16 Fragmented 0 "fragmented" "accepted, as several frames"
+    17 Claimed 0 "claimed" "accepted: write the body, then commit or abort"
 }
 
 impl Rule {
-    /// Its place in the order of the checks, 1 to 16.
+    /// Its place in the order of the checks, 1 to 17.
     ///
     /// ```
     /// assert_eq!(logbuffer::Rule::CountOutOfStep.place(), 5);
@@ -90,7 +91,7 @@ impl Rule {
     ///
     /// ```
     /// use logbuffer::Rule;
-    /// assert_eq!(Rule::from_place(13), Some(Rule::TermRotated));
+    /// assert_eq!(Rule::from_place(14), Some(Rule::TermRotated));
     /// assert_eq!(Rule::from_place(0), None);
     /// ```
     pub fn from_place(place: u32) -> Option<Rule> {

@@ -32,6 +32,10 @@ pub struct Record {
     pub end_of_stream_position: i64,
     /// Whether the publication is closed.
     pub is_closed: bool,
+    /// How far the slowest reader has come: terms that end at or before it may be cleared.
+    pub slowest_position: i64,
+    /// Bit k says that partition k, 0 to 2, is cleared; the other bits mean nothing.
+    pub cleared_marks: u64,
 }
 
 /// The 32 bytes of a frame's header as they stand, and the position past the frame.
@@ -191,12 +195,13 @@ pub use face::{
     logbuffer_index_by_term_count as index_by_term_count, logbuffer_is_power_of_two as is_power_of_two,
     logbuffer_position as position, logbuffer_position_bits_to_shift as position_bits_to_shift,
     logbuffer_publication_limit as publication_limit, logbuffer_set_publication_limit as set_publication_limit,
+    logbuffer_set_slowest_position as set_slowest_position,
     logbuffer_term_id as term_id, logbuffer_term_offset as term_offset,
 };
 
 /// What makes the linker look for the face's version: an archive of another one does not link.
 #[used]
-static FACE: extern "C" fn() -> u32 = face::logbuffer_face_1;
+static FACE: extern "C" fn() -> u32 = face::logbuffer_face_2;
 
 #[allow(dead_code)] // the whole face stands here; what the safe calls have no use for too
 mod face {
@@ -210,12 +215,13 @@ mod face {
     #[rustfmt::skip]
     unsafe extern "C" {
         pub safe fn logbuffer_set_publication_limit(rec: &mut Record, limit: i64) -> i32;
+        pub safe fn logbuffer_set_slowest_position(rec: &mut Record, position: i64) -> i32;
         pub safe fn logbuffer_close(rec: &mut Record) -> i32;
         pub safe fn logbuffer_rotate_log(rec: &mut Record, count: i32, term_id: i32) -> i32;
         pub safe fn logbuffer_position(rec: &Record) -> PositionReply;
         pub safe fn logbuffer_publication_limit(rec: &Record) -> PositionReply;
         pub safe fn logbuffer_available_window(rec: &Record) -> PositionReply;
-        pub safe fn logbuffer_face_1() -> u32;
+        pub safe fn logbuffer_face_2() -> u32;
         pub safe fn logbuffer_align(value: u32) -> usize;
         pub safe fn logbuffer_is_power_of_two(value: u32) -> bool;
         pub safe fn logbuffer_term_id(raw_tail: i64) -> i32;
@@ -226,12 +232,13 @@ mod face {
         pub safe fn logbuffer_compute_position(term_id: i32, offset: u32, bits: u32, initial_term_id: i32) -> PositionReply;
         pub safe fn logbuffer_image_new(image: &mut Image, position: i64, session_id: i32);
         pub safe fn logbuffer_assembler_new(assembler: &mut Assembler);
-        pub safe fn logbuffer_replay_new(replay: &mut Replay, session_id: i32);
+        pub safe fn logbuffer_replay_new(replay: &mut Replay, position: i64, session_id: i32);
 
         pub fn logbuffer_open(
             rec: &mut Record, log: Out, log_length: usize, term_length: i32, mtu_length: i32, initial_term_id: i32, session_id: i32,
             stream_id: i32,
         ) -> i32;
+        pub fn logbuffer_clear_partition(rec: &mut Record, log: Out, log_length: usize, partition: i32) -> i32;
         pub fn logbuffer_offer(
             rec: &mut Record, log: Out, log_length: usize, message: In, message_length: usize, reserved_value: i64,
         ) -> OfferReply;
@@ -302,7 +309,7 @@ mod face {
             numbers_length: usize,
         ) -> BatchReply;
         pub fn logbuffer_replay_count(
-            rec: &Record, log: In, log_length: usize, buffer: Out, buffer_length: usize, session_id: i32,
+            rec: &Record, log: In, log_length: usize, buffer: Out, buffer_length: usize, position: i64, session_id: i32,
         ) -> CountReply;
         pub fn logbuffer_card_write(
             card: Card, note: In, note_length: usize, out: Out, out_length: usize,
@@ -345,6 +352,8 @@ pub fn open(
         publication_limit: 0,
         end_of_stream_position: 0,
         is_closed: false,
+        slowest_position: 0,
+        cleared_marks: 0,
     };
     // SAFETY: pointers and lengths are those of the slices.
     let code = unsafe {
@@ -378,10 +387,15 @@ pub fn assembler_new() -> Assembler {
     assembler
 }
 
-pub fn replay_new(session_id: i32) -> Replay {
+pub fn replay_new(position: i64, session_id: i32) -> Replay {
     let mut replay = Replay::default();
-    face::logbuffer_replay_new(&mut replay, session_id);
+    face::logbuffer_replay_new(&mut replay, position, session_id);
     replay
+}
+
+pub fn clear_partition(rec: &mut Record, log: &mut [u8], partition: i32) -> i32 {
+    // SAFETY: pointers and lengths are those of the slices.
+    unsafe { face::logbuffer_clear_partition(rec, log.as_mut_ptr(), log.len(), partition) }
 }
 
 pub fn offer(rec: &mut Record, log: &mut [u8], message: &[u8], reserved_value: i64) -> OfferReply {
@@ -581,9 +595,9 @@ pub fn replay_next_batch(replay: &mut Replay, rec: &Record, log: &[u8], buffer: 
     }
 }
 
-pub fn replay_count(rec: &Record, log: &[u8], buffer: &mut [u8], session_id: i32) -> CountReply {
+pub fn replay_count(rec: &Record, log: &[u8], buffer: &mut [u8], position: i64, session_id: i32) -> CountReply {
     // SAFETY: pointers and lengths are those of the slices.
-    unsafe { face::logbuffer_replay_count(rec, log.as_ptr(), log.len(), buffer.as_mut_ptr(), buffer.len(), session_id) }
+    unsafe { face::logbuffer_replay_count(rec, log.as_ptr(), log.len(), buffer.as_mut_ptr(), buffer.len(), position, session_id) }
 }
 
 pub fn card_write(card: Card, note: &[u8], out: &mut [u8]) -> CardWriteReply {

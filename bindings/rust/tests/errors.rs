@@ -36,14 +36,14 @@ fn every_rule_is_a_row_of_its_table() {
         assert_eq!(rule.error().map_or(0, Error::number), rule.number());
         assert_eq!(Rule::from_place(rule.place()), Some(rule));
     }
-    assert_eq!((rows(true).len(), Rule::from_place(17)), (Rule::ALL.len(), None));
+    assert_eq!((rows(true).len(), Rule::from_place(18)), (Rule::ALL.len(), None));
 }
 
 #[test]
 fn numbers_go_there_and_back() {
     for number in -3..30 {
         let error = Error::from_number(number);
-        assert_eq!(error.is_some(), (1..=18).contains(&number) && number != 17 || (21..=24).contains(&number) || number == 26);
+        assert_eq!(error.is_some(), (1..=24).contains(&number) && number != 17 || number == 26);
         assert_eq!(error.map(Error::number), error.map(|_| number));
         assert_eq!(Error::try_from(number), error.ok_or(number));
     }

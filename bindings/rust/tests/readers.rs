@@ -17,11 +17,15 @@ fn append(log: &mut Log, message: &[u8]) -> i64 {
 fn a_reader_follows_the_log_round_its_terms() {
     let (mut log, mut random) = (log(), Random(5));
     let (mut poller, mut assembler) = (log.poller(0), Assembler::new(&log));
+    let mut reader = log.register_reader(0).unwrap();
     while poller.position() < 20 * i64::from(TERM) {
         let messages: Vec<_> = (0..random.below(20)).map(|_| random.message(2_000)).collect();
         for message in &messages {
-            append(&mut log, message);
+            log.append(message).unwrap();
         }
+        let mut known = Vec::new();
+        assert_eq!(reader.messages(&log, |message| known.push(message.to_vec())), Ok(messages.len()));
+        assert_eq!(known, messages);
         let mut read = Vec::new();
         for fragment in poller.fragments(&log) {
             read.extend(assembler.on_fragment(&log, &fragment.unwrap()).unwrap().map(<[u8]>::to_vec));
@@ -66,9 +70,8 @@ fn no_call_reads_what_an_older_term_left() {
     while log.position().unwrap() < 3 * i64::from(TERM) {
         log.offer(b"").ok();
     }
-    log.offer(b"").ok(); // rotates into the first partition, full of old frames
     let end = log.position().unwrap();
-    assert_eq!(end, 3 * i64::from(TERM));
+    assert_eq!(end, 3 * i64::from(TERM)); // which is in the first partition, full of old frames
     let mut poller = log.poller(end);
     assert_eq!(poller.poll(&log, 10, |_| ()), Ok(0));
     assert_eq!(poller.bounded_poll(&log, i64::MAX, 10, |_| ()), Ok(0));
@@ -77,7 +80,10 @@ fn no_call_reads_what_an_older_term_left() {
     assert_eq!(poller.block_poll(&log, 1_000), Ok(None));
     assert_eq!(poller.position(), end);
 
-    let after = log.offer(&[1; 64]).unwrap(); // old frames begin where it ends
+    log.set_slowest_position(end).unwrap();
+    log.clear_partition(0).unwrap();
+    let after = log.append(&[1; 64]).unwrap();
+    assert_eq!(after, end + 96);
     log.close().unwrap();
     assert_eq!(poller.controlled_peek(&log, end, i64::MAX, 10, |_| Action::Continue), Ok(after));
     assert_eq!(poller.clone().controlled_poll(&log, 10, |_| Action::Continue), Ok(1));
@@ -135,20 +141,29 @@ fn a_reader_that_was_overrun_is_told_and_handed_nothing() {
     }
     assert_eq!(replay.next_message(), None);
 
+    log.set_slowest_position(i64::from(TERM)).unwrap();
+    log.clear_partition(0).unwrap();
+    overrun(&log);
     log.offer(&[2; 64]).ok(); // rotates: the first term's place is the fourth's
+    assert_eq!(log.record().active_term_count, 3);
+    overrun(&log);
+}
+
+/// Of the first term nothing is left; of the second all.
+fn overrun(log: &Log) {
     for position in [0, 32, i64::from(TERM) - 32] {
         let mut poller = log.poller(position);
-        assert_eq!(poller.poll(&log, 10, |_| ()), Err(Error::Overrun));
-        assert_eq!(poller.controlled_poll(&log, 10, |_| Action::Continue), Err(Error::Overrun));
-        assert_eq!(poller.controlled_peek(&log, position, i64::MAX, 10, |_| Action::Continue), Err(Error::Overrun));
-        assert_eq!(poller.block_poll(&log, 1_000), Err(Error::Overrun));
-        assert_eq!(poller.ahead(&log), Err(Error::Overrun));
-        assert_eq!(poller.fragments(&log).next().unwrap(), Err(Error::Overrun));
+        assert_eq!(poller.poll(log, 10, |_| ()), Err(Error::Overrun));
+        assert_eq!(poller.controlled_poll(log, 10, |_| Action::Continue), Err(Error::Overrun));
+        assert_eq!(poller.controlled_peek(log, position, i64::MAX, 10, |_| Action::Continue), Err(Error::Overrun));
+        assert_eq!(poller.block_poll(log, 1_000), Err(Error::Overrun));
+        assert_eq!(poller.ahead(log), Err(Error::Overrun));
+        assert_eq!(poller.fragments(log).next().unwrap(), Err(Error::Overrun));
         assert_eq!(poller.position(), position);
     }
     assert_eq!(log.replay().collect::<Vec<_>>(), [Err(Error::Overrun)]);
     assert_eq!(log.count(), Err(Error::Overrun));
-    assert!(log.poller(i64::from(TERM)).poll(&log, 10, |_| ()).unwrap() > 0);
+    assert!(log.poller(i64::from(TERM)).poll(log, 10, |_| ()).unwrap() > 0);
 }
 
 #[test]

@@ -48,6 +48,10 @@ fn illegal_record_2_of_a_log_made_by_hand() {
     assert!(refused(|record| record.tails[0] = raw_tail(7, 8)));
     assert!(refused(|record| record.tails[0] = raw_tail(7, 1 << 31)));
     assert!(refused(|record| record.publication_limit = (1 << 62) + 1));
+    assert!(refused(|record| record.slowest_position = -32));
+    assert!(refused(|record| record.slowest_position = 33));
+    assert!(refused(|record| record.slowest_position = (i64::from(TERM) << 31) + 32));
+    assert!(!refused(|record| record.slowest_position = i64::from(TERM) << 31));
     assert_eq!(made(|_, bytes| bytes.truncate(5)).err(), Some(Error::IllegalRecord));
     assert!(made(|_, _| ()).is_ok());
 }
@@ -228,6 +232,73 @@ fn new_position_out_of_range_15_and_not_aligned_16() {
     assert_eq!(peek(72), Err(Error::NewPositionNotAligned));
     assert_eq!(poller.position(), 64);
     assert_eq!(log.poller(0).controlled_peek(&log, 65_568, i64::MAX, 0, |_| Action::Continue), Err(Error::NewPositionOutOfRange));
+}
+
+#[test]
+fn position_out_of_range_3_and_new_position_out_of_range_15_of_the_slowest_reader() {
+    let mut log = log();
+    for position in [8, -32, i64::MIN, i64::MAX, (i64::from(TERM) << 31) + 32] {
+        assert_eq!(log.set_slowest_position(position), Err(Error::PositionOutOfRange));
+        assert_eq!(log.register_reader(position).err(), Some(Error::PositionOutOfRange));
+    }
+    log.close().unwrap();
+    assert_eq!([64, 64, 32, 96].map(|position| log.set_slowest_position(position)), [Ok(()), Ok(()), Err(Error::NewPositionOutOfRange), Ok(())]);
+    assert_eq!(log.record().slowest_position, 96);
+}
+
+#[test]
+fn not_cleared_19() {
+    let mut log = made(|record, _| {
+        record.tails = [raw_tail(7, 65_568), raw_tail(8, 65_568), raw_tail(9, 65_472)];
+        record.active_term_count = 2;
+        record.cleared_marks = 0;
+    })
+    .unwrap();
+    // an append looks first, and nothing has moved
+    assert_eq!((log.append(&[1; 64]), log.rule()), (Err(Error::NotCleared), Some(Rule::NotCleared)));
+    assert_eq!(log.record().tails[2], raw_tail(9, 65_472));
+    assert_eq!((log.offer(&[1; 64]), log.rule()), (Err(Error::NotCleared), Some(Rule::NotCleared)));
+    assert_eq!((log.record().tails[2], log.record().active_term_count), (raw_tail(9, 65_568), 2));
+    assert_eq!(log.header_at(2, 65_472).unwrap().frame_length, 64); // padding
+    assert_eq!((log.try_claim(0).err(), log.rule()), (Some(Error::NotCleared), Some(Rule::NotCleared)));
+    assert_eq!(log.record().tails[2], raw_tail(9, 65_600));
+    log.set_slowest_position(i64::from(TERM)).unwrap();
+    log.clear_partition(0).unwrap();
+    assert_eq!((log.offer(&[1; 64]), log.rule()), (Err(Error::AdminAction), Some(Rule::TermRotated)));
+    assert_eq!([0, 1, 2].map(|partition| log.record().is_cleared(partition)), [false; 3]);
+    assert_eq!(log.offer(&[1; 64]), Ok(3 * i64::from(TERM) + 96));
+}
+
+/// Who goes on calling moves the tail up to the limit, and then every call is pressed back for good.
+#[test]
+fn retries_after_19_run_into_the_limit() {
+    let mut log = log();
+    while log.append(&[1; 64]) != Err(Error::NotCleared) {}
+    assert_eq!(log.offer(&[1; 64]), Err(Error::NotCleared)); // pads the third term
+    log.set_slowest_position(3 * i64::from(TERM)).unwrap(); // all readers are at the end
+    log.set_publication_limit(4 * i64::from(TERM)).unwrap();
+    let refused = std::iter::repeat_with(|| log.offer(&[1; 64])).take_while(|answer| *answer == Err(Error::NotCleared)).count();
+    assert_eq!(refused, 683);
+    assert_eq!(log.position(), Ok(3 * i64::from(TERM)));
+    log.clear_partition(0).unwrap();
+    assert_eq!(log.offer(&[1; 64]), Err(Error::BackPressured)); // too late
+}
+
+#[test]
+fn not_due_20() {
+    let mut log = log();
+    for partition in [-1, 3, i32::MIN, i32::MAX] {
+        assert_eq!(log.clear_partition(partition), Err(Error::IllegalArgument));
+    }
+    assert_eq!([0, 1, 2].map(|partition| log.clear_partition(partition)), [Err(Error::NotDue), Ok(()), Err(Error::NotDue)]);
+    while log.append(&[1; 64]) != Err(Error::NotCleared) {}
+    for (slowest, answer) in [(0, Err(Error::NotDue)), (TERM - 32, Err(Error::NotDue)), (TERM, Ok(())), (TERM, Ok(()))] {
+        log.set_slowest_position(slowest.into()).unwrap();
+        assert_eq!(log.clear_partition(0), answer);
+    }
+    assert!(log.as_bytes()[..TERM as usize].iter().all(|byte| *byte == 0));
+    log.close().unwrap();
+    assert_eq!(log.clear_partition(0), Ok(()));
 }
 
 /// A log whose second frame, at 64, has this length.

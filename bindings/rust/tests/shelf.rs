@@ -77,18 +77,19 @@ fn a_term_with_an_open_claim_is_not_filled() {
 }
 
 #[test]
-fn older_frames_behind_the_newest_may_fill_a_term() {
+fn a_term_stays_until_it_is_cleared_and_is_filled_anew() {
     let mut log = log();
-    while log.record().active_term_count < 3 {
-        assert!(matches!(log.offer(&[9; 64]), Ok(_) | Err(Error::AdminAction)));
-    }
-    let before = log.shelve(0).unwrap();
-    log.offer(&[9; 64]).unwrap();
-    let n = u32::from_le_bytes(before[..4].try_into().unwrap()) as usize;
-    let shelf = log.shelve(0).unwrap();
+    while log.append(&[9; 64]) != Err(Error::NotCleared) {}
+    let first = log.shelve(0).unwrap();
+    log.set_slowest_position(i64::from(TERM)).unwrap();
+    log.clear_partition(0).unwrap();
+    assert_eq!(log.shelve(0), Err(Error::NotFilled));
+    while log.append(&[9; 64]) != Err(Error::NotCleared) {}
+    let fourth = log.shelve(0).unwrap();
+    let n = u32::from_le_bytes(first[..4].try_into().unwrap()) as usize;
     let ids = 4 + 20 * n..4 + 21 * n; // the lowest bytes of the term ids
-    assert!(before[ids.clone()].iter().all(|id| *id == 7));
-    assert_eq!((shelf[ids.start], &shelf[ids.start + 1..ids.end]), (10, &before[ids.start + 1..ids.end]));
+    assert!(first[ids.clone()].iter().all(|id| *id == 7) && fourth[ids.clone()].iter().all(|id| *id == 10));
+    assert_eq!((&first[..ids.start], &first[ids.end..]), (&fourth[..ids.start], &fourth[ids.end..]));
 }
 
 /// A log with one frame over the whole first term, changed in one place.

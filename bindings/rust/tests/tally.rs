@@ -33,13 +33,21 @@ fn each_sum_has_its_own_meaning() {
     assert_eq!(log.tally(352, 352), Ok(tally(0, 0, 0, 0, 352, Stop::Reached)));
 }
 
-/// Messages of 40 bytes, 682 to a term and then 64 of padding, until a count of terms is full.
+/// Messages of 40 bytes, 682 to a term and then 64 of padding, until a count of terms, 3 or more, is full: the last three lie in the log, and the trip from
+/// the last of them is refused.
 fn filled(terms: i32) -> Log {
     let mut log = log();
-    while log.record().active_term_count < terms {
-        let _ = log.offer(&[3; 40]);
+    loop {
+        let before = i64::from(log.record().active_term_count) - 1;
+        if (1..i64::from(terms) - 2).contains(&before) && !log.record().is_cleared(log.record().due_partition()) {
+            log.set_slowest_position(before * END).unwrap();
+            log.clear_partition(log.record().due_partition()).unwrap();
+        }
+        if log.offer(&[3; 40]) == Err(Error::NotCleared) {
+            assert_eq!(log.record().active_term_count, terms - 1);
+            return log;
+        }
     }
-    log
 }
 
 fn sums(messages: usize, padding: usize) -> Sums {
@@ -65,6 +73,9 @@ fn each_partition_has_the_sums_of_its_part_for_every_starting_term() {
 #[test]
 fn a_part_that_stops_short_stops_those_that_follow_it_in_the_stream() {
     let mut log = filled(4);
+    log.set_slowest_position(2 * END).unwrap();
+    log.clear_partition(1).unwrap();
+    assert_eq!(log.try_claim(10).err(), Some(Error::AdminAction));
     let open = log.try_claim(10).unwrap().into_open();
     // the claim is in partition 1, of the term that comes after those in partitions 2 and 0
     let answer = log.tally_by_partition(2 * END, 5 * END).unwrap();
@@ -94,23 +105,14 @@ fn bytes_in_four_terms_come_after_row_3_and_before_the_frame() {
 
 #[test]
 fn a_walk_goes_over_the_ends_of_terms_and_of_the_log() {
-    let mut log = log();
-    let (mut offered, mut messages) = (0, Vec::new());
-    while log.record().active_term_count < 4 {
-        match log.offer(&[3; 40]) {
-            Ok(position) => messages.push(position),
-            Err(error) => assert_eq!(error, Error::AdminAction),
-        }
-        offered += 1;
-    }
-    assert!(offered > messages.len());
+    let log = filled(4);
     let end = log.position().unwrap();
     assert_eq!(end, 4 * END);
     // 682 messages of 40 bytes fill a term but for 64 bytes, which are padding
     let whole = tally(3 * 682 * 40, 3 * 682 * 32, 3 * 682 * 24, 3 * 64, end, Stop::Reached);
     assert_eq!(log.tally(END, end), Ok(whole));
     assert_eq!(log.tally(END, end + 32), Err(Error::IllegalArgument));
-    // the first term is overwritten
+    // the fourth term lies where the first did, and the second where the fifth will
     assert_eq!(log.tally(0, END), Ok(tally(0, 0, 0, 0, 0, Stop::OtherTerm)));
     assert_eq!(log.tally(end, end + END), Ok(tally(0, 0, 0, 0, end, Stop::OtherTerm)));
 }
