@@ -61,6 +61,7 @@ fn assembles(sessions: usize) {
             put_frame(bytes, at, [0x80, 0, 0, 0x40][part], 100 + (k % sessions) as i32);
         }
     }
+    ours.set_tail(1_408 * 4 * count);
     let mut buffer = vec![0; 16 * 8_192];
     assert_eq!(replayed(&log, 256, 8_192), ours.count_all(&mut buffer));
     assert_eq!(ours.count_all(&mut buffer), (count, count * 5_504));

@@ -68,7 +68,7 @@ fn row<A, B>(name: &str, units: usize, mut rust: impl FnMut() -> A, mut port: im
     println!("| {name} | {a:.1} | {b:.1} | {:.2} |", b / a);
 }
 
-/// Offers go through the three terms again and again; nothing is cleared in between.
+/// Offers go through the three terms again and again; nothing is cleared in between, on either side (`Log::mark`).
 fn offers(name: &str, length: usize, term: i32, mtu: i32, count: usize) {
     let (mut message, mut copy) = (port::Memory::zeroed(length), port::Memory::zeroed(length));
     message.fill(5);

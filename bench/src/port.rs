@@ -10,6 +10,8 @@ pub struct Record {
     publication_limit: i64,
     end_of_stream_position: i64,
     is_closed: bool,
+    slowest_position: i64,
+    cleared_marks: u64,
 }
 
 #[repr(C)]
@@ -122,12 +124,12 @@ extern "C" {
     fn logbuffer_commit(rec: *const Record, log: *mut u8, n: usize, claim: Claim) -> i32;
     fn logbuffer_image_new(image: *mut Image, position: i64, session: i32);
     fn logbuffer_image_poll(image: *mut Image, rec: *const Record, log: *const u8, n: usize, entries: *mut i32, e: usize, limit: i32) -> PollReply;
-    fn logbuffer_replay_new(replay: *mut Replay, session: i32);
+    fn logbuffer_replay_new(replay: *mut Replay, position: i64, session: i32);
     fn logbuffer_replay_next(replay: *mut Replay, rec: *const Record, log: *const u8, n: usize, buffer: *mut u8, b: usize) -> NextReply;
     fn logbuffer_replay_next_batch(
         replay: *mut Replay, rec: *const Record, log: *const u8, n: usize, buffer: *mut u8, b: usize, numbers: *mut usize, m: usize,
     ) -> BatchReply;
-    fn logbuffer_replay_count(rec: *const Record, log: *const u8, n: usize, buffer: *mut u8, b: usize, session: i32) -> CountReply;
+    fn logbuffer_replay_count(rec: *const Record, log: *const u8, n: usize, buffer: *mut u8, b: usize, position: i64, session: i32) -> CountReply;
     fn logbuffer_scan(rec: *const Record, log: *const u8, n: usize, partition: i32, offset: i32, limit: i32) -> ScanReply;
     fn logbuffer_scan_for_gap(rec: *const Record, log: *const u8, n: usize, partition: i32, id: i32, offset: i32, high: i32) -> GapReply;
     fn logbuffer_tally(rec: *const Record, log: *const u8, n: usize, from: i64, to: i64) -> TallyReply;
@@ -204,7 +206,20 @@ impl Log {
     pub fn offer(&mut self, message: &[u8]) -> i64 {
         let (log, n) = (self.bytes.as_mut_ptr(), self.bytes.len());
         let reply = unsafe { logbuffer_offer(&mut self.record, log, n, message.as_ptr(), message.len(), 0) };
+        self.mark(reply.code);
         reply.position - reply.code as i64
+    }
+
+    /// After a rotation every partition is marked as cleared, by hand: the Rust clears nothing, and what is measured are offers and claims.
+    fn mark(&mut self, code: i32) {
+        if code == 6 {
+            self.record.cleared_marks = 7;
+        }
+    }
+
+    /// The publisher has come so far in the first term, for frames written by hand: replays stop at its position.
+    pub fn set_tail(&mut self, offset: usize) {
+        self.record.tails[0] = (7 << 32) + offset as i64;
     }
 
     pub fn claim_and_commit(&mut self, length: i32) -> i32 {
@@ -213,6 +228,7 @@ impl Log {
         if reply.code == 0 {
             return unsafe { logbuffer_commit(&self.record, log, n, reply.claim) };
         }
+        self.mark(reply.code);
         (reply.code as i64 - reply.position) as i32
     }
 
@@ -234,7 +250,7 @@ impl Log {
     /// Replays all of the log message by message: how many, and their bytes.
     pub fn replay_all(&self, buffer: &mut [u8]) -> (usize, usize) {
         let (mut replay, mut messages, mut bytes) = (Replay::default(), 0, 0);
-        unsafe { logbuffer_replay_new(&mut replay, 11) };
+        unsafe { logbuffer_replay_new(&mut replay, 0, 11) };
         loop {
             let (log, n) = (self.bytes.as_ptr(), self.bytes.len());
             let reply = unsafe { logbuffer_replay_next(&mut replay, &self.record, log, n, buffer.as_mut_ptr(), buffer.len()) };
@@ -250,7 +266,7 @@ impl Log {
     /// The same with so many messages a call as the numbers hold.
     pub fn batch_all(&self, buffer: &mut [u8], numbers: &mut [usize]) -> (usize, usize) {
         let (mut replay, mut messages, mut bytes) = (Replay::default(), 0, 0);
-        unsafe { logbuffer_replay_new(&mut replay, 11) };
+        unsafe { logbuffer_replay_new(&mut replay, 0, 11) };
         loop {
             let (log, n, out) = (self.bytes.as_ptr(), self.bytes.len(), numbers.as_mut_ptr());
             let reply = unsafe {
@@ -269,7 +285,7 @@ impl Log {
     /// The same in one call.
     pub fn count_all(&self, buffer: &mut [u8]) -> (usize, usize) {
         let (log, n) = (self.bytes.as_ptr(), self.bytes.len());
-        let reply = unsafe { logbuffer_replay_count(&self.record, log, n, buffer.as_mut_ptr(), buffer.len(), 11) };
+        let reply = unsafe { logbuffer_replay_count(&self.record, log, n, buffer.as_mut_ptr(), buffer.len(), 0, 11) };
         assert_eq!(reply.code, 0);
         (reply.messages, reply.bytes)
     }

@@ -3,7 +3,7 @@
 
 use crate::row;
 
-/// The record: three tails, count, initial id, term length, mtu, session, stream, connected, limit, end of stream, closed.
+/// The record: three tails, count, initial id, term length, mtu, session, stream, connected, limit, end of stream, closed, slowest reader, marks.
 #[repr(C)]
 #[derive(Clone, Copy)]
 struct Record {
@@ -12,6 +12,8 @@ struct Record {
     publication_limit: i64,
     end_of_stream_position: i64,
     is_closed: bool,
+    slowest_position: i64,
+    cleared_marks: u64,
 }
 
 extern "C" {
@@ -26,6 +28,8 @@ fn record(term: usize) -> Record {
         publication_limit: 0,
         end_of_stream_position: i64::MAX,
         is_closed: false,
+        slowest_position: 0,
+        cleared_marks: 6,
     }
 }
 

@@ -403,6 +403,27 @@ impl Arguments {
         }
     }
 
+    /// Most often all, so that a trip rotates as the Rust does; the bits above the three are nobody's.
+    pub fn marks(&mut self) -> u64 {
+        let marks = if self.chance(60) { 7 } else { self.below(8) };
+        let others = if self.chance(10) { self.any_u64() & !7 } else { 0 };
+        marks | others
+    }
+
+    /// A position for the slowest reader: around the end of the term that is due, where it is, the publisher's, and the ends of its range.
+    pub fn slowest(&mut self, r: &Record) -> i64 {
+        let (term, count) = (r.term_length.max(1) as i64, r.active_term_count.max(0) as i64);
+        match self.below(12) {
+            0..=4 => ((count - 1) * term).max(r.slowest_position),
+            5 => (count - 1) * term + self.pick(&[-64, -32, 0, 32]),
+            6 | 7 => r.slowest_position.saturating_add(self.pick(&[-32, 0, 0, 8, 32, 64])),
+            8 => r.publisher_position(),
+            9 => (count * term).saturating_add(32 * self.below(2_000) as i64),
+            10 => self.pick(&[0, 32, 8, -32, -1]),
+            _ => self.pick(&[term << 31, (term << 31) + 32, (term << 31) - 32, i64::MAX, i64::MIN]),
+        }
+    }
+
     /// Counts, ids and tails at the ends of their ranges, in step with each other.
     pub fn edge_record(&mut self, from: &Record) -> Record {
         let mut record = *from;
@@ -421,6 +442,8 @@ impl Arguments {
         record.tails[(partition + 1) % 3] = (id.wrapping_sub(2) as i64) << 32;
         record.tails[(partition + 2) % 3] = ((id.wrapping_sub(1) as i64) << 32) | self.tail_offset(&record);
         record.publication_limit = self.pick(&[0, 1 << 62, 1 << 62, 1 << 62, 1 << 46, 65_536]);
+        record.slowest_position = self.slowest(&record).clamp(0, (record.term_length as i64) << 31) & !31;
+        record.cleared_marks = self.marks();
         record.is_connected = self.pick(&[0, 1, 1, 1, 2]);
         record
     }
@@ -434,7 +457,7 @@ impl Arguments {
     pub fn broken_record(&mut self, from: &Record) -> Record {
         let mut r = *from;
         let k = self.below(3) as usize;
-        match self.below(12) {
+        match self.below(14) {
             0 => r.term_length = self.pick(&[r.term_length + 1, r.term_length / 2, r.term_length.wrapping_mul(2), 0, -1, 32_768, i32::MIN, 1 << 20]),
             1 => r.mtu_length = self.pick(&[0, 32, 63, 64, 65, 65_504, 65_505, 65_536, -32, i32::MAX, i32::MIN]),
             2 => r.initial_term_id = self.pick(&[-2_147_483_648, -2_147_483_647, -2_147_483_646, 2_147_483_647]),
@@ -447,6 +470,8 @@ impl Arguments {
             8 => r.tails[k] = ((self.edge_i32() as i64) << 32) | (r.tails[k] & 0xffff_ffff),
             9 => r.is_connected = self.edge_i32(),
             10 => r.end_of_stream_position = self.pick(&[i64::MIN, -1, 0, 32, i64::MAX]),
+            11 => r.slowest_position = self.slowest(from),
+            12 => r.cleared_marks = self.marks(),
             _ => r.tails.swap(k, (k + 1) % 3),
         }
         r

@@ -1,6 +1,6 @@
 //! The assembler's part of `domain.rs`, from document 01: its bookkeeping, and where a fragment or a replay is refused 18, 22 or 23.
 
-use crate::calls::{Assembler, Call, Image};
+use crate::calls::{Assembler, Call, Image, Record};
 use crate::domain::{align, State, Verdict};
 
 /// What a frame does to the bookkeeping: the number, the session's part that its body goes to, from where, and whether a message ends.
@@ -66,23 +66,41 @@ fn on_fragment(s: &State, partition: i32, offset: i32) -> Verdict {
     }
 }
 
-/// A replay polls one fragment at a time into its assembler and gives nothing from three terms on, where it still polls first (D-44);
+/// So many polls of one fragment make a call of a replay at most, and so many messages a count: the bytes of the log, and one. Only a log and a record that no
+/// calls made come to it, where the publisher's position is far ahead and finished frames go all round.
+pub fn most(record: &Record) -> usize {
+    3 * record.term_length.max(0) as usize + 1
+}
+
+/// A replay polls one fragment at a time into its assembler, only while below the publisher's position (R-4 of document 02);
 /// `whole` goes on after a message.
 fn replay(s: &State, image: &Image, assembler: &Assembler, buffer: usize, whole: bool) -> Verdict {
     if let Some(verdict) = s.replayable(image) {
         return verdict;
     }
     let (mut at, mut assembler) = (image.position, *assembler);
+    let (end, most) = (s.record.publisher_position(), most(s.record));
+    let (mut polls, mut messages, mut is_polling) = (0, 0, false);
     loop {
         let (partition, offset) = (at / s.term() % 3, at % s.term());
+        // A poll goes on over padding up to the term's end.
+        if !is_polling || offset == 0 {
+            if at >= end || polls == most || messages == most {
+                return Verdict::Inside;
+            }
+            polls += 1;
+        }
         let (length, is_padding, is_sound) = s.frame(partition, offset);
         if length > 0 && !is_sound {
-            return s.bad_frame(partition, offset);
+            // Behind padding the poll ends there, and the next one begins there, if it is made.
+            let is_made = !is_polling || (at < end && polls < most);
+            return if is_made { s.bad_frame(partition, offset) } else { Verdict::Inside };
         }
-        if length <= 0 || at >= 3 * s.term() {
+        if length <= 0 {
             return Verdict::Inside;
         }
         at += align(length);
+        is_polling = is_padding;
         if is_padding {
             continue;
         }
@@ -92,8 +110,12 @@ fn replay(s: &State, image: &Image, assembler: &Assembler, buffer: usize, whole:
             return Verdict::Refused(step.code);
         }
         assembler = step.next;
-        if !whole && (step.is_delivered || flags & 0xc0 == 0xc0) {
+        let is_message = step.is_delivered || flags & 0xc0 == 0xc0;
+        if is_message && !whole {
             return Verdict::Inside;
+        }
+        if is_message {
+            (polls, messages) = (0, messages + 1);
         }
     }
 }
@@ -103,7 +125,10 @@ pub fn judge(call: &Call, s: &State) -> Option<Verdict> {
         Call::AssemblerNew { .. } | Call::ReplayNew { .. } => Verdict::Inside,
         Call::OnFragment { partition, offset } => on_fragment(s, *partition, *offset),
         Call::ReplayNext => replay(s, s.replay.0, s.replay.1, s.replay.2, false),
-        Call::ReplayCount { buffer, .. } => replay(s, &Image::default(), &Assembler::default(), *buffer, true),
+        Call::ReplayCount { position, buffer, .. } => {
+            let image = Image { position: *position, ..Image::default() };
+            replay(s, &image, &Assembler::default(), *buffer, true)
+        }
         _ => return None,
     })
 }

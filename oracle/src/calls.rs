@@ -22,6 +22,23 @@ pub struct Record {
     pub publication_limit: i64,
     pub end_of_stream_position: i64,
     pub is_closed: bool,
+    pub slowest_position: i64,
+    /// Bit k is the mark of partition k; the Rust has neither marks nor a slowest reader (R-4 of document 02).
+    pub cleared_marks: u64,
+}
+
+impl Record {
+    /// The publisher's position of any record, also of a closed publication: the active tail's, its offset cut to the term.
+    pub fn publisher_position(&self) -> i64 {
+        let raw = self.tails[(self.active_term_count % 3).max(0) as usize];
+        let (id, offset, term) = ((raw >> 32) as i32, raw & 0xffff_ffff, self.term_length as i64);
+        id.wrapping_sub(self.initial_term_id) as i64 * term + offset.min(term)
+    }
+
+    /// The partition due next of a count of terms.
+    pub fn due(count: i32) -> u32 {
+        ((count as i64 + 1) % 3) as u32
+    }
 }
 
 #[repr(C)]
@@ -59,6 +76,9 @@ pub enum Call {
     SetPublicationLimit { limit: i64 },
     Close,
     RotateLog { count: i32, term_id: i32 },
+    /// The two calls of R-4 of document 02, which the Rust has not.
+    SetSlowestPosition { position: i64 },
+    ClearPartition { partition: i32 },
     Position,
     PublicationLimit,
     AvailableWindow,
@@ -106,10 +126,10 @@ pub enum Call {
     // Messages put together again. A new assembler has a lent buffer of this length.
     AssemblerNew { buffer: usize },
     OnFragment { partition: i32, offset: i32 },
-    ReplayNew { session_id: i32, buffer: usize },
+    ReplayNew { position: i64, session_id: i32, buffer: usize },
     ReplayNext,
     /// A whole replay with its own buffer.
-    ReplayCount { session_id: i32, buffer: usize },
+    ReplayCount { position: i64, session_id: i32, buffer: usize },
 
     // Plain numbers.
     Align { value: u32 },

@@ -33,6 +33,8 @@ use world::{Start, Told, World};
 struct Table {
     rows: HashMap<Discriminant<Call>, (String, BTreeMap<Told, u64>)>,
     compared: u64,
+    /// The most terms that a list filled one after the other, none of them by hand.
+    longest: i32,
 }
 
 impl Table {
@@ -58,6 +60,9 @@ impl Table {
         println!("{turned} claims over the payload limit on a closed publication: the port 5, the Rust 4 (R-3)");
         let wrapped = all.get(&Told::Wrapped).unwrap_or(&0);
         println!("{wrapped} calls whose term ids wrap, the same as the Rust's with every id moved (R-8)");
+        let alone = [Told::Refused(19), Told::Refused(20), Told::Alone].map(|told| all.get(&told).unwrap_or(&0));
+        println!("{} offers and claims refused 19, {} clearings refused 20, {} clearings and rises of the slowest reader done (R-4)", alone[0], alone[1], alone[2]);
+        println!("seasons of up to {} terms", self.longest);
     }
 }
 
@@ -74,6 +79,7 @@ fn cells(tolds: &BTreeMap<Told, u64>) -> [String; 5] {
             Told::Overflowed => texts[3].push(format!("overflow: {n}")),
             Told::ClosedAndLong => texts[3].push(format!("R-3: {n}")),
             Told::Wrapped => texts[3].push(format!("R-8: {n}")),
+            Told::Alone => texts[3].push(format!("R-4: {n}")),
             Told::ByHand => texts[3].push(format!("by hand: {n}")),
         }
     }
@@ -102,6 +108,9 @@ fn run(mut list: List, table: &mut Table) -> Result<(), Difference> {
             Err(what) => return Err(Difference { start, calls, what }),
         }
         list.note(calls.last().expect("just pushed"), &world.answered, &world.port);
+    }
+    if list.kind == lists::Kind::Season {
+        table.longest = table.longest.max(world.port.record.active_term_count);
     }
     world.whole_log().map_err(|what| Difference { start, calls, what })
 }

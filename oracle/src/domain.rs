@@ -35,9 +35,11 @@ pub enum Verdict {
     Wrapped,
     /// A claim over the payload limit on a closed publication: by R-3 of document 02 it refuses 5, and in the Rust 4.
     ClosedAndLong,
+    /// Done, by a call that the Rust has not: a clearing, or the slowest reader raised (R-4 of document 02).
+    Alone,
 }
 
-use Verdict::{BadFrame, ClosedAndLong, Empty, Inside, Refused, Stopped};
+use Verdict::{Alone, BadFrame, ClosedAndLong, Empty, Inside, Refused, Stopped};
 
 const MOST: i64 = 2_147_483_647;
 
@@ -83,6 +85,17 @@ impl State<'_> {
             || offset % 32 != 0
             || offset > MOST
             || !(0..=1 << 62).contains(&r.publication_limit)
+            || self.off_position(r.slowest_position)
+    }
+
+    /// Row 3: a position that no reader may have.
+    fn off_position(&self, position: i64) -> bool {
+        position < 0 || position > self.greatest() || position % 32 != 0
+    }
+
+    /// Whether a partition is marked as cleared.
+    fn is_marked(&self, partition: u32) -> bool {
+        self.record.cleared_marks >> partition & 1 == 1
     }
 
     /// Row 2 with the log: exactly three terms.
@@ -235,7 +248,7 @@ pub fn need(length: i64, payload_limit: i64) -> i64 {
     length / payload_limit * (payload_limit + 32) + if rest > 0 { align(rest + 32) } else { 0 }
 }
 
-/// Offers and claims after rows 1, 2, 5 and 4: only 11, and 12 after a trip, are outside.
+/// Offers and claims after rows 1, 2, 5 and 4: only 11, and 12 and 19 after a trip, are outside.
 fn publish(s: &State, length: i64, is_offer: bool) -> Verdict {
     let r = s.record;
     let (id, offset) = s.tail(s.active());
@@ -256,10 +269,29 @@ fn publish(s: &State, length: i64, is_offer: bool) -> Verdict {
         return Refused(11);
     }
     let is_tripped = offset + need > s.term_length();
-    if is_tripped && position + offset <= s.greatest() && count == MOST {
-        return Refused(12);
+    if !is_tripped || position + offset > s.greatest() {
+        return Inside;
     }
-    Inside
+    match (count == MOST, s.is_marked(Record::due(r.active_term_count))) {
+        (true, _) => Refused(12),
+        (false, false) => Refused(19),
+        (false, true) => Inside,
+    }
+}
+
+/// The slowest reader and the marks that a call leaves (R-4 of document 02), by the state before it, its verdict and its rule.
+pub fn season(call: &Call, s: &State, verdict: Verdict, rule: Option<(u32, i32)>) -> (i64, u64) {
+    let (slowest, marks) = (s.record.slowest_position, s.record.cleared_marks);
+    let without = |partition: u32| marks & !(1 << partition);
+    match call {
+        _ if matches!(verdict, Refused(_) | BadFrame(..)) => (slowest, marks),
+        Call::Open { .. } => (0, 6),
+        Call::SetSlowestPosition { position } => (*position, marks),
+        Call::ClearPartition { partition } => (slowest, marks | 1 << *partition),
+        Call::RotateLog { count, .. } => (slowest, without(Record::due(*count))),
+        _ if rule == Some((14, 6)) => (slowest, without(Record::due(s.record.active_term_count))),
+        _ => (slowest, marks),
+    }
 }
 
 /// The rule of an offer or a claim (R-10 of document 02), by its place in the order, and its number: every check of 01's order as amended, one
@@ -294,10 +326,11 @@ pub fn rule(call: &Call, s: &State) -> Option<(u32, i32)> {
         (10, 11, offset + need > MOST),
         (11, 7, is_tripped && position + offset > s.greatest()),
         (12, 12, is_tripped && count == MOST),
-        (13, 6, is_tripped),
-        (14, 0, is_offer && length <= payload_limit),
-        (15, 0, is_offer),
-        (16, 0, true),
+        (13, 19, is_tripped && !s.is_marked(Record::due(r.active_term_count))),
+        (14, 6, is_tripped),
+        (15, 0, is_offer && length <= payload_limit),
+        (16, 0, is_offer),
+        (17, 0, true),
     ];
     checks.into_iter().find(|check| check.2).map(|(place, number, _)| (place, number))
 }
@@ -325,8 +358,23 @@ fn on_record(call: &Call, s: &State) -> Step {
             step.unwrap_or(Inside)
         }
         Call::Close | Call::Position | Call::PublicationLimit | Call::AvailableWindow => broken(s).unwrap_or(Inside),
+        Call::SetSlowestPosition { position } => {
+            let step = broken(s).or_else(|| refuse_if(s.off_position(*position), 3));
+            step.or_else(|| refuse_if(*position < s.record.slowest_position, 15)).unwrap_or(Alone)
+        }
+        Call::ClearPartition { partition } => {
+            let step = refuse_if(!(0..=2).contains(partition), 1).or_else(|| s.breaks(s.active()));
+            step.or_else(|| refuse_if(not_due(s, *partition), 20)).unwrap_or(Alone)
+        }
         _ => return None,
     })
+}
+
+/// Another partition than the one due next, or, from count 2 on, the slowest reader below the end of the term before the last full one.
+fn not_due(s: &State, partition: i32) -> bool {
+    let count = s.record.active_term_count as i64;
+    let is_needed = count >= 2 && s.record.slowest_position < (count - 1) * s.term_length();
+    partition as u32 != Record::due(s.record.active_term_count) || is_needed
 }
 
 fn open_claim(s: &State, claim: &Claim) -> Verdict {
@@ -428,7 +476,7 @@ fn misplaced(s: &State, image: &Image) -> Step {
     if image.is_closed {
         return Some(Inside);
     }
-    refuse_if(position < 0 || position > s.greatest() || position % 32 != 0, 3)
+    refuse_if(s.off_position(position), 3)
 }
 
 fn bad_actions(actions: &[u8]) -> bool {

@@ -25,6 +25,8 @@ struct Record {
     publication_limit: i64,
     end_of_stream_position: i64,
     is_closed: bool,
+    slowest_position: i64,
+    cleared_marks: u64,
 }
 
 #[repr(C)]
@@ -74,6 +76,8 @@ fn is_sound(rec: &Record, log: &[u8]) -> bool {
     is_term
         && is_mtu
         && (0..=1i64 << 62).contains(&rec.publication_limit)
+        && (0..=i64::from(rec.term_length) << 31).contains(&rec.slowest_position)
+        && rec.slowest_position % 32 == 0
         && usize::try_from(rec.active_term_count).is_ok_and(is_tail)
         && log.len() as i64 == 3 * i64::from(rec.term_length)
 }
@@ -236,14 +240,17 @@ impl Random {
             publication_limit: (self.next() >> 2) as i64,
             end_of_stream_position: self.next() as i64,
             is_closed: self.below(2) == 1,
+            slowest_position: (self.next() >> 18 & !31) as i64, // below 65,536 * 2^31
+            cleared_marks: self.next(),
         }
     }
 
     fn damage_record(&mut self, rec: &mut Record) {
-        match self.below(4) {
+        match self.below(5) {
             0 => rec.mtu_length += 1,
             1 => rec.active_term_count = -1 - self.below(3) as i32,
             2 => rec.publication_limit = self.of(&[-1, (1 << 62) + 1]),
+            3 => rec.slowest_position = self.of(&[-32, 8, (i64::from(rec.term_length) << 31) + 32, i64::MIN, i64::MAX]),
             _ => rec.term_length = self.of(&[-4, -1, 0, 32_768, 65_537, 131_072, i32::MAX, i32::MIN]),
         }
     }

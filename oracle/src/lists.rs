@@ -14,6 +14,8 @@ pub enum Kind {
     Fresh,
     Damaged,
     Limits,
+    /// Many terms one after the other, each cleared when it is due.
+    Season,
 }
 
 pub struct List {
@@ -29,7 +31,7 @@ pub struct List {
 type Make = fn(&mut List, &Port) -> Call;
 
 /// Each call with its weight in a list.
-const WEIGHTS: [(u32, Make); 43] = [
+const WEIGHTS: [(u32, Make); 46] = [
     (200, |l, p| l.offer(p)),
     (70, |l, p| Call::TryClaim { length: l.a.claim_length(p) }),
     (40, |l, p| Call::WriteBody { claim: l.claim(p), first: l.a.below(256) as u8 }),
@@ -38,6 +40,9 @@ const WEIGHTS: [(u32, Make); 43] = [
     (40, |l, p| Call::SetPublicationLimit { limit: l.a.limit(p) }),
     (4, |_, _| Call::Close),
     (14, |l, p| l.rotate(p)),
+    (20, |l, p| Call::SetSlowestPosition { position: l.a.slowest(&p.record) }),
+    (20, |l, p| l.clear(p)),
+    (10, |l, p| l.clear_due(p)),
     (20, |_, _| Call::Position),
     (8, |_, _| Call::PublicationLimit),
     (14, |_, _| Call::AvailableWindow),
@@ -62,10 +67,10 @@ const WEIGHTS: [(u32, Make); 43] = [
     (10, |l, _| Call::AssemblerNew { buffer: l.a.buffer() }),
     (45, |l, p| l.on_fragment(p)),
     (40, |l, p| l.fragments(p)),
-    (7, |l, _| Call::ReplayNew { session_id: l.a.session(), buffer: l.a.buffer() }),
+    (7, |l, p| Call::ReplayNew { position: l.replay_start(p), session_id: l.a.session(), buffer: l.a.buffer() }),
     (40, |_, _| Call::ReplayNext),
-    (4, |l, _| l.replay()),
-    (4, |l, _| Call::ReplayCount { session_id: l.a.session(), buffer: l.a.buffer() }),
+    (4, |l, p| l.replay(p)),
+    (4, |l, p| Call::ReplayCount { position: l.replay_start(p), session_id: l.a.session(), buffer: l.a.buffer() }),
     (50, |l, _| l.a.number()),
     (25, |l, p| l.retouch(p)),
     (20, |l, p| Call::SetRecord { record: l.moved(p) }),
@@ -73,6 +78,28 @@ const WEIGHTS: [(u32, Make); 43] = [
     (3, |l, _| l.open()),
     (3, |l, _| Call::Fill { seed: l.a.fill() }),
     (6, |l, p| l.set_image(p)),
+];
+
+/// A season: long messages, claims finished soon, readers, and the partition that is due cleared, at times too late or too early.
+const SEASON: [(u32, Make); 18] = [
+    (400, |l, p| l.long_offer(p)),
+    (60, |l, p| l.offer(p)),
+    (60, |l, p| Call::TryClaim { length: l.a.claim_length(p) }),
+    (40, |l, p| Call::WriteBody { claim: l.claim(p), first: l.a.below(256) as u8 }),
+    (60, |l, p| Call::Commit { claim: l.claim(p) }),
+    (30, |l, p| Call::Abort { claim: l.claim(p) }),
+    (90, |l, p| l.clear_due(p)),
+    (15, |l, p| Call::SetSlowestPosition { position: l.a.slowest(&p.record) }),
+    (15, |l, p| l.clear(p)),
+    (20, |_, _| Call::Position),
+    (40, |l, p| l.image_new(p)),
+    (60, |l, p| l.poll(p)),
+    (40, |l, p| l.bounded_poll(p)),
+    (20, |l, p| l.controlled_poll(p)),
+    (20, |l, p| l.block_poll(p)),
+    (30, |l, p| l.replay(p)),
+    (20, |l, p| Call::ReplayCount { position: l.replay_start(p), session_id: l.a.session(), buffer: l.a.buffer() }),
+    (20, |l, p| l.on_fragment(p)),
 ];
 
 /// Damage, added to the lists that are for it.
@@ -88,9 +115,10 @@ const DAMAGE: [(u32, Make); 6] = [
 impl List {
     pub fn new(seed: u64, is_long: bool) -> Self {
         let mut a = Arguments::new(seed);
-        let kind = a.pick(&[Kind::Fresh, Kind::Fresh, Kind::Fresh, Kind::Damaged, Kind::Limits]);
+        let kind = a.pick(&[Kind::Fresh, Kind::Fresh, Kind::Fresh, Kind::Damaged, Kind::Limits, Kind::Season]);
         let size = a.below(if is_long { 4000 } else { 1000 });
         let (term_length, length) = match size {
+            _ if kind == Kind::Season => (65_536, 1_200),
             0 => (16 << 20, 120),
             1..=10 => (1 << 20, 150),
             11..=60 => (131_072, 300),
@@ -123,7 +151,7 @@ impl List {
 
     /// What every list starts with: bytes in the log, a limit, images, buffers.
     fn begin(&mut self) {
-        let limit = if self.a.chance(80) { 1 << 62 } else { self.a.below(400_000) as i64 };
+        let limit = if self.kind == Kind::Season || self.a.chance(80) { 1 << 62 } else { self.a.below(400_000) as i64 };
         if self.start.term_length <= 1 << 20 {
             self.queue.push_back(Call::Fill { seed: self.a.fill() });
         }
@@ -131,7 +159,7 @@ impl List {
         (0..IMAGES).for_each(|image| self.queue.push_back(Call::ImageNew { image, position: 0, session_id: 11 }));
         let (buffer, session_id) = (self.a.buffer(), self.a.session());
         self.queue.push_back(Call::AssemblerNew { buffer });
-        self.queue.push_back(Call::ReplayNew { session_id, buffer });
+        self.queue.push_back(Call::ReplayNew { position: 0, session_id, buffer });
     }
 
     pub fn next(&mut self, port: &Port) -> Call {
@@ -143,14 +171,18 @@ impl List {
             return Call::SetRecord { record: Record { is_closed: false, ..port.record } };
         }
         let is_damage = match self.kind {
-            Kind::Fresh => false,
+            Kind::Fresh | Kind::Season => false,
             Kind::Damaged => self.a.chance(25),
             Kind::Limits => self.a.chance(6),
         };
         if self.kind == Kind::Limits && self.a.chance(10) {
             return Call::SetRecord { record: self.a.edge_record(&port.record) };
         }
-        let table: &[(u32, Make)] = if is_damage { &DAMAGE } else { &WEIGHTS };
+        let table: &[(u32, Make)] = match (self.kind, is_damage) {
+            (Kind::Season, _) => &SEASON,
+            (_, true) => &DAMAGE,
+            (_, false) => &WEIGHTS,
+        };
         let make = self.a.weighted(table);
         make(self, port)
     }
@@ -180,6 +212,43 @@ impl List {
     fn offer(&mut self, p: &Port) -> Call {
         let length = self.a.message_length(p);
         Call::Offer { message: self.a.bytes(length), reserved_value: self.a.any_i64() }
+    }
+
+    /// Of a size that a term holds a few of.
+    fn long_offer(&mut self, p: &Port) -> Call {
+        let length = self.a.below((p.record.term_length.max(8) / 8) as u64 + 1) as usize;
+        Call::Offer { message: self.a.bytes(length), reserved_value: self.a.any_i64() }
+    }
+
+    /// The slowest reader where the term that is due ends, or further on, and that partition cleared.
+    fn clear_due(&mut self, p: &Port) -> Call {
+        let r = &p.record;
+        let end = (r.active_term_count.max(0) as i64 - 1).max(0) * r.term_length.max(1) as i64;
+        let further = if self.a.chance(20) { 32 * self.a.below(2_048) as i64 } else { 0 };
+        self.queue.push_back(Call::ClearPartition { partition: Record::due(r.active_term_count.max(0)) as i32 });
+        Call::SetSlowestPosition { position: (end + further).max(r.slowest_position) }
+    }
+
+    /// The partition that is due, or any number.
+    fn clear(&mut self, p: &Port) -> Call {
+        let due = Record::due(p.record.active_term_count.max(0)) as i32;
+        let partition = match self.a.below(10) {
+            0 => self.a.edge_i32(),
+            1..=3 => self.a.pick(&[-1, 0, 1, 2, 3]),
+            _ => due,
+        };
+        Call::ClearPartition { partition }
+    }
+
+    /// The start of the log, of a term that is still there, or any place of a reader.
+    fn replay_start(&mut self, p: &Port) -> i64 {
+        let (count, term) = (p.record.active_term_count.max(0) as i64, p.record.term_length.max(1) as i64);
+        match self.a.below(6) {
+            0 | 1 => 0,
+            2 => count.saturating_sub(self.a.below(3) as i64).max(0) * term,
+            3 => p.record.slowest_position,
+            _ => self.a.image_position(p),
+        }
     }
 
     /// Most often a claim whose frame still shows a negative length.
@@ -380,9 +449,9 @@ impl List {
     }
 
     /// Message by message, most often to the end.
-    fn replay(&mut self) -> Call {
+    fn replay(&mut self, p: &Port) -> Call {
         (0..self.a.below(40)).for_each(|_| self.queue.push_back(Call::ReplayNext));
-        Call::ReplayNew { session_id: self.a.session(), buffer: self.a.buffer() }
+        Call::ReplayNew { position: self.replay_start(p), session_id: self.a.session(), buffer: self.a.buffer() }
     }
 
     fn retouch(&mut self, p: &Port) -> Call {
@@ -414,6 +483,9 @@ impl List {
         record.tails[partition] = ((id as i64) << 32) | offset;
         if self.a.chance(30) {
             record.tails[(partition + 1) % 3] = (id.wrapping_sub(2) as i64) << 32;
+        }
+        if self.a.chance(70) {
+            record.cleared_marks = self.a.marks();
         }
         record
     }

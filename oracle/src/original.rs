@@ -16,6 +16,7 @@ use aeron_rs::utils::bit_utils;
 use aeron_rs::utils::errors::{AeronError, IllegalArgumentError, IllegalStateError};
 use aeron_rs::utils::types::Index;
 
+use crate::assemblies::most;
 use crate::assembly::Assembly;
 use crate::calls::{body_bytes, fill, Answer, Assembler, Call, Claim, Image, Record, IMAGES, UNWRITTEN};
 
@@ -41,6 +42,8 @@ pub struct Original {
     replay: (Reader, Assembly),
     /// A record whose term length is not the log's: no call with the log can run on it.
     foreign: Option<Record>,
+    /// The slowest reader and the marks, which the Rust has not; `world.rs` keeps them here, so that whole records are compared.
+    season: (i64, u64),
 }
 
 thread_local! {
@@ -143,7 +146,7 @@ impl Original {
         let readers = (0..IMAGES).map(|_| reader(&log, closed)).collect();
         let replay = (reader(&log, closed), Assembly::new());
         let publication = log.publication();
-        let mut original = Original { log, publication, readers, assembly: Assembly::new(), replay, foreign: None };
+        let mut original = Original { log, publication, readers, assembly: Assembly::new(), replay, foreign: None, season: (0, 0) };
         original.set_record(record);
         original
     }
@@ -166,10 +169,20 @@ impl Original {
             publication_limit: self.log.limit.get(),
             end_of_stream_position: self.log.end_of_stream(),
             is_closed: self.publication.is_closed(),
+            slowest_position: self.season.0,
+            cleared_marks: self.season.1,
+        }
+    }
+
+    pub fn set_season(&mut self, season: (i64, u64)) {
+        self.season = season;
+        if let Some(record) = &mut self.foreign {
+            (record.slowest_position, record.cleared_marks) = season;
         }
     }
 
     pub fn set_record(&mut self, record: &Record) {
+        self.season = (record.slowest_position, record.cleared_marks);
         if record.term_length != self.log.term_length {
             self.foreign = Some(*record);
             return;
@@ -527,23 +540,27 @@ impl Original {
                 let message = self.assembly.on_fragment(&self.log.term(*partition), *offset, &header);
                 message.map_or(Answer::default(), |m| m.answer(0))
             }
-            Call::ReplayNew { session_id, .. } => {
-                let image = Image { session_id: *session_id, ..Image::default() };
+            Call::ReplayNew { position, session_id, .. } => {
+                let image = Image { position: *position, session_id: *session_id, ..Image::default() };
                 self.replay = (reader(&self.log, image), Assembly::new());
                 Answer::default()
             }
-            Call::ReplayNext => replay_next(&self.log, &mut self.replay),
-            Call::ReplayCount { session_id, .. } => {
-                let image = Image { session_id: *session_id, ..Image::default() };
-                let mut replay = (reader(&self.log, image), Assembly::new());
+            Call::ReplayNext => {
+                let record = self.record();
+                replay_next(&self.log, &record, &mut self.replay)
+            }
+            Call::ReplayCount { position, session_id, .. } => {
+                let image = Image { position: *position, session_id: *session_id, ..Image::default() };
+                let (record, mut replay) = (self.record(), (reader(&self.log, image), Assembly::new()));
                 let mut counts = [0, 0];
-                loop {
-                    let message = replay_next(&self.log, &mut replay);
+                while counts[0] < most(&record) as i64 {
+                    let message = replay_next(&self.log, &record, &mut replay);
                     if message.values[0] == crate::calls::NOTHING {
-                        break Answer::of(&counts);
+                        break;
                     }
                     counts = [counts[0] + 1, counts[1] + message.values[2]];
                 }
+                Answer::of(&counts)
             }
             _ => return None,
         })
@@ -558,12 +575,11 @@ fn with_entries(mut answer: Answer, call: &Call) -> Answer {
     answer
 }
 
-/// Polls one fragment at a time into the assembler until it hands out a message, or nothing moves, or three terms are read.
-fn replay_next(log: &Log, (reader, assembly): &mut (Reader, Assembly)) -> Answer {
-    let three_terms = 3 * log.term_length as i64;
-    loop {
+/// Polls one fragment at a time into the assembler until it hands out a message, or nothing moves, or the publisher's position is reached.
+fn replay_next(log: &Log, record: &Record, (reader, assembly): &mut (Reader, Assembly)) -> Answer {
+    for _ in 0..most(record) {
         let before = reader.place.get();
-        if before >= three_terms {
+        if before >= record.publisher_position() {
             return Answer::default();
         }
         let mut message = None;
@@ -572,12 +588,13 @@ fn replay_next(log: &Log, (reader, assembly): &mut (Reader, Assembly)) -> Answer
         };
         reader.image.poll(&mut handler, 1);
         if let Some(message) = message {
-            return message.answer(before / log.term_length as i64 * log.term_length as i64);
+            return message.answer(before / log.term_length as i64 % 3 * log.term_length as i64);
         }
         if reader.place.get() == before {
             return Answer::default();
         }
     }
+    Answer::default()
 }
 
 fn numbers(call: &Call) -> Option<Answer> {

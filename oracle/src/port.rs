@@ -55,6 +55,8 @@ mod c {
             rec: *mut Record, log: Out, n: usize, term: i32, mtu: i32, initial: i32, session: i32, stream: i32,
         ) -> i32;
         pub fn logbuffer_set_publication_limit(rec: *mut Record, limit: i64) -> i32;
+        pub fn logbuffer_set_slowest_position(rec: *mut Record, position: i64) -> i32;
+        pub fn logbuffer_clear_partition(rec: *mut Record, log: Out, n: usize, partition: i32) -> i32;
         pub fn logbuffer_close(rec: *mut Record) -> i32;
         pub fn logbuffer_rotate_log(rec: *mut Record, count: i32, term_id: i32) -> i32;
         pub fn logbuffer_position(rec: *const Record) -> PositionReply;
@@ -117,9 +119,11 @@ mod c {
         pub fn logbuffer_assembler_on_fragment(
             assembler: *mut Assembler, rec: *const Record, log: In, n: usize, buffer: Out, m: usize, partition: i32, offset: i32,
         ) -> AssemblyReply;
-        pub fn logbuffer_replay_new(replay: *mut Replay, session_id: i32);
+        pub fn logbuffer_replay_new(replay: *mut Replay, position: i64, session_id: i32);
         pub fn logbuffer_replay_next(replay: *mut Replay, rec: *const Record, log: In, n: usize, buffer: Out, m: usize) -> NextReply;
-        pub fn logbuffer_replay_count(rec: *const Record, log: In, n: usize, buffer: Out, m: usize, session_id: i32) -> CountReply;
+        pub fn logbuffer_replay_count(
+            rec: *const Record, log: In, n: usize, buffer: Out, m: usize, position: i64, session_id: i32,
+        ) -> CountReply;
     }
 }
 
@@ -236,6 +240,12 @@ impl Port {
             }),
             Call::SetPublicationLimit { limit } => {
                 Answer::refusal(unsafe { c::logbuffer_set_publication_limit(record, *limit) })
+            }
+            Call::SetSlowestPosition { position } => {
+                Answer::refusal(unsafe { c::logbuffer_set_slowest_position(record, *position) })
+            }
+            Call::ClearPartition { partition } => {
+                Answer::refusal(unsafe { c::logbuffer_clear_partition(record, log, n, *partition) })
             }
             Call::Close => Answer::refusal(unsafe { c::logbuffer_close(record) }),
             Call::RotateLog { count, term_id } => {
@@ -462,16 +472,16 @@ impl Port {
                 Answer::default()
             }
             Call::OnFragment { partition, offset } => self.on_fragment(*partition, *offset),
-            Call::ReplayNew { session_id, buffer } => {
-                unsafe { c::logbuffer_replay_new(&mut self.replay, *session_id) };
+            Call::ReplayNew { position, session_id, buffer } => {
+                unsafe { c::logbuffer_replay_new(&mut self.replay, *position, *session_id) };
                 self.replay_buffer = Lent::zeroed(*buffer);
                 Answer::default()
             }
             Call::ReplayNext => self.replay_next(),
-            Call::ReplayCount { session_id, buffer } => {
+            Call::ReplayCount { position, session_id, buffer } => {
                 let mut lent = Lent::zeroed(*buffer);
                 let out = lent.get_mut().as_mut_ptr();
-                let reply = unsafe { c::logbuffer_replay_count(record, log, n, out, *buffer, *session_id) };
+                let reply = unsafe { c::logbuffer_replay_count(record, log, n, out, *buffer, *position, *session_id) };
                 self.strayed |= lent.margins_touched();
                 Answer { code: reply.code, ..Answer::of(&[reply.messages as i64, reply.bytes as i64]) }
             }

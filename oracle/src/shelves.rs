@@ -25,6 +25,8 @@ struct Record {
     publication_limit: i64,
     end_of_stream_position: i64,
     is_closed: bool,
+    slowest_position: i64,
+    cleared_marks: u64,
 }
 
 extern "C" {
@@ -51,6 +53,8 @@ fn is_sound(rec: &Record) -> bool {
     is_term
         && is_mtu
         && (0..=1i64 << 62).contains(&rec.publication_limit)
+        && (0..=i64::from(rec.term_length) << 31).contains(&rec.slowest_position)
+        && rec.slowest_position % 32 == 0
         && usize::try_from(rec.active_term_count).is_ok_and(is_tail)
 }
 
@@ -230,6 +234,8 @@ impl Random {
             publication_limit: (self.next() >> 2) as i64,
             end_of_stream_position: self.next() as i64,
             is_closed: self.below(2) == 1,
+            slowest_position: (self.next() >> 18 & !31) as i64, // below 65,536 * 2^31
+            cleared_marks: self.next(),
         };
         match self.below(64) {
             0 => rec.mtu_length += 1,
@@ -240,6 +246,7 @@ impl Random {
             5 => rec.tails[rec.active_term_count as usize % 3] ^= [1, 16, 1 << 31][self.below(3)],
             6 => rec.term_length = [-4, -1, 0, 32_768, 65_537, 98_304, i32::MAX, i32::MIN][self.below(8)],
             7 => rec.term_length *= 2,
+            8 => rec.slowest_position = [-32, 8, (i64::from(term_length) << 31) + 32, i64::MIN, i64::MAX][self.below(5)],
             _ => {}
         }
         rec

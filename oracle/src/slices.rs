@@ -29,10 +29,10 @@ fn probes(length: usize) -> Vec<(Call, i32)> {
         (Call::AssemblerNew { buffer: length }, 0),
         (Call::OnFragment { partition: 0, offset: 0 }, number),
         (Call::AssemblerNew { buffer: 0 }, 0),
-        (Call::ReplayNew { session_id: 11, buffer: length }, 0),
+        (Call::ReplayNew { position: 0, session_id: 11, buffer: length }, 0),
         (Call::ReplayNext, number),
-        (Call::ReplayNew { session_id: 11, buffer: 0 }, 0),
-        (Call::ReplayCount { session_id: 11, buffer: length }, number),
+        (Call::ReplayNew { position: 0, session_id: 11, buffer: 0 }, 0),
+        (Call::ReplayCount { position: 0, session_id: 11, buffer: length }, number),
     ]
 }
 

@@ -224,6 +224,7 @@ impl Told {
             Call::ScanForGap { partition, term_id, offset, high_mark } => ints([partition, offset, term_id, high_mark]),
             Call::ScanForAvailability { partition, offset, maximum } => ints([partition, offset, maximum]),
             Call::OnFragment { partition, offset } => ints([partition, offset, &(self.buffer as i32)]),
+            // Every replay of the file begins at 0.
             Call::ReplayNew { session_id, .. } | Call::ReplayCount { session_id, .. } => ints([session_id]),
             _ => return None,
         })

@@ -3,10 +3,11 @@
 
 use crate::assemblies;
 use crate::calls::{Answer, Assembler, Call, Record, IMAGES, UNWRITTEN};
-use crate::domain::{judge, rule, State, Verdict};
+use crate::domain::{judge, rule, season, State, Verdict};
 use crate::moved;
 use crate::original::{Original, Outcome};
 use crate::port::Port;
+use crate::wrapped::wraps;
 
 /// Logs up to this length are compared whole after every call; of longer ones the parts that calls write, and all at a list's end.
 const WHOLE: usize = 4 << 20;
@@ -39,6 +40,8 @@ pub enum Told {
     Wrapped,
     /// Left out, by R-3 of document 02: the port refused 5 where the Rust refused 4.
     ClosedAndLong,
+    /// A clearing done, or the slowest reader raised, which the Rust has not (R-4 of document 02).
+    Alone,
     ByHand,
 }
 
@@ -96,20 +99,25 @@ impl World {
         }
         let verdict = judge(call, &self.state());
         let rule = rule(call, &self.state());
+        let left = season(call, &self.state(), verdict, rule);
+        let by = if verdict == Verdict::Refused(19) && wraps(call, &self.state()) { moved::moved_by(call, &self.port.record) } else { 0 };
         let fragment = self.expected_fragment(call, verdict);
         let before = self.port.record;
         let answer = self.port.call(call);
         self.answered = answer.values;
         self.decided(rule, &answer)?;
+        self.marked(left)?;
         let told = match verdict {
             Verdict::Inside => self.inside(call, &answer)?,
             Verdict::Stopped(at) => self.stopped(call, &answer, at)?,
+            Verdict::Refused(19) => self.not_cleared(call, &answer, &before, by)?,
             Verdict::Refused(number) => self.refused(call, &answer, Answer::refusal(number))?,
             Verdict::BadFrame(number, place) => self.refused(call, &answer, Answer::bad_frame(number, place))?,
             Verdict::Empty => self.empty(call, &answer)?,
             Verdict::Overflows => self.overflows(call)?,
             Verdict::Wrapped => self.wrapped(call, &answer, &before)?,
             Verdict::ClosedAndLong => self.closed_and_long(call, &answer)?,
+            Verdict::Alone => self.alone(call, &answer)?,
         };
         self.assembled(call, fragment)?;
         self.same_state(before.tails, call).map_err(|what| format!("{what}; port answered {answer:?}"))?;
@@ -124,6 +132,52 @@ impl World {
             }
             _ => Ok(()),
         }
+    }
+
+    /// The slowest reader and the marks are the papers'; the Rust has neither, so they are kept beside its record.
+    fn marked(&mut self, left: (i64, u64)) -> Result<(), String> {
+        let r = &self.port.record;
+        if (r.slowest_position, r.cleared_marks) != left {
+            return Err(format!("slowest reader {} and marks {:x}: R-4 of 02 has {left:x?}", r.slowest_position, r.cleared_marks));
+        }
+        self.original.set_season(left);
+        Ok(())
+    }
+
+    /// Done by the port alone. What it clears is cleared in the Rust's log by hand.
+    fn alone(&mut self, call: &Call, answer: &Answer) -> Result<Told, String> {
+        same(answer, &Answer::default(), "R-4 of 02")?;
+        if let Call::ClearPartition { partition } = call {
+            let term = self.port.record.term_length as usize;
+            self.original.log.terms_mut()[*partition as usize * term..][..term].fill(0);
+        }
+        Ok(Told::Alone)
+    }
+
+    /// The Rust knows no marks: it trips too, and rotates. Tail and padding have to be the same; its count and the next partition's tail are set back. Where
+    /// ids wrap it runs with every id moved.
+    fn not_cleared(&mut self, call: &Call, answer: &Answer, before: &Record, by: i32) -> Result<Told, String> {
+        same(answer, &Answer::refusal(19), "R-4 of 02")?;
+        let back = by.wrapping_neg();
+        self.original.set_record(&moved::moved_record(before, by));
+        match self.original.call(call) {
+            Outcome::Answered(given) if given == Answer::refusal(6) => {}
+            _ => return Err("19, but the Rust does not trip and rotate".to_string()),
+        }
+        let given = moved::moved_record(&self.original.record(), back);
+        let k = (before.active_term_count % 3) as usize;
+        let mut left = *before;
+        left.tails[k] = given.tails[k];
+        if left != self.port.record || given.active_term_count != before.active_term_count + 1 {
+            return Err(format!("19; records differ: port {:?}, Rust {given:?}", self.port.record));
+        }
+        if by != 0 {
+            let term = before.term_length as usize;
+            let [from, to] = [before.tails[k], left.tails[k]].map(|raw| (raw & 0xffff_ffff) as usize);
+            moved::move_frames(&mut self.original.log.terms_mut()[k * term..(k + 1) * term], from, to, back);
+        }
+        self.original.set_record(&self.port.record);
+        Ok(Told::Refused(19))
     }
 
     fn inside(&mut self, call: &Call, answer: &Answer) -> Result<Told, String> {
@@ -160,6 +214,7 @@ impl World {
             Outcome::Overflowed if answer.code == 12 => {}
             _ => return Err(format!("ids wrap: the Rust, its ids moved, has no answer; port {answer:?}")),
         }
+        self.original.set_season((self.port.record.slowest_position, self.port.record.cleared_marks));
         let record = moved::moved_record(&self.original.record(), back);
         if record != self.port.record {
             return Err(format!("ids wrap; records differ: port {:?}, Rust {record:?}", self.port.record));

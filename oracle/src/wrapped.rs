@@ -16,10 +16,10 @@ pub fn wraps(call: &Call, s: &State) -> bool {
     let is_far = |id: i64| !fits(id - r.initial_term_id as i64);
     let is_turned = |id: i64| !fits(id + 1) || !fits(id - 2);
     match call {
-        // The rules from the fifth on come after the count; the thirteenth rotates.
+        // The rules from the fifth on come after the count; by the thirteenth and the fourteenth the Rust rotates.
         Call::Offer { .. } | Call::TryClaim { .. } => {
             let place = rule(call, s).map_or(0, |(place, _)| place);
-            place >= 5 && (is_far(id) || place == 13 && is_turned(id))
+            place >= 5 && (is_far(id) || (13..=14).contains(&place) && is_turned(id))
         }
         Call::RotateLog { term_id, .. } => is_turned(*term_id as i64),
         Call::Position | Call::AvailableWindow => !r.is_closed && is_far(id),
