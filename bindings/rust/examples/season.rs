@@ -1,5 +1,5 @@
-//! A dig of twelve terms in a log that keeps three: the trench writes, the tent and the archive read, each at its own pace. What both have read is cleared
-//! and written again. `cargo run --example season`; what it prints stands in season.txt.
+//! A dig of more than twenty terms in a log that keeps three: the trench writes, the tent and the archive read, each at its own pace. What both have read is
+//! cleared and written again. `cargo run --example season`; what it prints stands in season.txt.
 
 use logbuffer::{Error, Log, Reader};
 
@@ -53,12 +53,12 @@ fn main() -> Result<(), Error> {
     println!("trench: {MESSAGES} readings in {} full terms and a part, pressed back {pressed} times", log.record().active_term_count);
     // A reader that nobody registered finds its place gone.
     println!("from the start: {}", log.poller(0).poll(&log, 1, |_| ()).unwrap_err());
-    println!("from two terms back: {} readings", log.count_from(back(&log))?.messages);
+    println!("from the oldest term that is left: {} readings", log.count_from(oldest(&log))?.messages);
     Ok(())
 }
 
 /// The beginning of the oldest term that is not cleared.
-fn back(log: &Log) -> i64 {
+fn oldest(log: &Log) -> i64 {
     let record = log.record();
     let terms = if record.is_cleared(record.due_partition()) { 1 } else { 2 };
     i64::from((record.active_term_count - terms).max(0)) * i64::from(record.term_length)
