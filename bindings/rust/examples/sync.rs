@@ -1,19 +1,11 @@
 //! Two devices of an excavation sync into one log: the trench offers its finds, the tent writes its own in place. A reader follows and
 //! lets them go on, and a replay shows what came in. `cargo run --example sync`; what it prints stands in sync.txt.
 
-use logbuffer::{Assembler, Error, FrameLength, Log, OpenClaim, Poller, Rule};
-
-/// An offer, made again where the term was full.
-fn append(log: &mut Log, message: &[u8]) -> Result<i64, Error> {
-    match log.offer(message) {
-        Err(_) if log.rule() == Some(Rule::TermRotated) => log.offer(message),
-        answer => answer,
-    }
-}
+use logbuffer::{Error, FrameLength, Log, OpenClaim, Poller};
 
 /// Asks for a block: ten find numbers for every 32 bytes of the log. No two blocks overlap (theorem `blocks-apart` of the project).
 fn request_block(log: &mut Log, device: &str) -> Result<i64, Error> {
-    let position = append(log, format!("{device} asks for a block").as_bytes())?;
+    let position = log.append(format!("{device} asks for a block").as_bytes())?;
     let first = (position - 32) / 32 * 10;
     println!("{device}: request at {position}, finds {first} to {}", first + 9);
     Ok(first)
@@ -36,16 +28,6 @@ fn show(log: &Log, title: &str) -> Result<(), Error> {
     Ok(())
 }
 
-/// Reads on to the end, and lets writers go two terms past it.
-fn follow(log: &mut Log, poller: &mut Poller, assembler: &mut Assembler) -> Result<usize, Error> {
-    let mut messages = 0;
-    for fragment in poller.fragments(log) {
-        messages += usize::from(assembler.on_fragment(log, &fragment?)?.is_some());
-    }
-    log.set_publication_limit(poller.position() + 2 * i64::from(log.record().term_length))?;
-    Ok(messages)
-}
-
 /// Says whether a reader has come to the end or to a claim that nobody has finished.
 fn stopped(log: &Log, poller: &Poller) -> Result<(), Error> {
     match poller.ahead(log)? {
@@ -60,7 +42,7 @@ fn stopped(log: &Log, poller: &Poller) -> Result<(), Error> {
 fn rescue(log: &mut Log) -> Result<(), Error> {
     let mut poller = log.poller(log.position()?);
     let lost = claim_find(log, "a find that nobody enters")?;
-    append(log, b"behind the lost find")?;
+    log.append(b"behind the lost find")?;
     poller.poll(log, 10, |_| ())?;
     stopped(log, &poller)?;
     log.abort(lost)?;
@@ -72,11 +54,11 @@ fn rescue(log: &mut Log) -> Result<(), Error> {
 fn sync(log: &mut Log) -> Result<(), Error> {
     let trench = request_block(log, "trench")?;
     let tent = request_block(log, "tent")?;
-    append(log, format!("{trench}: coin").as_bytes())?;
+    log.append(format!("{trench}: coin").as_bytes())?;
     let pin = claim_find(log, &format!("{tent}: pin"))?;
     let slip = claim_find(log, &format!("{}: written by mistake", tent + 1))?;
     let sherds = format!("{}: sherds of one pot, rim and base among them, and a handle that may be of another", trench + 1);
-    append(log, sherds.as_bytes())?; // longer than a frame's 64 bytes
+    log.append(sherds.as_bytes())?; // longer than a frame's 64 bytes
     show(log, "replay with two claims open")?;
     log.abort(slip)?;
     log.commit(pin)?;
@@ -88,21 +70,22 @@ fn main() -> Result<(), Error> {
     sync(&mut log)?;
     rescue(&mut log)?;
 
-    let (mut poller, mut assembler) = (log.poller(0), Assembler::new(&log));
+    // The log knows the reader: what it has read is cleared, and the writer goes two terms past it.
+    let mut reader = log.register_reader(0)?;
     let mut read = 0;
     for n in 0..10_000 {
         let message = format!("reading {n}");
-        if let Err(error) = append(&mut log, message.as_bytes()) {
+        if let Err(error) = log.append(message.as_bytes()) {
             assert_eq!(error, Error::BackPressured);
             println!("trench: pressed back at {}", log.position()?);
-            read += follow(&mut log, &mut poller, &mut assembler)?;
-            append(&mut log, message.as_bytes())?;
+            read += reader.messages(&log, |_| ())?;
+            log.append(message.as_bytes())?;
         }
     }
-    read += follow(&mut log, &mut poller, &mut assembler)?;
-    println!("reader: {read} messages up to {}", poller.position());
+    read += reader.messages(&log, |_| ())?;
+    println!("reader: {read} messages up to {}", reader.position());
 
     log.close()?;
-    println!("after closing: {}", append(&mut log, b"too late").unwrap_err());
+    println!("after closing: {}", log.append(b"too late").unwrap_err());
     Ok(())
 }

@@ -3,7 +3,7 @@
 mod common;
 
 use common::log;
-use logbuffer::{Assembler, Error, Log, OpenClaim, Poller};
+use logbuffer::{Assembler, Error, Log, OpenClaim, Poller, Reader};
 use std::sync::Mutex;
 use std::thread;
 
@@ -13,6 +13,7 @@ fn all_owned_values_are_send_and_sync() {
     check::<Log>();
     check::<OpenClaim>();
     check::<Poller>();
+    check::<Reader>();
     check::<Assembler>();
     check::<Error>();
 }
