@@ -442,7 +442,7 @@ impl Arguments {
         record.tails[(partition + 1) % 3] = (id.wrapping_sub(2) as i64) << 32;
         record.tails[(partition + 2) % 3] = ((id.wrapping_sub(1) as i64) << 32) | self.tail_offset(&record);
         record.publication_limit = self.pick(&[0, 1 << 62, 1 << 62, 1 << 62, 1 << 46, 65_536]);
-        record.slowest_position = self.slowest(&record).clamp(0, (record.term_length as i64) << 31) & !31;
+        record.slowest_position = self.slowest(&record).clamp(0, (record.term_length.max(1) as i64) << 31) & !31;
         record.cleared_marks = self.marks();
         record.is_connected = self.pick(&[0, 1, 1, 1, 2]);
         record
