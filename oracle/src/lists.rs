@@ -115,10 +115,13 @@ const DAMAGE: [(u32, Make); 6] = [
 impl List {
     pub fn new(seed: u64, is_long: bool) -> Self {
         let mut a = Arguments::new(seed);
-        let kind = a.pick(&[Kind::Fresh, Kind::Fresh, Kind::Fresh, Kind::Damaged, Kind::Limits, Kind::Season]);
+        let mut kind = a.pick(&[Kind::Fresh, Kind::Fresh, Kind::Fresh, Kind::Damaged, Kind::Limits]);
+        if a.below(20) == 0 {
+            kind = Kind::Season;
+        }
         let size = a.below(if is_long { 4000 } else { 1000 });
         let (term_length, length) = match size {
-            _ if kind == Kind::Season => (65_536, 1_200),
+            _ if kind == Kind::Season => (65_536, 2_000),
             0 => (16 << 20, 120),
             1..=10 => (1 << 20, 150),
             11..=60 => (131_072, 300),

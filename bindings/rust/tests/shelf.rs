@@ -85,6 +85,8 @@ fn a_term_stays_until_it_is_cleared_and_is_filled_anew() {
     log.clear_partition(0).unwrap();
     assert_eq!(log.shelve(0), Err(Error::NotFilled));
     while log.append(&[9; 64]) != Err(Error::NotCleared) {}
+    assert_eq!(log.shelve(0), Err(Error::NotFilled));
+    assert_eq!(log.offer(&[9; 64]), Err(Error::NotCleared)); // pads the term, which an append leaves
     let fourth = log.shelve(0).unwrap();
     let n = u32::from_le_bytes(first[..4].try_into().unwrap()) as usize;
     let ids = 4 + 20 * n..4 + 21 * n; // the lowest bytes of the term ids
