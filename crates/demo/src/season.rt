@@ -67,17 +67,29 @@ fn four_offers(rec: LogRecord, log: &mut [u8]) -> LogRecord {
     offer(c, log)
 }
 
+fn fill(rec: LogRecord, log: &mut [u8]) -> LogRecord {
+    let half = four_offers(rec, log);
+    four_offers(half, log)
+}
+
 // The slowest reader is told to the log, and the partition due next is cleared.
 fn make_room(rec: LogRecord, log: &mut [u8], slowest: i64) -> LogRecord {
     let raised = clearing::set_slowest_position(rec, slowest);
     let count = cast::word(raised.next.active_term_count);
     let due = (count + 1) % 3;
     let cleared = clearing::clear_partition(raised.next, log, due as i32);
+    let answer = cleared.answer;
     tell::put(b"; partition ");
     tell::number(due);
     tell::put(b" cleared");
-    tell::outcome(cleared.answer);
+    tell::outcome(answer);
     cleared.next
+}
+
+// One more offer, which rotates.
+fn turn(rec: LogRecord, log: &mut [u8], slowest: i64) -> LogRecord {
+    let ready = make_room(rec, log, slowest);
+    offer(ready, log)
 }
 
 fn standing(season: Season) {
@@ -95,17 +107,15 @@ fn standing(season: Season) {
 // One term: B reads what A read a term ago, the term fills up, A reads it, and there is room for the next.
 fn term(season: Season, log: &mut [u8]) -> Season {
     let behind = read(season.behind, season.rec, log);
-    let half = four_offers(season.rec, log);
-    let full = four_offers(half, log);
+    let full = fill(season.rec, log);
     let ahead = read(season.ahead, full, log);
     standing(Season {
         rec: full,
         ahead: ahead,
         behind: behind,
     });
-    let ready = make_room(full, log, behind.position);
     Season {
-        rec: offer(ready, log),
+        rec: turn(full, log, behind.position),
         ahead: ahead,
         behind: behind,
     }
@@ -121,8 +131,9 @@ fn four_terms(season: Season, log: &mut [u8]) -> Season {
 pub fn run(rec: LogRecord, log: &mut [u8]) {
     tell::heading(b"A season of twelve terms in a log of three, with two readers:");
     let limited = positions::set_publication_limit(rec, 4611686018427387904);
+    let opened = limited.next;
     let start = Season {
-        rec: limited.next,
+        rec: opened,
         ahead: Reader {
             position: 0,
             messages: 0,
