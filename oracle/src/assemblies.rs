@@ -92,9 +92,10 @@ fn replay(s: &State, image: &Image, assembler: &Assembler, buffer: usize, whole:
         }
         let (length, is_padding, is_sound) = s.frame(partition, offset);
         if length > 0 && !is_sound {
-            // Behind padding the poll ends there, and the next one begins there, if it is made.
+            // Behind padding the poll stops there, and the next one begins there, if it is made.
             let is_made = !is_polling || (at < end && polls < most);
-            return if is_made { s.bad_frame(partition, offset) } else { Verdict::Inside };
+            let stopped = Verdict::Stopped((partition * s.term() + offset) as usize);
+            return if is_made { s.bad_frame(partition, offset) } else { stopped };
         }
         if length <= 0 {
             return Verdict::Inside;
