@@ -50,7 +50,8 @@ fn main() -> Result<(), Error> {
         station.read(&log)?;
         println!("{}: {} readings, each once, up to {}", station.name, station.read, station.reader.position());
     }
-    println!("trench: {MESSAGES} readings in {} full terms and a part, pressed back {pressed} times", log.record().active_term_count);
+    let terms = log.record().active_term_count;
+    println!("trench: {MESSAGES} readings in {terms} full terms and a part, pressed back {pressed} times");
     // A reader that nobody registered finds its place gone.
     println!("from the start: {}", log.poller(0).poll(&log, 1, |_| ()).unwrap_err());
     println!("from the oldest term that is left: {} readings", log.count_from(oldest(&log))?.messages);

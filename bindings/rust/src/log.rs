@@ -1,8 +1,8 @@
 //! A log and its memory: opening, offers, claims, limit, close, positions. Read claim.rs and poller.rs next.
 
 use crate::claim::{Claim, OpenClaim};
-use crate::sys::{self, Header, Record};
 use crate::season::Readers;
+use crate::sys::{self, Header, Record};
 use crate::{Builder, Error, FrameLength, Poller, Rule};
 use std::fmt;
 use std::sync::atomic::{AtomicU64, Ordering};

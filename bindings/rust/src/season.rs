@@ -47,7 +47,12 @@ impl Reader {
     /// assert_eq!(reader.position(), 64);
     /// # Ok::<(), logbuffer::Error>(())
     /// ```
-    pub fn poll<'a, B: Bytes>(&mut self, log: &'a Log<B>, limit: usize, handler: impl FnMut(Fragment<'a>)) -> Result<usize, Error> {
+    pub fn poll<'a, B: Bytes>(
+        &mut self,
+        log: &'a Log<B>,
+        limit: usize,
+        handler: impl FnMut(Fragment<'a>),
+    ) -> Result<usize, Error> {
         self.check_log(log)?;
         let read = self.poller.poll(log, limit, handler)?;
         self.tell();
@@ -123,7 +128,7 @@ impl Record {
     /// # Ok::<(), logbuffer::Error>(())
     /// ```
     pub fn is_cleared(&self, partition: i32) -> bool {
-        (0..3).contains(&partition) && self.cleared_marks >> partition & 1 == 1
+        (0..3).contains(&partition) && (self.cleared_marks >> partition) & 1 == 1
     }
 
     /// The partition that the log is rotated into next, which has to be cleared by then: the remainder of the count of terms and 1 by 3.
