@@ -57,14 +57,14 @@ pub extern "C" fn logbuffer_replay_new(replay: &mut [i64; 27], position: i64, se
     words::replay_filled(replay, Replay::new(position, session_id))
 }
 
-// The next message by every word of the replay: what is not handed out as it lies.
+// The next message by every word of the replay: what is not handed out as it lies, so that no whole message is looked for again.
 fn next_by_all(replay: &mut [i64; 27], rec: &[i64; 12], log: &[u8], buffer: &mut [u8]) -> NextReply
     ensures { λ r. ⌜ r ≡ nextReply (nextOf (recordIn (now (rec .entry))) (now (log .entry)) (stateOf (replayIn (now (replay .entry))) (now (buffer .entry))) .answer) ⌝ }
     ensures { λ _. ⌜ now (replay .exit) ≡ replayOut (now (replay .entry)) (nextOf (recordIn (now (rec .entry))) (now (log .entry)) (stateOf (replayIn (now (replay .entry))) (now (buffer .entry))) .next) ⌝ }
     ensures { λ _. ⌜ now (buffer .exit) ≡ nextOf (recordIn (now (rec .entry))) (now (log .entry)) (stateOf (replayIn (now (replay .entry))) (now (buffer .entry))) .next .buffer ⌝ }
 {
     let one = words::replay_in(replay);
-    let o = one.next(words::record_in(rec), log, buffer);
+    let o = one.next_by_turns(words::record_in(rec), log, buffer);
     let next = o.next;
     let answer = o.answer;
     words::replay_out(replay, next);

@@ -269,6 +269,19 @@ impl Replay {
         }
     }
 
+    // The next message for a caller who has looked for a whole one already, by `frames::next_whole`.
+    pub fn next_by_turns(self, rec: LogRecord, log: &[u8], buffer: &mut [u8]) -> NextReply
+        ensures { λ r. ⌜ nextReplyOf r (now (buffer .exit)) ≡ nextOf rec (now (log .entry)) (stateOf self (now (buffer .entry))) ⌝ }
+    {
+        if buffer.len() > 2147483647 {
+            return NextReply {
+                next: self,
+                answer: Replayed::Refused(Error::IllegalArgument),
+            };
+        }
+        self.turns(rec, log, buffer)
+    }
+
     // The next message: where it lies in the log or in the lent buffer; or that there is none. A whole message is handed out as it lies,
     // and the assembler is not touched. What is refused leaves the replay before the frame that was refused, so that the next call refuses
     // the same.
@@ -348,7 +361,7 @@ impl Replay {
                 image: image,
                 assembler: assembler,
             };
-            let reply = replay.next(rec, log, buffer);
+            let reply = replay.next_by_turns(rec, log, buffer);
             let answer = reply.answer;
             let next = reply.next;
             let Replayed::InLog(from, length) = answer else {
@@ -451,7 +464,7 @@ pub fn count(
             image: image,
             assembler: assembler,
         };
-        let reply = replay.next(rec, log, buffer);
+        let reply = replay.next_by_turns(rec, log, buffer);
         let answer = reply.answer;
         let next = reply.next;
         if !gives(answer) {

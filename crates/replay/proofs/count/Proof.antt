@@ -148,9 +148,9 @@ returns c =
     let f = c .before .before .before .before .before .before in
     let q = f .before .before .before .before .before .before .before in
     let a = st q .args in
-    let w = f .next .last .1 .1 .1 .0 in
+    let w = f .next-by-turns .last .1 .1 .1 .0 in
     let under : q .loop .messages < most q = omega (arith, f .before .before .before .before .before .before .loop-test) in
-    let t = count-stops (a .rec) (a .log .now) (S q) (q .loop .messages) (q .loop .bytes) (most q - q .loop .messages) (omega arith) (nextReplyOf (f .next .result) w) (f .next .ensures) (sym (c .before .before .gives .ensures) ∙ not-true _ (c .before .if2 .taken)) ∙ goal q in
+    let t = count-stops (a .rec) (a .log .now) (S q) (q .loop .messages) (q .loop .bytes) (most q - q .loop .messages) (omega arith) (nextReplyOf (f .next-by-turns .result) w) (f .next-by-turns .ensures) (sym (c .before .before .gives .ensures) ∙ not-true _ (c .before .if2 .taken)) ∙ goal q in
     (c .count-of .ensures ∙ ap (λ (x : Tally). x .answer) t, ap (λ (x : Tally). x .buffer) t)
 
 loop-again-2 : tie.Need-loop-again-2 Inv-loop μ-loop
@@ -158,13 +158,13 @@ loop-again-2 c =
     let f = c .before .before .before .before .before .before .before .before .before .before in
     let q = f .before .before .before .before .before .before .before in
     let a = st q .args in
-    let w = f .next .last .1 .1 .1 .0 in
+    let w = f .next-by-turns .last .1 .1 .1 .0 in
     let under : q .loop .messages < most q = omega (arith, f .before .before .before .before .before .before .loop-test) in
-    let g = count-goes (a .rec) (a .log .now) (S q) (q .loop .messages) (q .loop .bytes) (most q - q .loop .messages) (omega arith) (nextReplyOf (f .next .result) w) (f .next .ensures) (sym (c .before .before .before .before .before .before .gives .ensures) ∙ not-false _ (c .before .before .before .before .before .if2 .left)) in
+    let g = count-goes (a .rec) (a .log .now) (S q) (q .loop .messages) (q .loop .bytes) (most q - q .loop .messages) (omega arith) (nextReplyOf (f .next-by-turns .result) w) (f .next-by-turns .ensures) (sym (c .before .before .before .before .before .before .gives .ensures) ∙ not-false _ (c .before .before .before .before .before .if2 .left)) in
     let m : most q - (q .loop .messages + 1) ≡ most q - q .loop .messages - 1 = omega arith in
     let e = c .added2 .ensures ∙ ap (addedTo (q .loop .bytes)) (c .before .length-of .ensures) in
     let same : length w ≡ length (a .buffer .now) = omega (arith, c .before .before .before .before .before .before .before .before .before .buffer .given, q .loop .inv .0) in
-    let t = c .before .before .open-term2 .ensures ∙ ap (λ (v : Reading). openTerm (imageState (f .next .result .next .image)) v (length (a .log .now)) (length w)) (q .before .before .before .before .before .before .before .read-active .ensures) in (
+    let t = c .before .before .open-term2 .ensures ∙ ap (λ (v : Reading). openTerm (imageState (f .next-by-turns .result .next .image)) v (length (a .log .now)) (length w)) (q .before .before .before .before .before .before .before .read-active .ensures) in (
       same,
       (
         omega arith,
@@ -172,7 +172,7 @@ loop-again-2 c =
           q .loop .inv .1 .1 .0,
           (
             t,
-            ap₂ (λ (i j : ℕ). countFrom i (a .rec) (a .log .now) (stateOf (f .next .result .next) w) (q .loop .messages + 1) j) m e ∙ g ∙ q .loop .inv .1 .1 .1 .1,
+            ap₂ (λ (i j : ℕ). countFrom i (a .rec) (a .log .now) (stateOf (f .next-by-turns .result .next) w) (q .loop .messages + 1) j) m e ∙ g ∙ q .loop .inv .1 .1 .1 .1,
           ),
         ),
       ),

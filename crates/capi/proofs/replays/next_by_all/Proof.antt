@@ -15,7 +15,7 @@ returns : tie.Need-returns
 returns c =
     let s = c .before .before .before .before .before .before .before .before .before .before .before .before .before in
     let a = s .args in
-    let f = c .before .before .before .before .before .before .next .ensures in
+    let f = c .before .before .before .before .before .before .next-by-turns .ensures in
     let q0 = of-2 (λ (r : LogRecord) (p : Replay). nextOf r (a .log .now) (stateOf p (a .buffer .now))) (f) (c .before .before .before .before .before .before .before .before .record-in .ensures) (c .before .before .before .before .before .before .before .before .before .replay-in .ensures) in
     (c .replayed .ensures ∙ ap (λ (n : NextReply). nextReply (n .answer)) q0, (c .before .replay-out .ensures ∙ ap (λ (n : NextReply). replayOut (a .replay .now) (n .next)) q0, ap (λ (n : NextReply). n .next .buffer) q0))
 

@@ -179,8 +179,8 @@ loop-again c =
 
 -- ---- by `next`
 
-fits-next : (f : tie.After-next Inv-loop μ-loop) → SFits w64 (f .next .result .next .image .position)
-fits-next f = let k = f .next .ok in search (needs, k)
+fits-next : (f : tie.After-next-by-turns Inv-loop μ-loop) → SFits w64 (f .next-by-turns .result .next .image .position)
+fits-next f = let k = f .next-by-turns .ok in search (needs, k)
 
 last-requires : tie.Need-last-requires Inv-loop μ-loop
 last-requires c κs = let h = room (c .before .before .before .before .before .before .before .before .before .before .before .before .before) in (h .0, h .1 .0)
@@ -193,13 +193,13 @@ returns-3 c =
     let f = c .before .before .before .before .before .before .before .before .before .before .before in
     let q = f .before .before .before .before .before .before .before in
     let a = st q .args in
-    let b = f .next .last .1 .1 .1 .0 in
+    let b = f .next-by-turns .last .1 .1 .1 .0 in
     let h = room (f .before .before .before .before .before .before) in
-    let x = f .next .result in
+    let x = f .next-by-turns .result in
     let p2 = long-by (x .next .image .position) (c .before .before .before .before .long2 .ensures .0) (fits-next f) in
     ap₂ {C = Batch} (λ (r : Replay) (y : Batched). record { answer = y; next = stateOf r b; numbers = c .before .before .before .last .last .0 }) (c .batch-reply3 .ensures .0) (c .batch-reply3 .ensures .1 ∙ c .before .before .before .last .ensures .0)
     ∙ ap {B = Batch} (λ (o : List ℕ). record { answer = lastBy (q .loop .laid) (x .answer); next = stateOf (x .next) b; numbers = o }) (c .before .before .before .last .ensures .1 ∙ ap (λ (i : ℕ). lastNumbers (q .loop .numbers) (q .loop .laid) i (x .answer)) p2)
-    ∙ batch-ends (a .rec) (a .log .now) (S q) (q .loop .numbers) (q .loop .laid) (most q - q .loop .laid) (omega (arith, h .1 .1)) (nextReplyOf x b) (f .next .ensures) (c .before .before .before .before .before .before .before .match .keys2)
+    ∙ batch-ends (a .rec) (a .log .now) (S q) (q .loop .numbers) (q .loop .laid) (most q - q .loop .laid) (omega (arith, h .1 .1)) (nextReplyOf x b) (f .next-by-turns .ensures) (c .before .before .before .before .before .before .before .match .keys2)
     ∙ goal q
 
 loop-again-2 : tie.Need-loop-again-2 Inv-loop μ-loop
@@ -207,9 +207,9 @@ loop-again-2 c =
     let f = c .before .before .before .before .before .before .before .before .before .before .before .before .before .before .before in
     let q = f .before .before .before .before .before .before .before in
     let a = st q .args in
-    let b = f .next .last .1 .1 .1 .0 in
+    let b = f .next-by-turns .last .1 .1 .1 .0 in
     let h = room (f .before .before .before .before .before .before) in
-    let x = f .next .result in
+    let x = f .next-by-turns .result in
     let m = c .before .before .before .before .before .before .before .before .before .before .answer .given in
     let left = most q - q .loop .laid in
     let e : most q - (q .loop .laid + 1) ≡ left - 1 = omega arith in
@@ -224,7 +224,7 @@ loop-again-2 c =
           (
             t,
             ap₂ (λ (k : ℕ) (o : List ℕ). batchFrom k (a .rec) (a .log .now) (stateOf (x .next) b) o (q .loop .laid + 1)) e out
-                ∙ batch-goes (a .rec) (a .log .now) (S q) (q .loop .numbers) (q .loop .laid) left (omega (arith, h .1 .1)) (nextReplyOf x b) (f .next .ensures) (m .0 .0) (m .0 .1 .0) (m .1)
+                ∙ batch-goes (a .rec) (a .log .now) (S q) (q .loop .numbers) (q .loop .laid) left (omega (arith, h .1 .1)) (nextReplyOf x b) (f .next-by-turns .ensures) (m .0 .0) (m .0 .1 .0) (m .1)
                 ∙ q .loop .inv .1 .1 .1 .1,
           ),
         ),
