@@ -69,6 +69,9 @@ fn with_tails(rec: LogRecord, tails: [i64; 3]) -> LogRecord
         is_closed: rec.is_closed,
         slowest_position: rec.slowest_position,
         is_cleared: marks,
+        active_transport_count: rec.active_transport_count,
+        correlation_id: rec.correlation_id,
+        page_size: rec.page_size,
     }
 }
 

@@ -47,6 +47,9 @@ recordAt tails initial mtu count limit closed =
       «is_closed» = closed;
       «slowest_position» = pos 0;
       «is_cleared» = false ∷ true ∷ true ∷ [];
+      «active_transport_count» = pos 0;
+      «correlation_id» = pos 0;
+      «page_size» = pos 0;
     }
 
 -- a log in its first term, the tail at an offset
@@ -81,6 +84,9 @@ thirdAt slowest marked =
       «is_closed» = false;
       «slowest_position» = pos slowest;
       «is_cleared» = marked ∷ false ∷ false ∷ [];
+      «active_transport_count» = pos 0;
+      «correlation_id» = pos 0;
+      «page_size» = pos 0;
     }
 
 -- a message of n bytes

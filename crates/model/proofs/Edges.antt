@@ -41,6 +41,9 @@ slowestAt p =
       «is_closed» = true;
       «slowest_position» = p;
       «is_cleared» = false ∷ true ∷ true ∷ [];
+      «active_transport_count» = pos 0;
+      «correlation_id» = pos 0;
+      «page_size» = pos 0;
     }
 
 abbrev slowest-sounds : ℤ → Bool
@@ -112,6 +115,9 @@ ranged offset count initial term mtu limit =
       «is_closed» = false;
       «slowest_position» = pos 0;
       «is_cleared» = false ∷ true ∷ true ∷ [];
+      «active_transport_count» = pos 0;
+      «correlation_id» = pos 0;
+      «page_size» = pos 0;
     }
 
 abbrev sounds : LogRecord → Bool
@@ -357,6 +363,9 @@ module _ (log : List ℕ) (full : length log ≡ 196608) where
         «is_closed» = false;
         «slowest_position» = pos 0;
         «is_cleared» = false ∷ true ∷ true ∷ [];
+        «active_transport_count» = pos 0;
+        «correlation_id» = pos 0;
+        «page_size» = pos 0;
       }
 
   at-the-end : endTold (endOfStreamOf (ending (pos 64)) log at64) ≡ is (pos 0) (pos 1 ∷ [])

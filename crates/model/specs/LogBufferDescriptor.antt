@@ -212,6 +212,9 @@ changed r tails count limit closed =
       «is_closed» = closed;
       «slowest_position» = r .«slowest_position»;
       «is_cleared» = r .«is_cleared»;
+      «active_transport_count» = r .«active_transport_count»;
+      «correlation_id» = r .«correlation_id»;
+      «page_size» = r .«page_size»;
     }
 
 -- the tail of partition k at (id, offset)
@@ -244,6 +247,9 @@ noted r slowest marks =
       «is_closed» = r .«is_closed»;
       «slowest_position» = slowest;
       «is_cleared» = marks;
+      «active_transport_count» = r .«active_transport_count»;
+      «correlation_id» = r .«correlation_id»;
+      «page_size» = r .«page_size»;
     }
 
 unfoldable pub withSlowest : LogRecord → ℤ → LogRecord

@@ -51,6 +51,9 @@ openedRecord term mtu initial session stream =
       «is_closed» = false;
       «slowest_position» = pos 0;
       «is_cleared» = false ∷ true ∷ true ∷ [];
+      «active_transport_count» = pos 0;
+      «correlation_id» = pos 0;
+      «page_size» = pos 0;
     }
 
 -- What a refused opening answers: a record of zeros. It breaks row 2 (`no-record`, proofs/Edges.antt), so every call refuses it, with 2, or with
@@ -71,6 +74,9 @@ noRecord =
       «is_closed» = false;
       «slowest_position» = pos 0;
       «is_cleared» = replicate 3 false;
+      «active_transport_count» = pos 0;
+      «correlation_id» = pos 0;
+      «page_size» = pos 0;
     }
 
 unfoldable pub openVerdict : LogRecord → ℕ → Verdict

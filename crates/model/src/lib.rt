@@ -1,7 +1,8 @@
 // The plain types of the log: the record, a claim, the refusals, and the answers of each family of calls. No function runs here.
 // What every call means is in specs/: read specs/Lib.antt next.
 
-// The log record, as document 01 lists it. A raw tail has a term id in its upper 32 bits and an offset in its lower.
+// The log record, as document 01 lists it and document 02 adds to it. A raw tail has a term id in its upper 32 bits and an offset in its lower.
+// The last three fields are carried and never read: only the metadata section shows them.
 #[repr(C)]
 pub struct LogRecord {
     pub tails: [i64; 3],
@@ -17,6 +18,9 @@ pub struct LogRecord {
     pub is_closed: bool,
     pub slowest_position: i64,
     pub is_cleared: [bool; 3],
+    pub active_transport_count: i32,
+    pub correlation_id: i64,
+    pub page_size: i32,
 }
 
 // What a claim answers beside its position: partition, offset of the frame in its term, frame length, term id.

@@ -30,6 +30,9 @@ pub opened-by : (term mtu initial session stream term′ mtu′ initial′ sessi
       «is_closed» = false;
       «slowest_position» = pos 0;
       «is_cleared» = false ∷ true ∷ true ∷ [];
+      «active_transport_count» = pos 0;
+      «correlation_id» = pos 0;
+      «page_size» = pos 0;
     } ≡ openedRecord term mtu initial session stream
 unfolding openedRecord
 opened-by term mtu initial session stream term′ mtu′ initial′ session′ stream′ a b c e1 e2 e3 e4 e5 ea eb ec = cc

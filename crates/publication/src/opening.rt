@@ -45,6 +45,9 @@ fn opened(
         is_closed: false,
         slowest_position: 0,
         is_cleared: [false, true, true],
+        active_transport_count: 0,
+        correlation_id: 0,
+        page_size: 0,
     }
 }
 
@@ -66,6 +69,9 @@ fn no_record() -> LogRecord
         is_closed: false,
         slowest_position: 0,
         is_cleared: [false, false, false],
+        active_transport_count: 0,
+        correlation_id: 0,
+        page_size: 0,
     }
 }
 

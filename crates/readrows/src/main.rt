@@ -156,6 +156,9 @@ fn record(term_length: i32) -> LogRecord {
         is_closed: false,
         slowest_position: 0,
         is_cleared: [false, true, true],
+        active_transport_count: 0,
+        correlation_id: 0,
+        page_size: 0,
     }
 }
 

@@ -43,6 +43,9 @@ pub fn record_of(f: Fields) -> LogRecord {
         is_closed: f.at[12] != 0,
         slowest_position: 0,
         is_cleared: [true, true, true],
+        active_transport_count: 0,
+        correlation_id: 0,
+        page_size: 0,
     }
 }
 
