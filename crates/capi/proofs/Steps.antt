@@ -92,8 +92,8 @@ three-marks P f (m0 ∷ m1 ∷ []) h = absurd (omega (arith, h))
 three-marks P f (m0 ∷ m1 ∷ m2 ∷ []) h = f m0 m1 m2
 three-marks P f (m0 ∷ m1 ∷ m2 ∷ m3 ∷ ms) h = absurd (omega (arith, h))
 
-twelve : (P : List ℤ → Type 0) → ((a0 a1 a2 a3 a4 a5 a6 a7 a8 a9 a10 a11 : ℤ) → P (a0 ∷ a1 ∷ a2 ∷ a3 ∷ a4 ∷ a5 ∷ a6 ∷ a7 ∷ a8 ∷ a9 ∷ a10 ∷ a11 ∷ [])) → (w : List ℤ) → length w ≡ 12 → P w
-twelve P f w h = split P 11 (λ (a0 : ℤ) (w0 : List ℤ) (h0 : length w0 ≡ 11). split (λ (v : List ℤ). P (a0 ∷ v)) 10 (λ (a1 : ℤ) (w1 : List ℤ) (h1 : length w1 ≡ 10). split (λ (v : List ℤ). P (a0 ∷ a1 ∷ v)) 9 (λ (a2 : ℤ) (w2 : List ℤ) (h2 : length w2 ≡ 9). split (λ (v : List ℤ). P (a0 ∷ a1 ∷ a2 ∷ v)) 8 (λ (a3 : ℤ) (w3 : List ℤ) (h3 : length w3 ≡ 8). split (λ (v : List ℤ). P (a0 ∷ a1 ∷ a2 ∷ a3 ∷ v)) 7 (λ (a4 : ℤ) (w4 : List ℤ) (h4 : length w4 ≡ 7). split (λ (v : List ℤ). P (a0 ∷ a1 ∷ a2 ∷ a3 ∷ a4 ∷ v)) 6 (λ (a5 : ℤ) (w5 : List ℤ) (h5 : length w5 ≡ 6). split (λ (v : List ℤ). P (a0 ∷ a1 ∷ a2 ∷ a3 ∷ a4 ∷ a5 ∷ v)) 5 (λ (a6 : ℤ) (w6 : List ℤ) (h6 : length w6 ≡ 5). split (λ (v : List ℤ). P (a0 ∷ a1 ∷ a2 ∷ a3 ∷ a4 ∷ a5 ∷ a6 ∷ v)) 4 (λ (a7 : ℤ) (w7 : List ℤ) (h7 : length w7 ≡ 4). split (λ (v : List ℤ). P (a0 ∷ a1 ∷ a2 ∷ a3 ∷ a4 ∷ a5 ∷ a6 ∷ a7 ∷ v)) 3 (λ (a8 : ℤ) (w8 : List ℤ) (h8 : length w8 ≡ 3). split (λ (v : List ℤ). P (a0 ∷ a1 ∷ a2 ∷ a3 ∷ a4 ∷ a5 ∷ a6 ∷ a7 ∷ a8 ∷ v)) 2 (λ (a9 : ℤ) (w9 : List ℤ) (h9 : length w9 ≡ 2). split (λ (v : List ℤ). P (a0 ∷ a1 ∷ a2 ∷ a3 ∷ a4 ∷ a5 ∷ a6 ∷ a7 ∷ a8 ∷ a9 ∷ v)) 1 (λ (a10 : ℤ) (w10 : List ℤ) (h10 : length w10 ≡ 1). split (λ (v : List ℤ). P (a0 ∷ a1 ∷ a2 ∷ a3 ∷ a4 ∷ a5 ∷ a6 ∷ a7 ∷ a8 ∷ a9 ∷ a10 ∷ v)) 0 (λ (a11 : ℤ) (w11 : List ℤ) (h11 : length w11 ≡ 0). none (λ (v : List ℤ). P (a0 ∷ a1 ∷ a2 ∷ a3 ∷ a4 ∷ a5 ∷ a6 ∷ a7 ∷ a8 ∷ a9 ∷ a10 ∷ a11 ∷ v)) (f a0 a1 a2 a3 a4 a5 a6 a7 a8 a9 a10 a11) w11 h11) w10 h10) w9 h9) w8 h8) w7 h7) w6 h6) w5 h5) w4 h4) w3 h3) w2 h2) w1 h1) w0 h0) w h
+fourteen : (P : List ℤ → Type 0) → ((a0 a1 a2 a3 a4 a5 a6 a7 a8 a9 a10 a11 a12 a13 : ℤ) → P (a0 ∷ a1 ∷ a2 ∷ a3 ∷ a4 ∷ a5 ∷ a6 ∷ a7 ∷ a8 ∷ a9 ∷ a10 ∷ a11 ∷ a12 ∷ a13 ∷ [])) → (w : List ℤ) → length w ≡ 14 → P w
+fourteen P f w h = split P 13 (λ (a0 : ℤ) (w0 : List ℤ) (h0 : length w0 ≡ 13). split (λ (v : List ℤ). P (a0 ∷ v)) 12 (λ (a1 : ℤ) (w1 : List ℤ) (h1 : length w1 ≡ 12). split (λ (v : List ℤ). P (a0 ∷ a1 ∷ v)) 11 (λ (a2 : ℤ) (w2 : List ℤ) (h2 : length w2 ≡ 11). split (λ (v : List ℤ). P (a0 ∷ a1 ∷ a2 ∷ v)) 10 (λ (a3 : ℤ) (w3 : List ℤ) (h3 : length w3 ≡ 10). split (λ (v : List ℤ). P (a0 ∷ a1 ∷ a2 ∷ a3 ∷ v)) 9 (λ (a4 : ℤ) (w4 : List ℤ) (h4 : length w4 ≡ 9). split (λ (v : List ℤ). P (a0 ∷ a1 ∷ a2 ∷ a3 ∷ a4 ∷ v)) 8 (λ (a5 : ℤ) (w5 : List ℤ) (h5 : length w5 ≡ 8). split (λ (v : List ℤ). P (a0 ∷ a1 ∷ a2 ∷ a3 ∷ a4 ∷ a5 ∷ v)) 7 (λ (a6 : ℤ) (w6 : List ℤ) (h6 : length w6 ≡ 7). split (λ (v : List ℤ). P (a0 ∷ a1 ∷ a2 ∷ a3 ∷ a4 ∷ a5 ∷ a6 ∷ v)) 6 (λ (a7 : ℤ) (w7 : List ℤ) (h7 : length w7 ≡ 6). split (λ (v : List ℤ). P (a0 ∷ a1 ∷ a2 ∷ a3 ∷ a4 ∷ a5 ∷ a6 ∷ a7 ∷ v)) 5 (λ (a8 : ℤ) (w8 : List ℤ) (h8 : length w8 ≡ 5). split (λ (v : List ℤ). P (a0 ∷ a1 ∷ a2 ∷ a3 ∷ a4 ∷ a5 ∷ a6 ∷ a7 ∷ a8 ∷ v)) 4 (λ (a9 : ℤ) (w9 : List ℤ) (h9 : length w9 ≡ 4). split (λ (v : List ℤ). P (a0 ∷ a1 ∷ a2 ∷ a3 ∷ a4 ∷ a5 ∷ a6 ∷ a7 ∷ a8 ∷ a9 ∷ v)) 3 (λ (a10 : ℤ) (w10 : List ℤ) (h10 : length w10 ≡ 3). split (λ (v : List ℤ). P (a0 ∷ a1 ∷ a2 ∷ a3 ∷ a4 ∷ a5 ∷ a6 ∷ a7 ∷ a8 ∷ a9 ∷ a10 ∷ v)) 2 (λ (a11 : ℤ) (w11 : List ℤ) (h11 : length w11 ≡ 2). split (λ (v : List ℤ). P (a0 ∷ a1 ∷ a2 ∷ a3 ∷ a4 ∷ a5 ∷ a6 ∷ a7 ∷ a8 ∷ a9 ∷ a10 ∷ a11 ∷ v)) 1 (λ (a12 : ℤ) (w12 : List ℤ) (h12 : length w12 ≡ 1). split (λ (v : List ℤ). P (a0 ∷ a1 ∷ a2 ∷ a3 ∷ a4 ∷ a5 ∷ a6 ∷ a7 ∷ a8 ∷ a9 ∷ a10 ∷ a11 ∷ a12 ∷ v)) 0 (λ (a13 : ℤ) (w13 : List ℤ) (h13 : length w13 ≡ 0). none (λ (v : List ℤ). P (a0 ∷ a1 ∷ a2 ∷ a3 ∷ a4 ∷ a5 ∷ a6 ∷ a7 ∷ a8 ∷ a9 ∷ a10 ∷ a11 ∷ a12 ∷ a13 ∷ v)) (f a0 a1 a2 a3 a4 a5 a6 a7 a8 a9 a10 a11 a12 a13) w13 h13) w12 h12) w11 h11) w10 h10) w9 h9) w8 h8) w7 h7) w6 h6) w5 h5) w4 h4) w3 h3) w2 h2) w1 h1) w0 h0) w h
 
 -- ---- the record
 
@@ -140,18 +140,18 @@ after a ts n ms = noted (changed a ts n (a .«publication_limit») (a .«is_clos
 abbrev ReadBack : List ℤ → ℤ → List ℤ → List Bool → Type 0
 ReadBack w n ts ms = recordIn (recordOut w (after (recordIn w) ts n ms)) ≡ after (recordIn w) ts n ms
 
-back-at : (w ts : List ℤ) (n : ℤ) (ms : List Bool) → length w ≡ 12 → length ts ≡ 3 → length ms ≡ 3 → SFits w32 n → SFits w64 (at w 3) → SFits w64 (at w 11) → ReadBack w n ts ms
+back-at : (w ts : List ℤ) (n : ℤ) (ms : List Bool) → length w ≡ 14 → length ts ≡ 3 → length ms ≡ 3 → SFits w32 n → SFits w64 (at w 3) → SFits w64 (at w 11) → ReadBack w n ts ms
 unfolding changed noted
 back-at w ts n ms h k j f g g11 =
-    twelve (λ (v : List ℤ). SFits w64 (at v 3) → SFits w64 (at v 11) → ReadBack v n ts ms)
-    (λ a0 a1 a2 a3 a4 a5 a6 a7 a8 a9 a10 a11 g3 g11. three-words (λ (us : List ℤ). ReadBack (a0 ∷ a1 ∷ a2 ∷ a3 ∷ a4 ∷ a5 ∷ a6 ∷ a7 ∷ a8 ∷ a9 ∷ a10 ∷ a11 ∷ []) n us ms)
-    (λ t0 t1 t2. three-marks (ReadBack (a0 ∷ a1 ∷ a2 ∷ a3 ∷ a4 ∷ a5 ∷ a6 ∷ a7 ∷ a8 ∷ a9 ∷ a10 ∷ a11 ∷ []) n (t0 ∷ t1 ∷ t2 ∷ []))
-    (λ m0 m1 m2. let b = marks-back a11 g11 m0 m1 m2 in fields a3 a4 a5 a6 a7 a8 a9 a10 t0 t1 t2 m0 m1 m2 (low-of n (highOf a3) f (high-fits a3 g3)) (high-of n (highOf a3) f (high-fits a3 g3)) (b .0) (b .1 .0) (b .1 .1)) ms j) ts k) w h g g11
+    fourteen (λ (v : List ℤ). SFits w64 (at v 3) → SFits w64 (at v 11) → ReadBack v n ts ms)
+    (λ a0 a1 a2 a3 a4 a5 a6 a7 a8 a9 a10 a11 a12 a13 g3 g11. three-words (λ (us : List ℤ). ReadBack (a0 ∷ a1 ∷ a2 ∷ a3 ∷ a4 ∷ a5 ∷ a6 ∷ a7 ∷ a8 ∷ a9 ∷ a10 ∷ a11 ∷ a12 ∷ a13 ∷ []) n us ms)
+    (λ t0 t1 t2. three-marks (ReadBack (a0 ∷ a1 ∷ a2 ∷ a3 ∷ a4 ∷ a5 ∷ a6 ∷ a7 ∷ a8 ∷ a9 ∷ a10 ∷ a11 ∷ a12 ∷ a13 ∷ []) n (t0 ∷ t1 ∷ t2 ∷ []))
+    (λ m0 m1 m2. let b = marks-back a11 g11 m0 m1 m2 in fields a3 a4 a5 a6 a7 a8 a9 a10 a12 a13 t0 t1 t2 m0 m1 m2 (low-of n (highOf a3) f (high-fits a3 g3)) (high-of n (highOf a3) f (high-fits a3 g3)) (b .0) (b .1 .0) (b .1 .1)) ms j) ts k) w h g g11
   where
-    fields : (a3 a4 a5 a6 a7 a8 a9 a10 t0 t1 t2 : ℤ) (m0 m1 m2 : Bool) {x y z : ℤ} {b0 b1 b2 : Bool} → x ≡ n → y ≡ z → b0 ≡ m0 → b1 ≡ m1 → b2 ≡ m2
-        → _≡_ {A = LogRecord} (record { tails = t0 ∷ t1 ∷ t2 ∷ []; «active_term_count» = x; «initial_term_id» = y; «term_length» = lowOf a4; «mtu_length» = highOf a4; «session_id» = lowOf a5; «stream_id» = highOf a5; «is_connected» = lowOf a6; «publication_limit» = a7; «end_of_stream_position» = a8; «is_closed» = flagOf (long a9); «slowest_position» = a10; «is_cleared» = b0 ∷ b1 ∷ b2 ∷ [] })
-        (record { tails = t0 ∷ t1 ∷ t2 ∷ []; «active_term_count» = n; «initial_term_id» = z; «term_length» = lowOf a4; «mtu_length» = highOf a4; «session_id» = lowOf a5; «stream_id» = highOf a5; «is_connected» = lowOf a6; «publication_limit» = a7; «end_of_stream_position» = a8; «is_closed» = flagOf (long a9); «slowest_position» = a10; «is_cleared» = m0 ∷ m1 ∷ m2 ∷ [] })
-    fields a3 a4 a5 a6 a7 a8 a9 a10 t0 t1 t2 m0 m1 m2 p q b0 b1 b2 = cc
+    fields : (a3 a4 a5 a6 a7 a8 a9 a10 a12 a13 t0 t1 t2 : ℤ) (m0 m1 m2 : Bool) {x y z : ℤ} {b0 b1 b2 : Bool} → x ≡ n → y ≡ z → b0 ≡ m0 → b1 ≡ m1 → b2 ≡ m2
+        → _≡_ {A = LogRecord} (record { tails = t0 ∷ t1 ∷ t2 ∷ []; «active_term_count» = x; «initial_term_id» = y; «term_length» = lowOf a4; «mtu_length» = highOf a4; «session_id» = lowOf a5; «stream_id» = highOf a5; «is_connected» = lowOf a6; «publication_limit» = a7; «end_of_stream_position» = a8; «is_closed» = flagOf (long a9); «slowest_position» = a10; «is_cleared» = b0 ∷ b1 ∷ b2 ∷ []; «active_transport_count» = lowOf a12; «correlation_id» = a13; «page_size» = highOf a12 })
+        (record { tails = t0 ∷ t1 ∷ t2 ∷ []; «active_term_count» = n; «initial_term_id» = z; «term_length» = lowOf a4; «mtu_length» = highOf a4; «session_id» = lowOf a5; «stream_id» = highOf a5; «is_connected» = lowOf a6; «publication_limit» = a7; «end_of_stream_position» = a8; «is_closed» = flagOf (long a9); «slowest_position» = a10; «is_cleared» = m0 ∷ m1 ∷ m2 ∷ []; «active_transport_count» = lowOf a12; «correlation_id» = a13; «page_size» = highOf a12 })
+    fields a3 a4 a5 a6 a7 a8 a9 a10 a12 a13 t0 t1 t2 m0 m1 m2 p q b0 b1 b2 = cc
 
 pub record-back : RecordBack
 record-back w r h m =
@@ -261,9 +261,9 @@ claim-moved w log n =
 
 -- ---- limit and close
 
-limit-at : (w : List ℤ) (n : ℤ) → length w ≡ 12 → recordIn (limitOut w (withLimit (recordIn w) n)) ≡ withLimit (recordIn w) n
+limit-at : (w : List ℤ) (n : ℤ) → length w ≡ 14 → recordIn (limitOut w (withLimit (recordIn w) n)) ≡ withLimit (recordIn w) n
 unfolding withLimit changed
-limit-at w n h = twelve (λ (v : List ℤ). recordIn (limitOut v (withLimit (recordIn v) n)) ≡ withLimit (recordIn v) n) (λ a0 a1 a2 a3 a4 a5 a6 a7 a8 a9 a10 a11. refl) w h
+limit-at w n h = fourteen (λ (v : List ℤ). recordIn (limitOut v (withLimit (recordIn v) n)) ≡ withLimit (recordIn v) n) (λ a0 a1 a2 a3 a4 a5 a6 a7 a8 a9 a10 a11 a12 a13. refl) w h
 
 -- a flag's byte, set
 set-flag : (z : ℤ) → SFits w64 z → flagOf (long z) ≡ false → flagOf (long (toZ w64 (long z + 1))) ≡ true
@@ -283,38 +283,38 @@ closed-by : (r : LogRecord) (b : Bool) → b ≡ true → changed r (r .tails) (
 unfolding withClosed
 closed-by r b e = ap (changed r (r .tails) (r .«active_term_count») (r .«publication_limit»)) e
 
-close-at : (w : List ℤ) → length w ≡ 12 → SFits w64 (at w 9) → recordIn (closedOut w (withClosed (recordIn w))) ≡ withClosed (recordIn w)
+close-at : (w : List ℤ) → length w ≡ 14 → SFits w64 (at w 9) → recordIn (closedOut w (withClosed (recordIn w))) ≡ withClosed (recordIn w)
 unfolding withClosed changed
 close-at w h f =
-    twelve (λ (v : List ℤ). SFits w64 (at v 9) → recordIn (closedOut v (withClosed (recordIn v))) ≡ withClosed (recordIn v))
-    (λ a0 a1 a2 a3 a4 a5 a6 a7 a8 a9 a10 a11 f9. go a0 a1 a2 a3 a4 a5 a6 a7 a8 a9 a10 a11 f9 (flagOf (long a9)) refl) w h f
+    fourteen (λ (v : List ℤ). SFits w64 (at v 9) → recordIn (closedOut v (withClosed (recordIn v))) ≡ withClosed (recordIn v))
+    (λ a0 a1 a2 a3 a4 a5 a6 a7 a8 a9 a10 a11 a12 a13 f9. go a0 a1 a2 a3 a4 a5 a6 a7 a8 a9 a10 a11 a12 a13 f9 (flagOf (long a9)) refl) w h f
   where
-    go : (a0 a1 a2 a3 a4 a5 a6 a7 a8 a9 a10 a11 : ℤ) → SFits w64 a9 → (b : Bool) → flagOf (long a9) ≡ b
-        → recordIn (cond b (a0 ∷ a1 ∷ a2 ∷ a3 ∷ a4 ∷ a5 ∷ a6 ∷ a7 ∷ a8 ∷ a9 ∷ a10 ∷ a11 ∷ []) (a0 ∷ a1 ∷ a2 ∷ a3 ∷ a4 ∷ a5 ∷ a6 ∷ a7 ∷ a8 ∷ toZ w64 (long a9 + 1) ∷ a10 ∷ a11 ∷ []))
-        ≡ withClosed (recordIn (a0 ∷ a1 ∷ a2 ∷ a3 ∷ a4 ∷ a5 ∷ a6 ∷ a7 ∷ a8 ∷ a9 ∷ a10 ∷ a11 ∷ []))
-    go a0 a1 a2 a3 a4 a5 a6 a7 a8 a9 a10 a11 f9 true e = closed-by (recordIn (a0 ∷ a1 ∷ a2 ∷ a3 ∷ a4 ∷ a5 ∷ a6 ∷ a7 ∷ a8 ∷ a9 ∷ a10 ∷ a11 ∷ [])) (flagOf (long a9)) e
-    go a0 a1 a2 a3 a4 a5 a6 a7 a8 a9 a10 a11 f9 false e =
-        closed-by (recordIn (a0 ∷ a1 ∷ a2 ∷ a3 ∷ a4 ∷ a5 ∷ a6 ∷ a7 ∷ a8 ∷ a9 ∷ a10 ∷ a11 ∷ [])) (flagOf (long (toZ w64 (long a9 + 1)))) (set-flag a9 f9 e)
+    go : (a0 a1 a2 a3 a4 a5 a6 a7 a8 a9 a10 a11 a12 a13 : ℤ) → SFits w64 a9 → (b : Bool) → flagOf (long a9) ≡ b
+        → recordIn (cond b (a0 ∷ a1 ∷ a2 ∷ a3 ∷ a4 ∷ a5 ∷ a6 ∷ a7 ∷ a8 ∷ a9 ∷ a10 ∷ a11 ∷ a12 ∷ a13 ∷ []) (a0 ∷ a1 ∷ a2 ∷ a3 ∷ a4 ∷ a5 ∷ a6 ∷ a7 ∷ a8 ∷ toZ w64 (long a9 + 1) ∷ a10 ∷ a11 ∷ a12 ∷ a13 ∷ []))
+        ≡ withClosed (recordIn (a0 ∷ a1 ∷ a2 ∷ a3 ∷ a4 ∷ a5 ∷ a6 ∷ a7 ∷ a8 ∷ a9 ∷ a10 ∷ a11 ∷ a12 ∷ a13 ∷ []))
+    go a0 a1 a2 a3 a4 a5 a6 a7 a8 a9 a10 a11 a12 a13 f9 true e = closed-by (recordIn (a0 ∷ a1 ∷ a2 ∷ a3 ∷ a4 ∷ a5 ∷ a6 ∷ a7 ∷ a8 ∷ a9 ∷ a10 ∷ a11 ∷ a12 ∷ a13 ∷ [])) (flagOf (long a9)) e
+    go a0 a1 a2 a3 a4 a5 a6 a7 a8 a9 a10 a11 a12 a13 f9 false e =
+        closed-by (recordIn (a0 ∷ a1 ∷ a2 ∷ a3 ∷ a4 ∷ a5 ∷ a6 ∷ a7 ∷ a8 ∷ a9 ∷ a10 ∷ a11 ∷ a12 ∷ a13 ∷ [])) (flagOf (long (toZ w64 (long a9 + 1)))) (set-flag a9 f9 e)
 
 -- ---- the slowest reader and the marks
 
-slowest-at : (w : List ℤ) (p : ℤ) → length w ≡ 12 → recordIn (slowestOut w (withSlowest (recordIn w) p)) ≡ withSlowest (recordIn w) p
+slowest-at : (w : List ℤ) (p : ℤ) → length w ≡ 14 → recordIn (slowestOut w (withSlowest (recordIn w) p)) ≡ withSlowest (recordIn w) p
 unfolding withSlowest noted
-slowest-at w p h = twelve (λ (v : List ℤ). recordIn (slowestOut v (withSlowest (recordIn v) p)) ≡ withSlowest (recordIn v) p) (λ a0 a1 a2 a3 a4 a5 a6 a7 a8 a9 a10 a11. refl) w h
+slowest-at w p h = fourteen (λ (v : List ℤ). recordIn (slowestOut v (withSlowest (recordIn v) p)) ≡ withSlowest (recordIn v) p) (λ a0 a1 a2 a3 a4 a5 a6 a7 a8 a9 a10 a11 a12 a13. refl) w h
 
 abbrev MarksBack : List ℤ → List Bool → Type 0
 MarksBack w ms = recordIn (marksOut w (noted (recordIn w) (recordIn w .«slowest_position») ms)) ≡ noted (recordIn w) (recordIn w .«slowest_position») ms
 
-marks-at : (w : List ℤ) (ms : List Bool) → length w ≡ 12 → length ms ≡ 3 → SFits w64 (at w 11) → MarksBack w ms
+marks-at : (w : List ℤ) (ms : List Bool) → length w ≡ 14 → length ms ≡ 3 → SFits w64 (at w 11) → MarksBack w ms
 unfolding noted
 marks-at w ms h j g =
-    twelve (λ (v : List ℤ). SFits w64 (at v 11) → MarksBack v ms)
-    (λ a0 a1 a2 a3 a4 a5 a6 a7 a8 a9 a10 a11 g11. three-marks (MarksBack (a0 ∷ a1 ∷ a2 ∷ a3 ∷ a4 ∷ a5 ∷ a6 ∷ a7 ∷ a8 ∷ a9 ∷ a10 ∷ a11 ∷ []))
+    fourteen (λ (v : List ℤ). SFits w64 (at v 11) → MarksBack v ms)
+    (λ a0 a1 a2 a3 a4 a5 a6 a7 a8 a9 a10 a11 a12 a13 g11. three-marks (MarksBack (a0 ∷ a1 ∷ a2 ∷ a3 ∷ a4 ∷ a5 ∷ a6 ∷ a7 ∷ a8 ∷ a9 ∷ a10 ∷ a11 ∷ a12 ∷ a13 ∷ []))
     (λ m0 m1 m2. let b = marks-back a11 g11 m0 m1 m2 in
-    ap₂ (λ (x y : Bool). noted (recordIn (a0 ∷ a1 ∷ a2 ∷ a3 ∷ a4 ∷ a5 ∷ a6 ∷ a7 ∷ a8 ∷ a9 ∷ a10 ∷ a11 ∷ [])) a10 (x ∷ y ∷ bitOf (long (toZ w64 (stored-marks (long a11) m0 m1 m2)) / 4) ∷ [])) (b .0) (b .1 .0)
-    ∙ ap (λ (z : Bool). noted (recordIn (a0 ∷ a1 ∷ a2 ∷ a3 ∷ a4 ∷ a5 ∷ a6 ∷ a7 ∷ a8 ∷ a9 ∷ a10 ∷ a11 ∷ [])) a10 (m0 ∷ m1 ∷ z ∷ [])) (b .1 .1)) ms j) w h g
+    ap₂ (λ (x y : Bool). noted (recordIn (a0 ∷ a1 ∷ a2 ∷ a3 ∷ a4 ∷ a5 ∷ a6 ∷ a7 ∷ a8 ∷ a9 ∷ a10 ∷ a11 ∷ a12 ∷ a13 ∷ [])) a10 (x ∷ y ∷ bitOf (long (toZ w64 (stored-marks (long a11) m0 m1 m2)) / 4) ∷ [])) (b .0) (b .1 .0)
+    ∙ ap (λ (z : Bool). noted (recordIn (a0 ∷ a1 ∷ a2 ∷ a3 ∷ a4 ∷ a5 ∷ a6 ∷ a7 ∷ a8 ∷ a9 ∷ a10 ∷ a11 ∷ a12 ∷ a13 ∷ [])) a10 (m0 ∷ m1 ∷ z ∷ [])) (b .1 .1)) ms j) w h g
 
-mark-at : (w : List ℤ) (k : ℕ) → length w ≡ 12 → SFits w64 (at w 11) → recordIn (marksOut w (withMark (recordIn w) k true)) ≡ withMark (recordIn w) k true
+mark-at : (w : List ℤ) (k : ℕ) → length w ≡ 14 → SFits w64 (at w 11) → recordIn (marksOut w (withMark (recordIn w) k true)) ≡ withMark (recordIn w) k true
 unfolding withMark
 mark-at w k h g = marks-at w (set (recordIn w .«is_cleared») k true) h (length-set (recordIn w .«is_cleared») k true) g
 

@@ -30,7 +30,7 @@ pub record Words (n : ℕ) (w : List ℤ) : Type 0 where
 -- `image-kept`, `assembler-kept`, `replay-kept`).
 abbrev pub RecordKept : Type 0
 RecordKept =
-    (w : List ℤ) → Words 12 w
+    (w : List ℤ) → Words 14 w
     → ((recordOut w (recordIn w) ≡ w) × ((limitOut w (recordIn w) ≡ w) × (closedOut w (recordIn w) ≡ w))) × ((slowestOut w (recordIn w) ≡ w) × (marksOut w (recordIn w) ≡ w))
 
 abbrev pub ImageKept : Type 0
@@ -59,7 +59,7 @@ world w log = record { record· = recordIn w; log = log }
 
 -- so each of them that is refused without a trip leaves every byte of the record (Steps, `refusals-keep`)
 abbrev pub RefusalsKeep : Type 0
-RefusalsKeep = (w : List ℤ) (log : List ℕ) (y : Call) (e : Error) → Words 12 w → RefusedWith (step (world w log) y .answer) e
+RefusalsKeep = (w : List ℤ) (log : List ℕ) (y : Call) (e : Error) → Words 14 w → RefusedWith (step (world w log) y .answer) e
     → wordsBy w y (step (world w log) y .next .record·) ≡ w
 
 -- ---- calls in a row
@@ -75,12 +75,12 @@ pub record Moved (a r : LogRecord) : Type 0 where
   pub same : r ≡ noted (changed a tails count (a .«publication_limit») (a .«is_closed»)) (a .«slowest_position») marks
 
 abbrev pub RecordBack : Type 0
-RecordBack = (w : List ℤ) (r : LogRecord) → Words 12 w → Moved (recordIn w) r → recordIn (recordOut w r) ≡ r
+RecordBack = (w : List ℤ) (r : LogRecord) → Words 14 w → Moved (recordIn w) r → recordIn (recordOut w r) ≡ r
 
 -- So the next call through the face begins at the record that this one gives: a list of calls through the face is a list of calls of demand 3
 -- (Steps, `steps-back`).
 abbrev pub StepsBack : Type 0
-StepsBack = (w : List ℤ) (log : List ℕ) (y : Call) → Words 12 w → recordIn (wordsBy w y (step (world w log) y .next .record·)) ≡ step (world w log) y .next .record·
+StepsBack = (w : List ℤ) (log : List ℕ) (y : Call) → Words 14 w → recordIn (wordsBy w y (step (world w log) y .next .record·)) ≡ step (world w log) y .next .record·
 
 -- The same of an image that a call moves (Steps, `image-back`).
 abbrev pub ImageBack : Type 0

@@ -14,6 +14,8 @@
 --       9     closed (lowest byte), gap of 7
 --      10     the slowest reader's position
 --      11     marks of cleared partitions (bits 0, 1 and 2), gap of 61 bits
+--      12     transports | page size
+--      13     correlation id
 --
 -- `low | high` are the halves. The C header declares the structs; tests/c/layout.c and the Rust crate's layout.rs hold size and offsets to this.
 -- Read Theorems next: what is packed is unpacked again, and a refusal leaves every byte.
@@ -87,6 +89,9 @@ recordIn w =
       «is_closed» = flagOf (long (at w 9));
       «slowest_position» = at w 10;
       «is_cleared» = bitOf (long (at w 11)) ∷ bitOf (long (at w 11) / 2) ∷ bitOf (long (at w 11) / 4) ∷ [];
+      «active_transport_count» = lowOf (at w 12);
+      «correlation_id» = at w 13;
+      «page_size» = highOf (at w 12);
     }
 
 -- the marks in the three lowest bits, beside bits that are kept
@@ -121,18 +126,20 @@ closedOut w r =
     cond (flagOf (long (at w 9))) w
     (cond (r .«is_closed») (set w 9 (toZ w64 (long (at w 9) + 1))) w)
 
--- after opening, which leaves it open: every word, flag and gaps 0; refused, as it was
+-- after a call that gives a whole record: every word, the gaps 0; opening, refused, leaves it as it was
 abbrev pub recordFilled : List ℤ → LogRecord → List ℤ
 recordFilled w r =
-    set (set (set (set (set (set (set (set (recordOut w r)
+    set (set (set (set (set (set (set (set (set (set (recordOut w r)
     4 (pairOf (r .«term_length») (r .«mtu_length»)))
     5 (pairOf (r .«session_id») (r .«stream_id»)))
     6 (pairOf (r .«is_connected») (pos 0)))
     7 (r .«publication_limit»))
     8 (r .«end_of_stream_position»))
-    9 (pos 0))
+    9 (countOut (bitNumber (r .«is_closed»))))
     10 (r .«slowest_position»))
-    11 (marksWord 0 r)
+    11 (marksWord 0 r))
+    12 (pairOf (r .«active_transport_count») (r .«page_size»)))
+    13 (r .«correlation_id»)
 
 abbrev pub openedBy : List ℤ → LogRecord → Outcome → List ℤ
 openedBy w r Done = recordFilled w r

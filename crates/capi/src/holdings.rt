@@ -79,7 +79,7 @@ fn replied(held: Holding) -> HoldingReply
 
 #[no_mangle]
 pub extern "C" fn logbuffer_holding(
-    rec: &[i64; 12],
+    rec: &[i64; 14],
     log: &[u8],
     find: u32,
     from: i64,

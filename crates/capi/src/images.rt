@@ -22,7 +22,7 @@ pub extern "C" fn logbuffer_image_new(image: &mut [i64; 2], position: i64, sessi
 #[no_mangle]
 pub extern "C" fn logbuffer_image_poll(
     image: &mut [i64; 2],
-    rec: &[i64; 12],
+    rec: &[i64; 14],
     log: &[u8],
     entries: &mut [i32],
     fragment_limit: i32,
@@ -42,7 +42,7 @@ pub extern "C" fn logbuffer_image_poll(
 #[no_mangle]
 pub extern "C" fn logbuffer_image_bounded_poll(
     image: &mut [i64; 2],
-    rec: &[i64; 12],
+    rec: &[i64; 14],
     log: &[u8],
     entries: &mut [i32],
     limit_position: i64,
@@ -69,7 +69,7 @@ pub extern "C" fn logbuffer_image_bounded_poll(
 #[no_mangle]
 pub extern "C" fn logbuffer_image_controlled_poll(
     image: &mut [i64; 2],
-    rec: &[i64; 12],
+    rec: &[i64; 14],
     log: &[u8],
     entries: &mut [i32],
     actions: &[u8],
@@ -91,7 +91,7 @@ pub extern "C" fn logbuffer_image_controlled_poll(
 #[no_mangle]
 pub extern "C" fn logbuffer_image_controlled_peek(
     image: &[i64; 2],
-    rec: &[i64; 12],
+    rec: &[i64; 14],
     log: &[u8],
     entries: &mut [i32],
     actions: &[u8],
@@ -117,7 +117,7 @@ pub extern "C" fn logbuffer_image_controlled_peek(
 #[no_mangle]
 pub extern "C" fn logbuffer_image_block_poll(
     image: &mut [i64; 2],
-    rec: &[i64; 12],
+    rec: &[i64; 14],
     log: &[u8],
     limit: i32,
 ) -> BlockReply
@@ -135,7 +135,7 @@ pub extern "C" fn logbuffer_image_block_poll(
 #[no_mangle]
 pub extern "C" fn logbuffer_image_set_position(
     image: &mut [i64; 2],
-    rec: &[i64; 12],
+    rec: &[i64; 14],
     log: &[u8],
     new_position: i64,
 ) -> i32
@@ -153,7 +153,7 @@ pub extern "C" fn logbuffer_image_set_position(
 #[no_mangle]
 pub extern "C" fn logbuffer_image_is_end_of_stream(
     image: &[i64; 2],
-    rec: &[i64; 12],
+    rec: &[i64; 14],
     log: &[u8],
 ) -> EndOfStreamReply
     ensures { λ r. ⌜ r ≡ endOfStreamReply (endOfStreamOf (recordIn (now (rec .entry))) (now (log .entry)) (stateOf (imageIn (now (image .entry))))) ⌝ }
@@ -163,7 +163,7 @@ pub extern "C" fn logbuffer_image_is_end_of_stream(
 }
 
 #[no_mangle]
-pub extern "C" fn logbuffer_image_close(image: &mut [i64; 2], rec: &[i64; 12], log: &[u8]) -> i32
+pub extern "C" fn logbuffer_image_close(image: &mut [i64; 2], rec: &[i64; 14], log: &[u8]) -> i32
     ensures { λ r. ⌜ r ≡ outcomeNumber (closeImageOf (recordIn (now (rec .entry))) (now (log .entry)) (stateOf (imageIn (now (image .entry)))) .answer) ⌝ }
     ensures { λ _. ⌜ now (image .exit) ≡ shutOut (now (image .entry)) (closeImageOf (recordIn (now (rec .entry))) (now (log .entry)) (stateOf (imageIn (now (image .entry)))) .next) ⌝ }
 {

@@ -21,7 +21,7 @@ use logbuffer::term_scan;
 
 #[no_mangle]
 pub extern "C" fn logbuffer_header_fields(
-    rec: &[i64; 12],
+    rec: &[i64; 14],
     log: &[u8],
     partition: i32,
     offset: i32,
@@ -33,7 +33,7 @@ pub extern "C" fn logbuffer_header_fields(
 
 #[no_mangle]
 pub extern "C" fn logbuffer_frame_length(
-    rec: &[i64; 12],
+    rec: &[i64; 14],
     log: &[u8],
     partition: i32,
     offset: i32,
@@ -50,7 +50,7 @@ pub extern "C" fn logbuffer_frame_length(
 
 #[no_mangle]
 pub extern "C" fn logbuffer_read(
-    rec: &[i64; 12],
+    rec: &[i64; 14],
     log: &[u8],
     partition: i32,
     offset: i32,
@@ -72,7 +72,7 @@ pub extern "C" fn logbuffer_read(
 
 #[no_mangle]
 pub extern "C" fn logbuffer_view(
-    rec: &[i64; 12],
+    rec: &[i64; 14],
     log: &[u8],
     partition: i32,
     offset: i32,
@@ -85,7 +85,7 @@ pub extern "C" fn logbuffer_view(
 
 #[no_mangle]
 pub extern "C" fn logbuffer_view_number(
-    rec: &[i64; 12],
+    rec: &[i64; 14],
     log: &[u8],
     partition: i32,
     offset: i32,
@@ -98,7 +98,7 @@ pub extern "C" fn logbuffer_view_number(
 
 #[no_mangle]
 pub extern "C" fn logbuffer_scan(
-    rec: &[i64; 12],
+    rec: &[i64; 14],
     log: &[u8],
     partition: i32,
     offset: i32,
@@ -111,7 +111,7 @@ pub extern "C" fn logbuffer_scan(
 
 #[no_mangle]
 pub extern "C" fn logbuffer_scan_for_gap(
-    rec: &[i64; 12],
+    rec: &[i64; 14],
     log: &[u8],
     partition: i32,
     term_id: i32,
@@ -132,7 +132,7 @@ pub extern "C" fn logbuffer_scan_for_gap(
 
 #[no_mangle]
 pub extern "C" fn logbuffer_scan_for_availability(
-    rec: &[i64; 12],
+    rec: &[i64; 14],
     log: &[u8],
     partition: i32,
     offset: i32,

@@ -32,7 +32,7 @@ pub extern "C" fn logbuffer_assembler_new(assembler: &mut [i64; 25])
 #[no_mangle]
 pub extern "C" fn logbuffer_assembler_on_fragment(
     assembler: &mut [i64; 25],
-    rec: &[i64; 12],
+    rec: &[i64; 14],
     log: &[u8],
     buffer: &mut [u8],
     partition: i32,
@@ -58,7 +58,7 @@ pub extern "C" fn logbuffer_replay_new(replay: &mut [i64; 27], position: i64, se
 }
 
 // The next message by every word of the replay: what is not handed out as it lies, so that no whole message is looked for again.
-fn next_by_all(replay: &mut [i64; 27], rec: &[i64; 12], log: &[u8], buffer: &mut [u8]) -> NextReply
+fn next_by_all(replay: &mut [i64; 27], rec: &[i64; 14], log: &[u8], buffer: &mut [u8]) -> NextReply
     ensures { λ r. ⌜ r ≡ nextReply (nextOf (recordIn (now (rec .entry))) (now (log .entry)) (stateOf (replayIn (now (replay .entry))) (now (buffer .entry))) .answer) ⌝ }
     ensures { λ _. ⌜ now (replay .exit) ≡ replayOut (now (replay .entry)) (nextOf (recordIn (now (rec .entry))) (now (log .entry)) (stateOf (replayIn (now (replay .entry))) (now (buffer .entry))) .next) ⌝ }
     ensures { λ _. ⌜ now (buffer .exit) ≡ nextOf (recordIn (now (rec .entry))) (now (log .entry)) (stateOf (replayIn (now (replay .entry))) (now (buffer .entry))) .next .buffer ⌝ }
@@ -76,7 +76,7 @@ fn next_by_all(replay: &mut [i64; 27], rec: &[i64; 12], log: &[u8], buffer: &mut
 #[no_mangle]
 pub extern "C" fn logbuffer_replay_next(
     replay: &mut [i64; 27],
-    rec: &[i64; 12],
+    rec: &[i64; 14],
     log: &[u8],
     buffer: &mut [u8],
 ) -> NextReply
@@ -107,7 +107,7 @@ pub extern "C" fn logbuffer_replay_next(
 #[no_mangle]
 pub extern "C" fn logbuffer_replay_next_batch(
     replay: &mut [i64; 27],
-    rec: &[i64; 12],
+    rec: &[i64; 14],
     log: &[u8],
     buffer: &mut [u8],
     numbers: &mut [usize],
@@ -127,7 +127,7 @@ pub extern "C" fn logbuffer_replay_next_batch(
 
 #[no_mangle]
 pub extern "C" fn logbuffer_replay_count(
-    rec: &[i64; 12],
+    rec: &[i64; 14],
     log: &[u8],
     buffer: &mut [u8],
     position: i64,

@@ -17,7 +17,7 @@ fn shelved_code(answer: Shelved) -> i32
 
 #[no_mangle]
 pub extern "C" fn logbuffer_shelve(
-    rec: &[i64; 12],
+    rec: &[i64; 14],
     log: &[u8],
     partition: i32,
     out: &mut [u8],
@@ -29,7 +29,7 @@ pub extern "C" fn logbuffer_shelve(
 }
 
 #[no_mangle]
-pub extern "C" fn logbuffer_unshelve(rec: &[i64; 12], shelf: &[u8], out: &mut [u8]) -> i32
+pub extern "C" fn logbuffer_unshelve(rec: &[i64; 14], shelf: &[u8], out: &mut [u8]) -> i32
     ensures { λ r. ⌜ r ≡ shelvedNumber (unshelveOf (recordIn (now (rec .entry))) (now (shelf .entry)) (length (now (out .entry)))) ⌝ }
     ensures { λ _. ⌜ now (out .exit) ≡ unshelveBytes (recordIn (now (rec .entry))) (now (shelf .entry)) (now (out .entry)) ⌝ }
 {

@@ -129,7 +129,7 @@ fn tallied_by_partition(answer: PartitionTallied) -> PartitionTallyReply
 }
 
 #[no_mangle]
-pub extern "C" fn logbuffer_tally(rec: &[i64; 12], log: &[u8], from: i64, to: i64) -> TallyReply
+pub extern "C" fn logbuffer_tally(rec: &[i64; 14], log: &[u8], from: i64, to: i64) -> TallyReply
     ensures { λ r. ⌜ r ≡ tallyReply (tallyOf (recordIn (now (rec .entry))) (now (log .entry)) from to) ⌝ }
 {
     tallied(tally::tally(words::record_in(rec), log, from, to))
@@ -137,7 +137,7 @@ pub extern "C" fn logbuffer_tally(rec: &[i64; 12], log: &[u8], from: i64, to: i6
 
 #[no_mangle]
 pub extern "C" fn logbuffer_tally_by_partition(
-    rec: &[i64; 12],
+    rec: &[i64; 14],
     log: &[u8],
     from: i64,
     to: i64,

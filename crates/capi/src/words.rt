@@ -61,7 +61,7 @@ fn bit_number(mark: bool) -> usize
 
 // ---- the record
 
-pub(crate) fn record_in(w: &[i64; 12]) -> LogRecord
+pub(crate) fn record_in(w: &[i64; 14]) -> LogRecord
     ensures { λ r. ⌜ r ≡ recordIn (now (w .entry)) ⌝ }
 {
     let marks = cast::long(w[11]);
@@ -79,6 +79,9 @@ pub(crate) fn record_in(w: &[i64; 12]) -> LogRecord
         is_closed: flag(cast::long(w[9])),
         slowest_position: w[10],
         is_cleared: [bit(marks), bit(marks / 2), bit(marks / 4)],
+        active_transport_count: low(w[12]),
+        correlation_id: w[13],
+        page_size: high(w[12]),
     }
 }
 
@@ -94,7 +97,7 @@ fn marks_word(bits: usize, next: LogRecord) -> i64
 }
 
 // After a clearing.
-pub(crate) fn marks_out(w: &mut [i64; 12], next: LogRecord)
+pub(crate) fn marks_out(w: &mut [i64; 14], next: LogRecord)
     ensures { λ _. ⌜ now (w .exit) ≡ marksOut (now (w .entry)) next ⌝ }
 {
     let bits = cast::long(w[11]);
@@ -102,7 +105,7 @@ pub(crate) fn marks_out(w: &mut [i64; 12], next: LogRecord)
 }
 
 // After the slowest reader's rise.
-pub(crate) fn slowest_out(w: &mut [i64; 12], next: LogRecord)
+pub(crate) fn slowest_out(w: &mut [i64; 14], next: LogRecord)
     ensures { λ _. ⌜ now (w .exit) ≡ slowestOut (now (w .entry)) next ⌝ }
 {
     let position = next.slowest_position;
@@ -110,7 +113,7 @@ pub(crate) fn slowest_out(w: &mut [i64; 12], next: LogRecord)
 }
 
 // After an append or a rotation.
-pub(crate) fn record_out(w: &mut [i64; 12], next: LogRecord)
+pub(crate) fn record_out(w: &mut [i64; 14], next: LogRecord)
     ensures { λ _. ⌜ now (w .exit) ≡ recordOut (now (w .entry)) next ⌝ }
 {
     let tails = next.tails;
@@ -122,7 +125,7 @@ pub(crate) fn record_out(w: &mut [i64; 12], next: LogRecord)
 }
 
 // After a limit change.
-pub(crate) fn limit_out(w: &mut [i64; 12], next: LogRecord)
+pub(crate) fn limit_out(w: &mut [i64; 14], next: LogRecord)
     ensures { λ _. ⌜ now (w .exit) ≡ limitOut (now (w .entry)) next ⌝ }
 {
     let limit = next.publication_limit;
@@ -130,7 +133,7 @@ pub(crate) fn limit_out(w: &mut [i64; 12], next: LogRecord)
 }
 
 // After closing: a record that was closed, or that is not, stays.
-pub(crate) fn closed_out(w: &mut [i64; 12], next: LogRecord)
+pub(crate) fn closed_out(w: &mut [i64; 14], next: LogRecord)
     ensures { λ _. ⌜ now (w .exit) ≡ closedOut (now (w .entry)) next ⌝ }
 {
     let bits = cast::long(w[9]);
@@ -142,8 +145,8 @@ pub(crate) fn closed_out(w: &mut [i64; 12], next: LogRecord)
     }
 }
 
-// Every word of a record that is not closed, the gaps 0.
-pub(crate) fn record_filled(w: &mut [i64; 12], next: LogRecord)
+// Every word, the gaps 0.
+pub(crate) fn record_filled(w: &mut [i64; 14], next: LogRecord)
     ensures { λ _. ⌜ now (w .exit) ≡ recordFilled (now (w .entry)) next ⌝ }
 {
     record_out(w, next);
@@ -154,10 +157,13 @@ pub(crate) fn record_filled(w: &mut [i64; 12], next: LogRecord)
     w[7] = limit;
     let end = next.end_of_stream_position;
     w[8] = end;
-    w[9] = 0;
+    w[9] = cast::to_i64(bit_number(next.is_closed));
     let position = next.slowest_position;
     w[10] = position;
     w[11] = marks_word(0, next);
+    w[12] = pair(next.active_transport_count, next.page_size);
+    let id = next.correlation_id;
+    w[13] = id;
 }
 
 // ---- an image

@@ -29,7 +29,7 @@ use publication::positions;
 // Refused, it leaves record and log as they were.
 #[no_mangle]
 pub extern "C" fn logbuffer_open(
-    rec: &mut [i64; 12],
+    rec: &mut [i64; 14],
     log: &mut [u8],
     term_length: i32,
     mtu_length: i32,
@@ -61,7 +61,7 @@ pub extern "C" fn logbuffer_open(
 }
 
 #[no_mangle]
-pub extern "C" fn logbuffer_set_publication_limit(rec: &mut [i64; 12], limit: i64) -> i32
+pub extern "C" fn logbuffer_set_publication_limit(rec: &mut [i64; 14], limit: i64) -> i32
     ensures { λ r. ⌜ r ≡ outcomeNumber (limitOf (recordIn (now (rec .entry))) limit .answer) ⌝ }
     ensures { λ _. ⌜ now (rec .exit) ≡ limitOut (now (rec .entry)) (limitOf (recordIn (now (rec .entry))) limit .next) ⌝ }
 {
@@ -73,7 +73,7 @@ pub extern "C" fn logbuffer_set_publication_limit(rec: &mut [i64; 12], limit: i6
 }
 
 #[no_mangle]
-pub extern "C" fn logbuffer_close(rec: &mut [i64; 12]) -> i32
+pub extern "C" fn logbuffer_close(rec: &mut [i64; 14]) -> i32
     ensures { λ r. ⌜ r ≡ outcomeNumber (closeOf (recordIn (now (rec .entry))) .answer) ⌝ }
     ensures { λ _. ⌜ now (rec .exit) ≡ closedOut (now (rec .entry)) (closeOf (recordIn (now (rec .entry))) .next) ⌝ }
 {
@@ -85,7 +85,7 @@ pub extern "C" fn logbuffer_close(rec: &mut [i64; 12]) -> i32
 }
 
 #[no_mangle]
-pub extern "C" fn logbuffer_set_slowest_position(rec: &mut [i64; 12], position: i64) -> i32
+pub extern "C" fn logbuffer_set_slowest_position(rec: &mut [i64; 14], position: i64) -> i32
     ensures { λ r. ⌜ r ≡ outcomeNumber (raiseOf (recordIn (now (rec .entry))) position .answer) ⌝ }
     ensures { λ _. ⌜ now (rec .exit) ≡ slowestOut (now (rec .entry)) (raiseOf (recordIn (now (rec .entry))) position .next) ⌝ }
 {
@@ -98,7 +98,7 @@ pub extern "C" fn logbuffer_set_slowest_position(rec: &mut [i64; 12], position: 
 
 #[no_mangle]
 pub extern "C" fn logbuffer_clear_partition(
-    rec: &mut [i64; 12],
+    rec: &mut [i64; 14],
     log: &mut [u8],
     partition: i32,
 ) -> i32
@@ -114,7 +114,7 @@ pub extern "C" fn logbuffer_clear_partition(
 }
 
 #[no_mangle]
-pub extern "C" fn logbuffer_rotate_log(rec: &mut [i64; 12], count: i32, term_id: i32) -> i32
+pub extern "C" fn logbuffer_rotate_log(rec: &mut [i64; 14], count: i32, term_id: i32) -> i32
     ensures { λ r. ⌜ r ≡ outcomeNumber (rotateLogOf (recordIn (now (rec .entry))) count «term_id» .answer) ⌝ }
     ensures { λ _. ⌜ now (rec .exit) ≡ recordOut (now (rec .entry)) (rotateLogOf (recordIn (now (rec .entry))) count «term_id» .next) ⌝ }
 {
@@ -126,21 +126,21 @@ pub extern "C" fn logbuffer_rotate_log(rec: &mut [i64; 12], count: i32, term_id:
 }
 
 #[no_mangle]
-pub extern "C" fn logbuffer_position(rec: &[i64; 12]) -> PositionReply
+pub extern "C" fn logbuffer_position(rec: &[i64; 14]) -> PositionReply
     ensures { λ r. ⌜ r ≡ positionReply (positionCall (recordIn (now (rec .entry)))) ⌝ }
 {
     replies::positioned(positions::position(words::record_in(rec)))
 }
 
 #[no_mangle]
-pub extern "C" fn logbuffer_publication_limit(rec: &[i64; 12]) -> PositionReply
+pub extern "C" fn logbuffer_publication_limit(rec: &[i64; 14]) -> PositionReply
     ensures { λ r. ⌜ r ≡ positionReply (limitCall (recordIn (now (rec .entry)))) ⌝ }
 {
     replies::positioned(positions::publication_limit(words::record_in(rec)))
 }
 
 #[no_mangle]
-pub extern "C" fn logbuffer_available_window(rec: &[i64; 12]) -> PositionReply
+pub extern "C" fn logbuffer_available_window(rec: &[i64; 14]) -> PositionReply
     ensures { λ r. ⌜ r ≡ positionReply (windowCall (recordIn (now (rec .entry)))) ⌝ }
 {
     replies::positioned(positions::available_window(words::record_in(rec)))
@@ -148,7 +148,7 @@ pub extern "C" fn logbuffer_available_window(rec: &[i64; 12]) -> PositionReply
 
 #[no_mangle]
 pub extern "C" fn logbuffer_offer(
-    rec: &mut [i64; 12],
+    rec: &mut [i64; 14],
     log: &mut [u8],
     message: &[u8],
     reserved_value: i64,
@@ -167,7 +167,7 @@ pub extern "C" fn logbuffer_offer(
 
 #[no_mangle]
 pub extern "C" fn logbuffer_try_claim(
-    rec: &mut [i64; 12],
+    rec: &mut [i64; 14],
     log: &mut [u8],
     length: i32,
 ) -> ClaimReply
@@ -184,14 +184,14 @@ pub extern "C" fn logbuffer_try_claim(
 }
 
 #[no_mangle]
-pub extern "C" fn logbuffer_claim_body(rec: &[i64; 12], log: &[u8], claim: Claim) -> SpanReply
+pub extern "C" fn logbuffer_claim_body(rec: &[i64; 14], log: &[u8], claim: Claim) -> SpanReply
     ensures { λ r. ⌜ r ≡ spanReply (locateOf (recordIn (now (rec .entry))) (now (log .entry)) claim) ⌝ }
 {
     replies::located(buffer_claim::locate(words::record_in(rec), log, claim))
 }
 
 #[no_mangle]
-pub extern "C" fn logbuffer_claim_body_number(rec: &[i64; 12], log: &[u8], claim: Claim) -> i32
+pub extern "C" fn logbuffer_claim_body_number(rec: &[i64; 14], log: &[u8], claim: Claim) -> i32
     ensures { λ r. ⌜ r ≡ locatedNumber (locateOf (recordIn (now (rec .entry))) (now (log .entry)) claim) ⌝ }
 {
     buffer_claim::body_number(words::record_in(rec), log, claim)
@@ -199,7 +199,7 @@ pub extern "C" fn logbuffer_claim_body_number(rec: &[i64; 12], log: &[u8], claim
 
 #[no_mangle]
 pub extern "C" fn logbuffer_claim_write(
-    rec: &[i64; 12],
+    rec: &[i64; 14],
     log: &mut [u8],
     claim: Claim,
     bytes: &[u8],
@@ -211,7 +211,7 @@ pub extern "C" fn logbuffer_claim_write(
 }
 
 #[no_mangle]
-pub extern "C" fn logbuffer_commit(rec: &[i64; 12], log: &mut [u8], claim: Claim) -> i32
+pub extern "C" fn logbuffer_commit(rec: &[i64; 14], log: &mut [u8], claim: Claim) -> i32
     ensures { λ r. ⌜ r ≡ outcomeNumber (commitOf (recordIn (now (rec .entry))) (now (log .entry)) claim) ⌝ }
     ensures { λ _. ⌜ now (log .exit) ≡ commitBytes (recordIn (now (rec .entry))) (now (log .entry)) claim ⌝ }
 {
@@ -219,7 +219,7 @@ pub extern "C" fn logbuffer_commit(rec: &[i64; 12], log: &mut [u8], claim: Claim
 }
 
 #[no_mangle]
-pub extern "C" fn logbuffer_abort(rec: &[i64; 12], log: &mut [u8], claim: Claim) -> i32
+pub extern "C" fn logbuffer_abort(rec: &[i64; 14], log: &mut [u8], claim: Claim) -> i32
     ensures { λ r. ⌜ r ≡ outcomeNumber (commitOf (recordIn (now (rec .entry))) (now (log .entry)) claim) ⌝ }
     ensures { λ _. ⌜ now (log .exit) ≡ abortBytes (recordIn (now (rec .entry))) (now (log .entry)) claim ⌝ }
 {
@@ -228,7 +228,7 @@ pub extern "C" fn logbuffer_abort(rec: &[i64; 12], log: &mut [u8], claim: Claim)
 
 #[no_mangle]
 pub extern "C" fn logbuffer_append_unfragmented_message(
-    rec: &mut [i64; 12],
+    rec: &mut [i64; 14],
     log: &mut [u8],
     partition: i32,
     message: &[u8],
@@ -255,7 +255,7 @@ pub extern "C" fn logbuffer_append_unfragmented_message(
 
 #[no_mangle]
 pub extern "C" fn logbuffer_append_fragmented_message(
-    rec: &mut [i64; 12],
+    rec: &mut [i64; 14],
     log: &mut [u8],
     partition: i32,
     message: &[u8],
@@ -284,7 +284,7 @@ pub extern "C" fn logbuffer_append_fragmented_message(
 
 #[no_mangle]
 pub extern "C" fn logbuffer_append_claim(
-    rec: &mut [i64; 12],
+    rec: &mut [i64; 14],
     log: &mut [u8],
     partition: i32,
     length: i32,
