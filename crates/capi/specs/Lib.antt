@@ -5,3 +5,4 @@ pub mod Replies
 pub mod Cards
 pub mod Tallies
 pub mod Holdings
+pub mod Sections

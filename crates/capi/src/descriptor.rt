@@ -10,8 +10,8 @@ use logbuffer::log_buffer_descriptor;
 
 // The version of this face. Its number is in the name, so that a program made for another one does not link.
 #[no_mangle]
-pub extern "C" fn logbuffer_face_2() -> u32
-    ensures { λ r. ⌜ r ≡ 2 ⌝ }
+pub extern "C" fn logbuffer_face_3() -> u32
+    ensures { λ r. ⌜ r ≡ 3 ⌝ }
 {
     2
 }

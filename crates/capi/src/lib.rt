@@ -7,6 +7,7 @@ mod images;
 mod reading;
 mod replays;
 mod replies;
+mod sections;
 mod shelves;
 mod tallies;
 mod words;
