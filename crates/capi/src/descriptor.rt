@@ -13,7 +13,7 @@ use logbuffer::log_buffer_descriptor;
 pub extern "C" fn logbuffer_face_3() -> u32
     ensures { λ r. ⌜ r ≡ 3 ⌝ }
 {
-    2
+    3
 }
 
 #[no_mangle]

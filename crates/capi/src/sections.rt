@@ -3,13 +3,12 @@
 ghost use mathlib.Core.Path.{_≡_};
 ghost use lib.ListN.{length};
 ghost use Rattle.metadata.specs.Metadata.{besideOf};
-ghost use Rattle.metadata.specs.Calls.{writtenNumber, readNumber, writeOf, writeBytes, readOf};
+ghost use Rattle.metadata.specs.Calls.{answerNumber, writeOf, writeBytes, readOf};
 ghost use Rattle.capi.specs.Words.{recordIn};
 ghost use Rattle.capi.specs.Sections.{readOut};
 use crate::words;
 use metadata::Beside;
-use metadata::MetadataRead;
-use metadata::MetadataWritten;
+use metadata::MetadataAnswer;
 use model::LogRecord;
 
 fn beside_of(rec: LogRecord) -> Beside
@@ -26,34 +25,37 @@ fn beside_of(rec: LogRecord) -> Beside
     }
 }
 
-fn written_code(answer: MetadataWritten) -> i32
-    ensures { λ r. ⌜ r ≡ writtenNumber answer ⌝ }
+fn answer_code(answer: MetadataAnswer) -> i32
+    ensures { λ r. ⌜ r ≡ answerNumber answer ⌝ }
 {
     match answer {
-        MetadataWritten::Done => 0,
-        MetadataWritten::Refused(e) => metadata::error_number(e),
+        MetadataAnswer::Done => 0,
+        MetadataAnswer::Refused(e) => metadata::error_number(e),
     }
 }
 
 #[no_mangle]
 pub extern "C" fn logbuffer_write_metadata(rec: &[i64; 14], out: &mut [u8]) -> i32
-    ensures { λ r. ⌜ r ≡ writtenNumber (writeOf (recordIn (now (rec .entry))) (length (now (out .entry)))) ⌝ }
+    ensures { λ r. ⌜ r ≡ answerNumber (writeOf (recordIn (now (rec .entry))) (length (now (out .entry)))) ⌝ }
     ensures { λ _. ⌜ now (out .exit) ≡ writeBytes (recordIn (now (rec .entry))) (now (out .entry)) ⌝ }
 {
-    written_code(metadata::write_metadata(words::record_in(rec), out))
+    answer_code(metadata::write_metadata(words::record_in(rec), out))
 }
 
 #[no_mangle]
 pub extern "C" fn logbuffer_read_metadata(rec: &mut [i64; 14], bytes: &[u8]) -> i32
-    ensures { λ r. ⌜ r ≡ readNumber (readOf (now (bytes .entry)) (besideOf (recordIn (now (rec .entry))))) ⌝ }
+    ensures { λ r. ⌜ r ≡ answerNumber (readOf (now (bytes .entry)) (besideOf (recordIn (now (rec .entry)))) .answer) ⌝ }
     ensures { λ _. ⌜ now (rec .exit) ≡ readOut (now (rec .entry)) (readOf (now (bytes .entry)) (besideOf (recordIn (now (rec .entry))))) ⌝ }
 {
-    let answer = metadata::read_metadata(bytes, beside_of(words::record_in(rec)));
+    let beside = beside_of(words::record_in(rec));
+    let o = metadata::read_metadata(bytes, beside);
+    let next = o.next;
+    let answer = o.answer;
     match answer {
-        MetadataRead::Found(next) => {
+        MetadataAnswer::Done => {
             words::record_filled(rec, next);
             0
         }
-        MetadataRead::Refused(e) => metadata::error_number(e),
+        MetadataAnswer::Refused(e) => metadata::error_number(e),
     }
 }

@@ -40,7 +40,7 @@ returns c =
     (c .before .before .before .before .before .before .bit2 .ensures ∙ ap (λ (n : ℕ). bitOf (n / 2)) marks)
     (c .before .before .before .before .before .bit3 .ensures ∙ ap (λ (n : ℕ). bitOf (n / 4)) marks)
     (low-by (at w 12) (c .before .before .before .low5 .ensures) (search needs) (search needs))
-    (toZ-ofZ (search (needs, c .before .before .t70 .given)))
+    (toZ-ofZ (search (needs, c .before .before .t69 .given)))
     (high-by (at w 12) (c .high4 .ensures) (search needs) (search needs))
 
 pub record-in-spec : {M : Type 1} → statement M

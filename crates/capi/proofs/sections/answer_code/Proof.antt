@@ -1,7 +1,7 @@
 -- Case by case on the answer; a refusal's number is that of its error.
 use borrow.Author.Needs.{needs}
-use Rattle.capi.proofs.sections.written_code.Statement.{statement}
-use Rattle.capi.proofs.sections.written_code.Tie as tie
+use Rattle.capi.proofs.sections.answer_code.Statement.{statement}
+use Rattle.capi.proofs.sections.answer_code.Tie as tie
 
 returns : tie.Need-returns
 returns c = rw (c .enum-told .given .1)
@@ -9,6 +9,6 @@ returns c = rw (c .enum-told .given .1)
 returns-2 : tie.Need-returns-2
 returns-2 c = search (needs, ← c .error-number .ensures, c .before .before .answer .given .1)
 
-pub written-code-spec : {M : Type 1} → statement M
-written-code-spec =
+pub answer-code-spec : {M : Type 1} → statement M
+answer-code-spec =
     tie.close (tie.spec (search needs) (search needs) (search needs) returns returns-2)
