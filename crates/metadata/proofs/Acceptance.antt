@@ -7,7 +7,7 @@ use borrow.Author.Tests.{eq-eqb, eqb-true}
 use lib.ListN.{length, drop}
 use Rattle.model.specs.Bytes.{u32}
 use Rattle.model.proofs.Both.{and-true, both-true}
-use Rattle.metadata.specs.Metadata.{headerLength, zeroFrom, accepted, Section}
+use Rattle.metadata.specs.Metadata.{headerLength, zeroFrom, accepted}
 use Rattle.metadata.specs.Theorems.{Acceptance}
 use Rattle.metadata.proofs.Gaps.{zero-all, zero-each}
 

@@ -1,5 +1,5 @@
--- A number laid in its field and read back, and a field's bytes that are those of the number in it. Cases is named here so that the checker meets a wrong
--- definition first in a fact about it.
+-- A number laid in its field and read back, and a field's bytes that are those of the number in it.
+-- Cases is named here, so that the checker meets a wrong definition first in a fact about it.
 use mathlib.Core.Path.{_≡_, sym, ap, ap₂, _∙_}
 use Prim.Native.Nat.{ℕ, _+_, _*_, _/_, _%_, _≤_, _<_}
 use mathlib.Core.List.{List, [], _∷_, _++_}

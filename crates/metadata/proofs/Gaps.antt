@@ -1,15 +1,15 @@
--- Bytes of 0: what `zeroFrom` says of each of them, and how a loop lays them. Cases is named here so that the checker meets a wrong
--- definition first in a fact about it.
+-- Bytes of 0: what `zeroFrom` says of each of them, and how a loop lays them.
+-- Cases is named here, so that the checker meets a wrong definition first in a fact about it.
 use mathlib.Core.Path.{_≡_, refl, sym, ap, ap₂, _∙_}
 use Prim.Native.Nat.{ℕ, zero, suc, _+_, _≤_, _<_}
-use mathlib.Core.Bool.{Bool, true, false}
-use mathlib.Core.List.{List, [], _∷_, _++_}
+use mathlib.Core.Bool.{true, false}
+use mathlib.Core.List.{List, _∷_, _++_}
 use native.Mathlib.Omega.{arith}
 use native.Mathlib.Numerals.{add-one}
 use borrow.Author.Tests.{eq-eqb, eqb-true, eqb-false}
 use lib.Dec.{eqb}
-use lib.ListN.{length, take, drop, getD, set, length-drop, take-append-drop}
-use lib.Seq.{set-split, drop-cons, length-take-le}
+use lib.ListN.{length, take, drop, getD, set, take-append-drop}
+use lib.Seq.{set-split, drop-cons}
 use Rattle.model.specs.Bytes.{zeros, splice}
 use Rattle.model.proofs.Both.{and-true, both-true, test}
 use Rattle.model.proofs.Splice.{length-splice, length-zeros, splice-more, zeros-add}

@@ -1,5 +1,5 @@
--- Pieces laid one behind the other, and the parts of a section. Cases is named here so that the checker meets a wrong
--- definition first in a fact about it.
+-- Pieces laid one behind the other, and the parts of a section.
+-- Cases is named here, so that the checker meets a wrong definition first in a fact about it.
 use mathlib.Core.Path.{_≡_, refl, sym, ap, ap₂, _∙_}
 use Prim.Native.Nat.{ℕ, _+_, _≤_}
 use mathlib.Core.List.{List, [], _∷_, _++_, append-assoc, append-nil}

@@ -1,21 +1,20 @@
 -- The round trips of the two calls, and that refusals leave the output as it was.
-use mathlib.Core.Path.{_≡_, refl, sym, ap, ap₂, _∙_}
-use Prim.Native.Nat.{ℕ, _+_, _≤_, _<_}
+use mathlib.Core.Path.{_≡_, refl, sym, ap, _∙_}
+use Prim.Native.Nat.{ℕ, _<_}
 use mathlib.Core.Bool.{Bool, true, false}
-use mathlib.Core.List.{List, [], _∷_, _++_}
+use mathlib.Core.List.{List, [], _∷_}
 use native.Mathlib.Omega.{arith}
-use borrow.Author.Tests.{eq-eqb, eqb-true, le-leb, leb-true}
+use borrow.Author.Tests.{eq-eqb, le-leb}
 use lib.Dec.{eqb, leb}
 use lib.IntN.{ℤ, pos}
 use lib.ListN.{length, take, drop, getD}
 use lib.Seq.{take-all}
 use Rattle.model.specs.declared.LogRecord.{LogRecord}
-use Rattle.model.specs.Bytes.{le4, le8, u32, u64, i32, i64, word, long, zeros}
+use Rattle.model.specs.Bytes.{le4, le8, u32, u64, zeros}
 use Rattle.model.specs.LogBufferDescriptor.{reading, soundRecord, tailOf}
 use Rattle.metadata.specs.declared.Beside.{Beside}
 use Rattle.metadata.specs.declared.MetadataAnswer.{MetadataAnswer}
 use Rattle.metadata.specs.declared.MetadataAnswer.the-variants.{Done, Refused}
-use Rattle.metadata.specs.declared.MetadataReply.{MetadataReply}
 use Rattle.metadata.specs.Metadata.{headerLength, counters, connection, ids, lengths, section, tailsFrom, recordFrom, besideOf, zeroFrom, accepted}
 use Rattle.metadata.specs.Calls.{rows, outputBy, readBy, writeOf, writeBytes, readOf}
 use Rattle.metadata.specs.Theorems.{Fits, WrittenRead, ReadWritten, Untouched}

@@ -1,6 +1,5 @@
 -- Rows 1, 25 and 2, and then the record.
-use mathlib.Core.Path.{_≡_, refl, sym, ap, _∙_}
-use Prim.Native.Nat.{ℕ}
+use mathlib.Core.Path.{_≡_, refl, sym, _∙_}
 use mathlib.Core.Bool.{true}
 use borrow.Author.Needs.{needs}
 use borrow.Author.Tests.{le-leb, lt-leb, not-true, not-false}
@@ -19,18 +18,22 @@ taken c = sym (c .before .accepts .ensures) ∙ not-false _ (c .if2 .left)
 returns : tie.Need-returns
 returns c =
     let a = c .before .before .before .args in
-    let x = recordFrom (a .bytes .now) (a .beside) in
+    let s = a .bytes .now in
+    let n = length s in
+    let x = recordFrom s (a .beside) in
     c .refused .ensures
-    ∙ read-by (a .bytes .now) (a .beside) x (reading x) refl refl (row-1 (leb (length (a .bytes .now)) 2147483647) (accepted (a .bytes .now)) (soundRecord (reading x)) (lt-leb (length (a .bytes .now)) 2147483647 (c .before .if1 .taken)))
+    ∙ read-by s (a .beside) x (reading x) refl refl (row-1 (leb n 2147483647) (accepted s) (soundRecord (reading x)) (lt-leb n 2147483647 (c .before .if1 .taken)))
 
 returns-2 : tie.Need-returns-2
 returns-2 c =
     let e = c .before .before .before in
     let a = e .before .before .args in
-    let x = recordFrom (a .bytes .now) (a .beside) in
+    let s = a .bytes .now in
+    let n = length s in
+    let x = recordFrom s (a .beside) in
     c .refused2 .ensures
-    ∙ read-by (a .bytes .now) (a .beside) x (reading x) refl refl
-    (row-25 (leb (length (a .bytes .now)) 2147483647) (accepted (a .bytes .now)) (soundRecord (reading x)) (le-leb (length (a .bytes .now)) 2147483647 (e .if1 .left)) (sym (c .before .before .accepts .ensures) ∙ not-true _ (c .before .if2 .taken)))
+    ∙ read-by s (a .beside) x (reading x) refl refl
+    (row-25 (leb n 2147483647) (accepted s) (soundRecord (reading x)) (le-leb n 2147483647 (e .if1 .left)) (sym (c .before .before .accepts .ensures) ∙ not-true _ (c .before .if2 .taken)))
 
 record-from-requires : tie.Need-record-from-requires
 record-from-requires c κs = judged (c .before .before .before .before .args .bytes .now) (taken c) .size
@@ -41,17 +44,21 @@ returns-3 c =
     let m = d .before .before .before in
     let e = m .before in
     let a = e .before .before .before .before .args in
+    let s = a .bytes .now in
+    let n = length s in
     c .refused3 .ensures
-    ∙ read-by (a .bytes .now) (a .beside) (m .record-from .result) (d .before .before .read-active .result) (m .record-from .ensures) (d .before .before .read-active .ensures)
-    (row-2 (leb (length (a .bytes .now)) 2147483647) (accepted (a .bytes .now)) (soundRecord (d .before .before .read-active .result)) (le-leb (length (a .bytes .now)) 2147483647 (e .before .before .if1 .left)) (taken e) (sym (d .before .is-sound-record .ensures) ∙ not-true _ (d .if3 .taken)))
+    ∙ read-by s (a .beside) (m .record-from .result) (d .before .before .read-active .result) (m .record-from .ensures) (d .before .before .read-active .ensures)
+    (row-2 (leb n 2147483647) (accepted s) (soundRecord (d .before .before .read-active .result)) (le-leb n 2147483647 (e .before .before .if1 .left)) (taken e) (sym (d .before .is-sound-record .ensures) ∙ not-true _ (d .if3 .taken)))
 
 returns-4 : tie.Need-returns-4
 returns-4 c =
     let m = c .before .before .before in
     let e = m .before in
     let a = e .before .before .before .before .args in
-    read-by (a .bytes .now) (a .beside) (m .record-from .result) (c .before .before .read-active .result) (m .record-from .ensures) (c .before .before .read-active .ensures)
-    (no-row (leb (length (a .bytes .now)) 2147483647) (accepted (a .bytes .now)) (soundRecord (c .before .before .read-active .result)) (le-leb (length (a .bytes .now)) 2147483647 (e .before .before .if1 .left)) (taken e) (sym (c .before .is-sound-record .ensures) ∙ not-false _ (c .if3 .left)))
+    let s = a .bytes .now in
+    let n = length s in
+    read-by s (a .beside) (m .record-from .result) (c .before .before .read-active .result) (m .record-from .ensures) (c .before .before .read-active .ensures)
+    (no-row (leb n 2147483647) (accepted s) (soundRecord (c .before .before .read-active .result)) (le-leb n 2147483647 (e .before .before .if1 .left)) (taken e) (sym (c .before .is-sound-record .ensures) ∙ not-false _ (c .if3 .left)))
 
 pub read-metadata-spec : {M : Type 1} → statement M
 read-metadata-spec =

@@ -1,5 +1,5 @@
 -- The record of zeros.
-use mathlib.Core.Path.{_≡_, ap}
+use mathlib.Core.Path.{ap}
 use borrow.Author.Needs.{needs}
 use Rattle.model.specs.declared.LogRecord.{LogRecord}
 use Rattle.metadata.specs.declared.MetadataReply.{MetadataReply}

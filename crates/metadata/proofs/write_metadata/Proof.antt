@@ -1,6 +1,5 @@
 -- Rows 1, 25 and 2, and then the section is put.
-use mathlib.Core.Path.{_≡_, refl, sym, ap, _∙_}
-use Prim.Native.Nat.{ℕ}
+use mathlib.Core.Path.{refl, sym, _∙_}
 use borrow.Author.Needs.{needs}
 use borrow.Author.Tests.{eq-eqb, ne-eqb, le-leb, lt-leb, not-true, not-false}
 use lib.Dec.{eqb, leb}
@@ -13,7 +12,8 @@ use Rattle.metadata.proofs.write_metadata.Tie as tie
 returns : tie.Need-returns
 returns c =
     let a = c .before .before .args in
-    write-by (a .rec) (a .output .now) (reading (a .rec)) refl (row-1 (leb (length (a .output .now)) 2147483647) (eqb (length (a .output .now)) 320) (soundRecord (reading (a .rec))) (lt-leb (length (a .output .now)) 2147483647 (c .if1 .taken)))
+    let n = length (a .output .now) in
+    write-by (a .rec) (a .output .now) (reading (a .rec)) refl (row-1 (leb n 2147483647) (eqb n 320) (soundRecord (reading (a .rec))) (lt-leb n 2147483647 (c .if1 .taken)))
 
 returns-2 : tie.Need-returns-2
 returns-2 c =

@@ -2,7 +2,6 @@
 use mathlib.Core.Path.{_≡_, sym}
 use Prim.Native.Nat.{ℕ, _+_, _-_, _≤_, _<_}
 use native.Mathlib.Omega.{arith}
-use borrow.Author.Needs.{needs}
 use lib.ListN.{getD}
 use Rattle.metadata.proofs.Gaps.{zero-all, zero-not, one-on}
 use Rattle.metadata.proofs.bytes.is_zero.Statement.{statement}

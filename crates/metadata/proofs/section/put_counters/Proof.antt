@@ -31,20 +31,25 @@ number-3 s = search needs
 returns : tie.Need-returns
 unfolding counters
 returns c =
-    let s = c .before .before .before .before .before .before .before .before .before .before .before .before .before .before .before .before .before .before .before .before .before .before .before .before .before in
+    let c4 = c .before .before in
+    let c3 = c4 .before .before .before .before in
+    let c2 = c3 .before .before .before .before .before in
+    let c1 = c2 .before .before .before .before .before in
+    let c0 = c1 .before .before .before .before .before in
+    let s = c0 .before .before .before .before in
     let r = s .args .t1 in
     let o = s .args .out .now in
     let h : 0 ≤ length o = omega (arith, s .pre) in
     let n0 = le8 (long (tailOf r 0)) in
-    let p0 = first o 0 n0 8 (length8 _) (c .before .before .before .before .before .before .before .before .before .before .before .before .before .before .before .before .before .before .before .before .before .put-i64 .ensures ∙ ap (λ (z : ℤ). splice o 0 (le8 (long z))) (number-0 (c .before .before .before .before .before .before .before .before .before .before .before .before .before .before .before .before .before .before .before .before .before .before))) in
+    let p0 = first o 0 n0 8 (length8 _) (c0 .put-i64 .ensures ∙ ap (λ (z : ℤ). splice o 0 (le8 (long z))) (number-0 (c0 .before))) in
     let n1 = le8 (long (tailOf r 1)) in
-    let p1 = then n1 8 p0 h (length8 _) (c .before .before .before .before .before .before .before .before .before .before .before .before .before .before .before .before .put-i642 .ensures ∙ ap (λ (z : ℤ). splice (c .before .before .before .before .before .before .before .before .before .before .before .before .before .before .before .before .before .before .before .before .before .put-i64 .last .0) 8 (le8 (long z))) (number-1 (c .before .before .before .before .before .before .before .before .before .before .before .before .before .before .before .before .before))) in
+    let p1 = then n1 8 p0 h (length8 _) (c1 .put-i642 .ensures ∙ ap (λ (z : ℤ). splice (c0 .put-i64 .last .0) 8 (le8 (long z))) (number-1 (c1 .before))) in
     let n2 = le8 (long (tailOf r 2)) in
-    let p2 = then n2 8 p1 h (length8 _) (c .before .before .before .before .before .before .before .before .before .before .before .put-i643 .ensures ∙ ap (λ (z : ℤ). splice (c .before .before .before .before .before .before .before .before .before .before .before .before .before .before .before .before .put-i642 .last .0) 16 (le8 (long z))) (number-2 (c .before .before .before .before .before .before .before .before .before .before .before .before))) in
+    let p2 = then n2 8 p1 h (length8 _) (c2 .put-i643 .ensures ∙ ap (λ (z : ℤ). splice (c1 .put-i642 .last .0) 16 (le8 (long z))) (number-2 (c2 .before))) in
     let n3 = le4 (word (r .«active_term_count»)) in
-    let p3 = then n3 4 p2 h (length4 _) (c .before .before .before .before .before .before .put-i32 .ensures ∙ ap (λ (z : ℤ). splice (c .before .before .before .before .before .before .before .before .before .before .before .put-i643 .last .0) 24 (le4 (word z))) (number-3 s)) in
+    let p3 = then n3 4 p2 h (length4 _) (c3 .put-i32 .ensures ∙ ap (λ (z : ℤ). splice (c2 .put-i643 .last .0) 24 (le4 (word z))) (number-3 s)) in
     let n4 = zeros 100 in
-    let p4 = then n4 100 p3 h (length-zeros 100) (c .before .before .put-zeros .ensures) in
+    let p4 = then n4 100 p3 h (length-zeros 100) (c4 .put-zeros .ensures) in
     p4 .is ∙ ap (splice o 0) (right-5 n0 n1 n2 n3 n4)
 
 pub put-counters-spec : {M : Type 1} → statement M
