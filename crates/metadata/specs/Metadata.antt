@@ -1,4 +1,5 @@
 -- The 320 bytes of the Rust's `LogMetaDataDefn`, with 64 for the cache line. Numbers are little-endian; every byte that no field has is 0.
+-- Read Calls next.
 --
 --      at   bytes   field
 --       0      24   the tails of partitions 0, 1, 2

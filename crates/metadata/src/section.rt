@@ -1,4 +1,4 @@
-// A section written, judged and read: its parts in turn, each with the zeros behind it.
+// A section written, judged and read: its four parts in turn, with the zeros behind them. Read bytes next.
 ghost use mathlib.Core.Path.{_≡_};
 ghost use lib.ListN.{length};
 ghost use Rattle.model.specs.Bytes.{splice};
