@@ -1,6 +1,6 @@
 /* The log buffer for C: an excavation's log as Aeron lays it out, each function proved equal to a definition in crates/model/specs, for
- * find cards in crates/card/specs, for finished terms on the shelf in crates/shelf/specs, for the tally in crates/tally/specs, for
- * the card that holds in crates/holding/specs.
+ * find cards in crates/card/specs, for finished terms on the shelf in crates/shelf/specs, for the metadata section in crates/metadata/specs,
+ * for the tally in crates/tally/specs, for the card that holds in crates/holding/specs.
  *
  *   ./archive                                                     builds target/liblogbuffer.a (x86-64)
  *   cc -I include program.c target/liblogbuffer.a                 links it; it needs nothing else
@@ -41,6 +41,8 @@
  *                                                     22  the first frame has a length of 1 to 31 (with its place)
  *                                                     23  the first frame runs past its term's end (with its place)
  *                                                     24  no finished card of that find (with where the walk ended, and why)
+ *                                                     25  no metadata section: another size than 320, a byte that is not 0
+ *                                                         where no field is, a header length that is not 32
  *                                                     26  frames that do not fill the term; shelf bytes that no term gives
  *
  * An example
@@ -76,7 +78,7 @@ extern "C" {
 
 /* ---- numbers */
 
-/* The refusals. 17 is retired; 25 is not in use. */
+/* The refusals. 17 is retired. */
 enum {
     LOGBUFFER_DONE = 0,
     LOGBUFFER_ILLEGAL_ARGUMENT = 1,
@@ -102,6 +104,7 @@ enum {
     LOGBUFFER_FRAME_TOO_SHORT = 22,
     LOGBUFFER_FRAME_PAST_TERM = 23,
     LOGBUFFER_NO_CARD = 24,
+    LOGBUFFER_ILLEGAL_METADATA = 25,
     LOGBUFFER_NOT_FILLED = 26
 };
 
@@ -132,7 +135,8 @@ enum {
 /* ---- values */
 
 /* A log's record. A raw tail has a term id in its upper 32 bits and an offset in its lower. Bit k of cleared_marks, of k 0 to 2, says that
- * partition k is cleared and not written yet; the other bits mean nothing, and calls leave them as they are. */
+ * partition k is cleared and not written yet; the other bits mean nothing, and calls leave them as they are. The last three numbers are the caller's: 0 at
+ * opening, never looked at, and changed by logbuffer_read_metadata alone, which takes them from a metadata section. */
 struct logbuffer_record {
     int64_t tails[3];
     int32_t active_term_count;
@@ -147,6 +151,9 @@ struct logbuffer_record {
     bool is_closed;
     int64_t slowest_position; /* of the slowest reader: what lies before it may be cleared */
     uint64_t cleared_marks; /* 6 at opening: partitions 1 and 2 */
+    int32_t active_transport_count;
+    int32_t page_size;
+    int64_t correlation_id;
 };
 
 /* An open claim: partition, offset of its frame in the term, frame length (32 more than the body), term id. */
@@ -207,6 +214,9 @@ enum { LOGBUFFER_CARD_MAX_LENGTH = 270 };
 
 /* The bytes that a finished term on the shelf has more than the term: its count of frames. */
 enum { LOGBUFFER_SHELF_COUNT_LENGTH = 4 };
+
+/* The bytes of a metadata section; and those that Aeron gives it in a log's file, behind the three terms: the rest is 0 here. */
+enum { LOGBUFFER_METADATA_LENGTH = 320, LOGBUFFER_METADATA_FILE_LENGTH = 4096 };
 
 /* Where a log's bytes went: bodies, headers and slack of data frames; padding frames at their aligned length, aborted claims among them. */
 struct logbuffer_sums {
@@ -459,13 +469,13 @@ struct logbuffer_holding_reply {
 /* ---- this face */
 
 /* Its version, which the function's name carries too: an archive of another version does not link. */
-#define LOGBUFFER_FACE_VERSION 2
-LOGBUFFER_ANSWER uint32_t logbuffer_face_2(void);
+#define LOGBUFFER_FACE_VERSION 3
+LOGBUFFER_ANSWER uint32_t logbuffer_face_3(void);
 
 /* ---- opening, and calls on the record alone */
 
 /* Zeroes the log, three terms, and fills the record of an empty one: limit 0, connected, not closed, slowest reader at 0, partitions 1 and 2
- * marked as cleared. Term length: a power of two from
+ * marked as cleared, transports, page size and correlation id 0. Term length: a power of two from
  * 65,536 to 2^30. Mtu: a multiple of 32 from 64 to 65,504. Initial id: any; after 2147483647 comes
  * -2147483648. Answers 0, or refuses 2 and writes nothing, not to
  * the record either. */
@@ -699,6 +709,32 @@ LOGBUFFER_ANSWER int32_t logbuffer_shelve(const struct logbuffer_record *rec, co
  * have), and leaves out as it was. */
 LOGBUFFER_ANSWER int32_t logbuffer_unshelve(const struct logbuffer_record *rec, const uint8_t *shelf, size_t shelf_length, uint8_t *out, size_t out_length);
 
+/* ---- the metadata section: what Aeron keeps of a log behind its three terms */
+
+/* Numbers are little-endian, and every byte that no field has is 0:
+ *
+ *      at   bytes   field                           at   bytes   field
+ *       0      24   tails of partitions 0, 1, 2    264       4   initial_term_id
+ *      24       4   active_term_count              268       4   the header's length: 32
+ *     128       8   end_of_stream_position         272       4   mtu_length
+ *     136       4   is_connected                   276       4   term_length
+ *     140       4   active_transport_count         280       4   page_size
+ *     256       8   correlation_id                 284      36   0, as 28 to 127 and 144 to 255
+ *
+ * Session, stream, publication limit, closed, slowest reader and marks are not in it: keep them elsewhere. Aeron's own clients want a page size, a power of
+ * two from 4096 to 2^30, and the correlation id of their driver. No call sets these two: write the record's fields before the section is written. */
+
+/* Writes the section of a record, LOGBUFFER_METADATA_LENGTH bytes. The answer is the number: 0, 1 (out over 2147483647 bytes), 25 (out is not 320 bytes
+ * long), 2 (the record alone; no log is lent). A refusal leaves out as it was. */
+LOGBUFFER_ANSWER int32_t logbuffer_write_metadata(const struct logbuffer_record *rec, uint8_t *out, size_t out_length);
+
+/* Fills a record from a section. session_id, stream_id, publication_limit, is_closed, slowest_position and cleared_marks are taken from *rec as the
+ * caller has set them, all else from the bytes. Of a log whose readers are not known, slowest_position 0 and marks 0 are always safe: nothing
+ * is then overwritten before it is cleared. The answer is the number: 0, 1 (over 2147483647 bytes), 25 (another size, a byte that is not 0 where no field
+ * is, another header length than 32), 2 (of the record made). Refused, *rec stays, every byte of it; done, the whole record is written: is_closed is then 0 or 1, and the
+ * bytes between the fields and the bits above the three marks are 0. */
+LOGBUFFER_ANSWER int32_t logbuffer_read_metadata(struct logbuffer_record *rec, const uint8_t *bytes, size_t bytes_length);
+
 /* ---- where a log's bytes went */
 
 /* Walks the frames from one position up to another, both boundaries of frames, and adds up where their bytes went. The walk ends at the second position, or
@@ -751,6 +787,7 @@ static inline const char *logbuffer_strerror(int32_t code) {
     case LOGBUFFER_FRAME_TOO_SHORT: return "the first frame has a length of 1 to 31";
     case LOGBUFFER_FRAME_PAST_TERM: return "the first frame runs past its term's end";
     case LOGBUFFER_NO_CARD: return "no finished card with that find number lies in the walked part";
+    case LOGBUFFER_ILLEGAL_METADATA: return "no metadata section: another size than 320, a byte that is not 0 where no field is, or another header length than 32";
     case LOGBUFFER_NOT_FILLED: return "frames that do not fill the term, or shelf bytes that no term of that length gives";
     default: return "no refusal has this number";
     }
@@ -758,7 +795,7 @@ static inline const char *logbuffer_strerror(int32_t code) {
 
 /* What makes the linker look for the version. */
 #if defined(__GNUC__) || defined(__clang__)
-static uint32_t (*const logbuffer_face_linked)(void) __attribute__((used)) = logbuffer_face_2;
+static uint32_t (*const logbuffer_face_linked)(void) __attribute__((used)) = logbuffer_face_3;
 #endif
 
 #ifdef __cplusplus

@@ -33,9 +33,10 @@ static void say(const char *call, const char *names, const int64_t *numbers) {
 #define SAY(call, names, ...) say(call, names, (int64_t[]){__VA_ARGS__})
 
 static void say_record(const char *call, struct logbuffer_record r, int32_t code) {
-    SAY(call, "code tail tail tail count initial term mtu session stream connected limit end closed slowest marks", code, r.tails[0], r.tails[1],
-        r.tails[2], r.active_term_count, r.initial_term_id, r.term_length, r.mtu_length, r.session_id, r.stream_id, r.is_connected,
-        r.publication_limit, r.end_of_stream_position, r.is_closed, r.slowest_position, (int64_t)r.cleared_marks);
+    SAY(call, "code tail tail tail count initial term mtu session stream connected limit end closed slowest marks transports page correlation", code,
+        r.tails[0], r.tails[1], r.tails[2], r.active_term_count, r.initial_term_id, r.term_length, r.mtu_length, r.session_id, r.stream_id,
+        r.is_connected, r.publication_limit, r.end_of_stream_position, r.is_closed, r.slowest_position, (int64_t)r.cleared_marks,
+        r.active_transport_count, r.page_size, r.correlation_id);
 }
 
 static void say_claim(const char *call, struct logbuffer_claim c) {
@@ -70,11 +71,15 @@ static void numbers(void) {
     SAY("compute_position", "code position", p.code, p.position);
 }
 
-/* A log with messages at 0 (4 bytes), at 128 (5 bytes) and from 256 to 448 (100 bytes, two fragments), and padding at 64 and 192. */
+/* A log with messages at 0 (4 bytes), at 128 (5 bytes) and from 256 to 448 (100 bytes, two fragments), and padding at 64 and 192. The three numbers that are
+ * the caller's are set once, and stay. */
 static struct logbuffer_record written(void) {
     struct logbuffer_record rec;
     int32_t code = logbuffer_open(&rec, log_bytes, sizeof log_bytes, TERM, 96, 7, 11, 22);
     say_record("open", rec, code);
+    rec.active_transport_count = 0x0c0b0a09;
+    rec.page_size = 4096;
+    rec.correlation_id = 0x0807060504030201;
     code = logbuffer_set_publication_limit(&rec, 2 * TERM);
     say_record("set_publication_limit", rec, code);
     struct logbuffer_offer_reply o = logbuffer_offer(&rec, log_bytes, sizeof log_bytes, (const uint8_t *)"coin", 4, 77);
@@ -289,6 +294,43 @@ static void shelves(void) {
     SAY("unshelve", "code", logbuffer_unshelve(&rec, shelf, sizeof shelf, back, sizeof back - 1));
 }
 
+/* The number that reading a section answers with one byte changed by so much, and a record lent whose slowest reader is so far. */
+static int32_t read_changed(const uint8_t *section, size_t at, int change, int64_t slowest) {
+    uint8_t other[LOGBUFFER_METADATA_LENGTH];
+    memcpy(other, section, sizeof other);
+    other[at] = (uint8_t)(other[at] + change);
+    struct logbuffer_record rec = {.session_id = 33, .slowest_position = slowest};
+    return logbuffer_read_metadata(&rec, other, sizeof other);
+}
+
+/* A section written, some of its bytes, and read beside other numbers than it was written with. Outputs and sections of another size, a record out of its
+ * ranges, and both; a byte of each gap, the header length, an odd mtu, both, a slowest reader out of its range. */
+static void metadata(struct logbuffer_record rec) {
+    uint8_t s[LOGBUFFER_METADATA_LENGTH + 1];
+    memset(s, 238, sizeof s);
+    rec.active_term_count = 3;
+    rec.is_connected = 5;
+    SAY("write_metadata", "code", logbuffer_write_metadata(&rec, s, LOGBUFFER_METADATA_LENGTH));
+    SAY("  bytes", "0 1 4 12 20 24 27 28 127 128 135 136 140 143 144 255", s[0], s[1], s[4], s[12], s[20], s[24], s[27], s[28], s[127], s[128], s[135],
+        s[136], s[140], s[143], s[144], s[255]);
+    SAY("  bytes", "256 263 264 268 272 276 278 280 281 284 319 320", s[256], s[263], s[264], s[268], s[272], s[276], s[278], s[280], s[281], s[284],
+        s[319], s[320]);
+    struct logbuffer_record back = {.session_id = 33, .stream_id = 44, .publication_limit = 77, .is_closed = true, .slowest_position = 64, .cleared_marks = 5};
+    int32_t code = logbuffer_read_metadata(&back, s, LOGBUFFER_METADATA_LENGTH);
+    say_record("read_metadata", back, code);
+    struct logbuffer_record broken = rec;
+    broken.mtu_length = 65;
+    SAY("write_metadata", "shorter longer empty broken both", logbuffer_write_metadata(&rec, s, 319), logbuffer_write_metadata(&rec, s, 321),
+        logbuffer_write_metadata(&rec, s, 0), logbuffer_write_metadata(&broken, s, 320), logbuffer_write_metadata(&broken, s, 319));
+    SAY("read_metadata", "shorter longer empty", logbuffer_read_metadata(&back, s, 319), logbuffer_read_metadata(&back, s, 321),
+        logbuffer_read_metadata(&back, s, 0));
+    SAY("read_metadata", "28 127 144 255 284 319", read_changed(s, 28, 1, 0), read_changed(s, 127, 1, 0), read_changed(s, 144, 1, 0),
+        read_changed(s, 255, 1, 0), read_changed(s, 284, 1, 0), read_changed(s, 319, 1, 0));
+    SAY("read_metadata", "header mtu tail slowest header_and_slowest", read_changed(s, 268, 1, 0), read_changed(s, 272, 1, 0), read_changed(s, 0, 1, 0),
+        read_changed(s, 281, 1, 33), read_changed(s, 268, 1, 33));
+    SAY("read_metadata", "page connected id", read_changed(s, 281, 1, 32), read_changed(s, 136, 1, 32), read_changed(s, 264, 1, 32));
+}
+
 static void say_tally(struct logbuffer_tally_reply t) {
     SAY("tally", "code stop position writing body headers slack padding", t.code, t.stop, t.position, t.writing, t.sums.body, t.sums.headers,
         t.sums.slack, t.sums.padding);
@@ -474,7 +516,7 @@ static void seasons(void) {
 }
 
 int main(void) {
-    printf("face: %" PRIu32 "\n", logbuffer_face_2());
+    printf("face: %" PRIu32 "\n", logbuffer_face_3());
     numbers();
     struct logbuffer_record rec = written(), second = appended();
     positions(rec);
@@ -484,6 +526,7 @@ int main(void) {
     replays(rec);
     cards();
     shelves();
+    metadata(rec);
     tallies();
     partitions();
     holdings();

@@ -6,7 +6,7 @@ root=$here/../..
 [ -f "$root/target/liblogbuffer.a" ] || (cd "$root" && ./archive >/dev/null)
 out=$(mktemp -d)
 trap 'rm -rf "$out"' EXIT
-for program in log season every; do
+for program in log season file every; do
     cc -std=c11 -Wall -Wextra -Werror -O2 -I "$root/include" "$here/$program.c" "$root/target/liblogbuffer.a" -o "$out/$program"
     "$out/$program" | tee "$out/printed"
     diff "$here/$program.txt" "$out/printed"
