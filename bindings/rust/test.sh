@@ -6,7 +6,7 @@ cd "$(dirname "$0")"
 export CARGO_NET_OFFLINE=true CARGO_TARGET_DIR="$PWD/target"
 [ -n "${LOGBUFFER_LIB_DIR:-}" ] || [ -f ../../target/liblogbuffer.a ] || ../../archive >/dev/null
 cargo test --quiet
-for example in sync season cards holding; do cargo run --quiet --example "$example" | diff "examples/$example.txt" -; done
+for example in sync season file cards holding; do cargo run --quiet --example "$example" | diff "examples/$example.txt" -; done
 # What lints and layout ask changes with the compiler, so they are looked at only on request.
 if [ -n "${LINT:-}" ]; then cargo clippy --quiet --all-targets -- -D warnings && cargo fmt --check; fi
 echo "the Rust crate does as it should"

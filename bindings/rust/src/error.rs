@@ -55,10 +55,10 @@ macro_rules! refusals {
 
         impl Error {
             /// Every refusal that has a number; those of a frame, at offset 0, and of a walk, at position 0, come last.
-            pub const ALL: [Error; 24] = [$(Error::$name,)* $(Error::$frame(Place { partition: None, offset: 0 }),)* $(Error::$walk(0)),*];
+            pub const ALL: [Error; 25] = [$(Error::$name,)* $(Error::$frame(Place { partition: None, offset: 0 }),)* $(Error::$walk(0)),*];
 
             /// The refusal's number: 1 to 20 without 17, which is retired, 21 for a card, 22 and 23 for a frame, 24 for the card that
-            /// holds, 26 for the shelf; 0 for [`Overrun`](Error::Overrun), which only this crate answers.
+            /// holds, 25 for the metadata section, 26 for the shelf; 0 for [`Overrun`](Error::Overrun), which only this crate answers.
             ///
             /// ```
             /// assert_eq!(logbuffer::Error::BackPressured.number(), 8);
@@ -150,6 +150,9 @@ refusals! {
     21 BrokenCard
         "a find card, or bytes, that break its format"
         "of a card, mend the material (1 to 9) or the note (1 to 255 bytes); of bytes, pass the message over: it is no card"
+    25 IllegalMetadata
+        "no metadata section: another size than 320, a byte that is not 0 where no field is, or another header length than 32"
+        "lend 320 bytes to be written; of bytes that are read, the file was damaged, or its section lies elsewhere: in Aeron's files behind the three terms"
     26 NotFilled
         "frames that do not fill the term, or shelf bytes that no term of that length gives"
         "of a term, wait until it is full and every claim in it is committed or aborted; of a shelf, it was damaged or is of another term length"

@@ -6,7 +6,7 @@ use std::mem::{offset_of, size_of};
 
 #[test]
 fn values_have_the_sizes_of_c() {
-    assert_eq!(size_of::<Record>(), 96);
+    assert_eq!(size_of::<Record>(), 112);
     assert_eq!(size_of::<Claim>(), 16);
     assert_eq!(size_of::<Header>(), 40);
     assert_eq!(size_of::<Image>(), 16);
@@ -28,6 +28,8 @@ fn fields_of_values_have_the_offsets_of_c() {
     assert_eq!(offset_of!(Record, end_of_stream_position), 64);
     assert_eq!(offset_of!(Record, is_closed), 72);
     assert_eq!([offset_of!(Record, slowest_position), offset_of!(Record, cleared_marks)], [80, 88]);
+    assert_eq!([offset_of!(Record, active_transport_count), offset_of!(Record, page_size)], [96, 100]);
+    assert_eq!(offset_of!(Record, correlation_id), 104);
     assert_eq!([offset_of!(Header, flags), offset_of!(Header, frame_type), offset_of!(Header, term_offset)], [5, 6, 8]);
     assert_eq!([offset_of!(Header, reserved_value), offset_of!(Header, position)], [24, 32]);
     assert_eq!([offset_of!(Claim, partition), offset_of!(Claim, offset)], [0, 4]);

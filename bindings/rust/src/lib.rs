@@ -25,6 +25,7 @@
 //!   [`Batch`] at a time.
 //! - [`Card`]: a find card, a message body of one format.
 //! - [`Log::shelve`], [`Record::unshelve`]: a finished term with all its headers together, and back.
+//! - [`Record::metadata`], [`Record::from_metadata`]: the metadata section that Aeron keeps of a log behind its terms, for a log as a file.
 //! - [`Log::holding`]: which card of a find holds, field by field, as a [`Holding`].
 //! - [`Log::tally`]: where the bytes between two positions went, as a [`Tally`] that prints as a table. [`Log::tally_by_partition`]: the same
 //!   as the partitions lie, with the sums of each.
@@ -49,6 +50,7 @@ pub mod descriptor;
 mod error;
 mod holding;
 mod log;
+mod metadata;
 mod poller;
 mod replay;
 mod rule;
@@ -69,6 +71,7 @@ pub use claim::{Claim, OpenClaim};
 pub use error::{Error, Place};
 pub use holding::{Field, Holding};
 pub use log::{Bytes, Log};
+pub use metadata::Beside;
 pub use poller::{Action, Block, Fragment, Fragments, Poller};
 pub use replay::{Batch, Count, Replay};
 pub use rule::Rule;

@@ -36,6 +36,12 @@ pub struct Record {
     pub slowest_position: i64,
     /// Bit k says that partition k, 0 to 2, is cleared; the other bits mean nothing.
     pub cleared_marks: u64,
+    /// Of the metadata section, the caller's: 0 at opening, carried and never looked at.
+    pub active_transport_count: i32,
+    /// The same. Aeron's own clients want a power of two from 4,096 to 2^30 here.
+    pub page_size: i32,
+    /// The same. Aeron's own clients want the number by which their driver registered the publication.
+    pub correlation_id: i64,
 }
 
 /// The 32 bytes of a frame's header as they stand, and the position past the frame.
@@ -201,7 +207,7 @@ pub use face::{
 
 /// What makes the linker look for the face's version: an archive of another one does not link.
 #[used]
-static FACE: extern "C" fn() -> u32 = face::logbuffer_face_2;
+static FACE: extern "C" fn() -> u32 = face::logbuffer_face_3;
 
 #[allow(dead_code)] // the whole face stands here; what the safe calls have no use for too
 mod face {
@@ -221,7 +227,7 @@ mod face {
         pub safe fn logbuffer_position(rec: &Record) -> PositionReply;
         pub safe fn logbuffer_publication_limit(rec: &Record) -> PositionReply;
         pub safe fn logbuffer_available_window(rec: &Record) -> PositionReply;
-        pub safe fn logbuffer_face_2() -> u32;
+        pub safe fn logbuffer_face_3() -> u32;
         pub safe fn logbuffer_align(value: u32) -> usize;
         pub safe fn logbuffer_is_power_of_two(value: u32) -> bool;
         pub safe fn logbuffer_term_id(raw_tail: i64) -> i32;
@@ -319,6 +325,8 @@ mod face {
             rec: &Record, log: In, log_length: usize, partition: i32, out: Out, out_length: usize,
         ) -> i32;
         pub fn logbuffer_unshelve(rec: &Record, shelf: In, shelf_length: usize, out: Out, out_length: usize) -> i32;
+        pub fn logbuffer_write_metadata(rec: &Record, out: Out, out_length: usize) -> i32;
+        pub fn logbuffer_read_metadata(rec: &mut Record, bytes: In, bytes_length: usize) -> i32;
         pub fn logbuffer_tally(rec: &Record, log: In, log_length: usize, from: i64, to: i64) -> TallyReply;
         pub fn logbuffer_tally_by_partition(
             rec: &Record, log: In, log_length: usize, from: i64, to: i64,
@@ -331,6 +339,26 @@ mod face {
 
 // Safe functions over slices. Each hands a slice on as pointer and length, which is all that the face asks (see the top).
 
+/// Nothing but zeros, which every call refuses: for calls that fill a record.
+pub const EMPTY: Record = Record {
+    tails: [0; 3],
+    active_term_count: 0,
+    initial_term_id: 0,
+    term_length: 0,
+    mtu_length: 0,
+    session_id: 0,
+    stream_id: 0,
+    is_connected: 0,
+    publication_limit: 0,
+    end_of_stream_position: 0,
+    is_closed: false,
+    slowest_position: 0,
+    cleared_marks: 0,
+    active_transport_count: 0,
+    page_size: 0,
+    correlation_id: 0,
+};
+
 /// The record of an opened log, or the refusal's number.
 pub fn open(
     log: &mut [u8],
@@ -340,21 +368,7 @@ pub fn open(
     session_id: i32,
     stream_id: i32,
 ) -> Result<Record, i32> {
-    let mut rec = Record {
-        tails: [0; 3],
-        active_term_count: 0,
-        initial_term_id,
-        term_length,
-        mtu_length,
-        session_id,
-        stream_id,
-        is_connected: 0,
-        publication_limit: 0,
-        end_of_stream_position: 0,
-        is_closed: false,
-        slowest_position: 0,
-        cleared_marks: 0,
-    };
+    let mut rec = EMPTY;
     // SAFETY: pointers and lengths are those of the slices.
     let code = unsafe {
         face::logbuffer_open(
@@ -618,6 +632,16 @@ pub fn shelve(rec: &Record, log: &[u8], partition: i32, out: &mut [u8]) -> i32 {
 pub fn unshelve(rec: &Record, shelf: &[u8], out: &mut [u8]) -> i32 {
     // SAFETY: pointers and lengths are those of the slices.
     unsafe { face::logbuffer_unshelve(rec, shelf.as_ptr(), shelf.len(), out.as_mut_ptr(), out.len()) }
+}
+
+pub fn write_metadata(rec: &Record, out: &mut [u8]) -> i32 {
+    // SAFETY: pointers and lengths are those of the slices.
+    unsafe { face::logbuffer_write_metadata(rec, out.as_mut_ptr(), out.len()) }
+}
+
+pub fn read_metadata(rec: &mut Record, bytes: &[u8]) -> i32 {
+    // SAFETY: pointers and lengths are those of the slices.
+    unsafe { face::logbuffer_read_metadata(rec, bytes.as_ptr(), bytes.len()) }
 }
 
 pub fn tally(rec: &Record, log: &[u8], from: i64, to: i64) -> TallyReply {

@@ -111,5 +111,5 @@ fn functions_are_those_of_the_header() {
     let (c, rust) = (c_functions(), rust_functions());
     assert_eq!(c.difference(&rust).collect::<Vec<_>>(), Vec::<&String>::new(), "in the header alone");
     assert_eq!(rust.difference(&c).collect::<Vec<_>>(), Vec::<&String>::new(), "in sys.rs alone");
-    assert_eq!(c.len(), 58);
+    assert_eq!(c.len(), 60);
 }
