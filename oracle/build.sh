@@ -4,7 +4,7 @@
 #   build.sh [FOLDER [ARCHIVE]]   FOLDER holds the given sources (src/publication.rs and so on);
 #                                 default: ../shared/docs/src beside the project's root.
 #                                 ARCHIVE is the port for C; default: target/liblogbuffer.a of the project.
-#                                 Without it everything is built but compare.
+#                                 Without it everything is built but compare and metadata.
 #   UNCHECKED=1 build.sh ..       leaves the sums out, for given files changed on purpose
 #
 # Needs only rustc (1.82 or later; the given files themselves need 1.79) and a linker. Leaves in target/:
@@ -13,6 +13,7 @@
 #   observe-wrapping  the same without overflow checks, as a release build of the original has them
 #   vectors           writes the file of vectors of vectors.rs, overflow checks on
 #   compare           the differential runs of compare.rs, overflow checks on
+#   metadata          the sections of metadata.rs, overflow checks on
 set -eu
 here=$(cd "$(dirname "$0")" && pwd)
 given=${1:-$here/../../shared/docs/src}
@@ -55,9 +56,11 @@ rustc --edition 2021 --crate-type bin --crate-name vectors -O -C overflow-checks
 ln -sf checked/vectors "$target/vectors"
 echo "built: $target/observe, $target/observe-wrapping, $target/vectors"
 
-[ -f "$archive" ] || { echo "no $archive: compare is not built"; exit 0; }
+[ -f "$archive" ] || { echo "no $archive: compare and metadata are not built"; exit 0; }
 archive=$(cd "$(dirname "$archive")" && pwd)/$(basename "$archive")
-rustc --edition 2021 --crate-type bin --crate-name compare -O -C overflow-checks=on -L "$target/checked" --extern aeron_rs \
-    -C link-arg="$archive" "$here/src/compare.rs" --out-dir "$target/checked"
-ln -sf checked/compare "$target/compare"
-echo "built: $target/compare"
+for program in compare metadata; do
+    rustc --edition 2021 --crate-type bin --crate-name "$program" -O -C overflow-checks=on -L "$target/checked" --extern aeron_rs \
+        -C link-arg="$archive" "$here/src/$program.rs" --out-dir "$target/checked"
+    ln -sf "checked/$program" "$target/$program"
+done
+echo "built: $target/compare, $target/metadata"

@@ -12,6 +12,8 @@ pub struct Record {
     is_closed: bool,
     slowest_position: i64,
     cleared_marks: u64,
+    section: [i32; 2],
+    correlation_id: i64,
 }
 
 #[repr(C)]

@@ -3,7 +3,8 @@
 
 use crate::row;
 
-/// The record: three tails, count, initial id, term length, mtu, session, stream, connected, limit, end of stream, closed, slowest reader, marks.
+/// The record: three tails, count, initial id, term length, mtu, session, stream, connected, limit, end of stream, closed, slowest reader, marks,
+/// transports and page size, correlation id.
 #[repr(C)]
 #[derive(Clone, Copy)]
 struct Record {
@@ -14,6 +15,8 @@ struct Record {
     is_closed: bool,
     slowest_position: i64,
     cleared_marks: u64,
+    section: [i32; 2],
+    correlation_id: i64,
 }
 
 extern "C" {
@@ -30,6 +33,8 @@ fn record(term: usize) -> Record {
         is_closed: false,
         slowest_position: 0,
         cleared_marks: 6,
+        section: [0; 2],
+        correlation_id: 0,
     }
 }
 

@@ -25,6 +25,10 @@ pub struct Record {
     pub slowest_position: i64,
     /// Bit k is the mark of partition k; the Rust has neither marks nor a slowest reader (R-4 of document 02).
     pub cleared_marks: u64,
+    /// Three numbers of the metadata that every call carries (R-11 of document 02).
+    pub active_transport_count: i32,
+    pub page_size: i32,
+    pub correlation_id: i64,
 }
 
 impl Record {

@@ -129,6 +129,26 @@ impl Log {
         descriptor::set_end_of_stream_position(&self.meta(), position);
     }
 
+    pub fn transports(&self) -> i32 {
+        descriptor::active_transport_count(&self.meta())
+    }
+
+    pub fn page_size(&self) -> i32 {
+        descriptor::page_size(&self.meta())
+    }
+
+    /// The Rust has neither a constant nor a getter for it: it stands right before the initial id.
+    pub fn correlation_id(&self) -> i64 {
+        self.meta().get::<i64>(*descriptor::LOG_INITIAL_TERM_ID_OFFSET - 8)
+    }
+
+    /// The three numbers that no call looks at: transports, page size, correlation id.
+    pub fn set_carried(&self, transports: i32, page_size: i32, correlation_id: i64) {
+        descriptor::set_active_transport_count(&self.meta(), transports);
+        self.meta().put::<i32>(*descriptor::LOG_PAGE_SIZE_OFFSET, page_size);
+        self.meta().put::<i64>(*descriptor::LOG_INITIAL_TERM_ID_OFFSET - 8, correlation_id);
+    }
+
     /// The bytes of the three terms.
     pub fn terms(&self) -> &[u8] {
         unsafe { std::slice::from_raw_parts(self.term(0).buffer(), 3 * self.term_length as usize) }

@@ -27,6 +27,9 @@ struct Record {
     is_closed: bool,
     slowest_position: i64,
     cleared_marks: u64,
+    /// Transports and page size, then the correlation id.
+    section: [i32; 2],
+    correlation_id: i64,
 }
 
 #[repr(C)]
@@ -242,6 +245,8 @@ impl Random {
             is_closed: self.below(2) == 1,
             slowest_position: (self.next() >> 18 & !31) as i64, // below 65,536 * 2^31
             cleared_marks: self.next(),
+            section: [4_096; 2],
+            correlation_id: 1_926,
         }
     }
 

@@ -493,7 +493,7 @@ impl List {
         record
     }
 
-    /// Connected, end of stream, closed, session and stream by hand.
+    /// Connected, end of stream, session and stream by hand; with these the numbers that every call carries, made of the stream.
     fn ends(&mut self, p: &Port) -> Record {
         let mut record = p.record;
         match self.a.below(6) {
@@ -501,7 +501,11 @@ impl List {
             2 => record.end_of_stream_position = self.a.image_position(p),
             3 => record.end_of_stream_position = self.a.pick(&p.images).position.saturating_add(self.a.pick(&[0, 0, -1, 1])),
             4 => record.end_of_stream_position = i64::MAX,
-            _ => (record.session_id, record.stream_id) = (self.a.session(), self.a.any_i32()),
+            _ => {
+                (record.session_id, record.stream_id) = (self.a.session(), self.a.any_i32());
+                let n = record.stream_id;
+                (record.active_transport_count, record.page_size, record.correlation_id) = (!n, n.rotate_left(13), (n as i64) << 29 ^ n as i64);
+            }
         }
         record
     }

@@ -171,6 +171,9 @@ impl Original {
             is_closed: self.publication.is_closed(),
             slowest_position: self.season.0,
             cleared_marks: self.season.1,
+            active_transport_count: self.log.transports(),
+            page_size: self.log.page_size(),
+            correlation_id: self.log.correlation_id(),
         }
     }
 
@@ -200,6 +203,7 @@ impl Original {
         self.log.set_connected(record.is_connected);
         self.log.limit.set_ordered(record.publication_limit);
         self.log.set_end_of_stream(record.end_of_stream_position);
+        self.log.set_carried(record.active_transport_count, record.page_size, record.correlation_id);
         // The publication reads initial id and mtu once. A subtraction may overflow there for an unsound mtu.
         let publication = catch_unwind(AssertUnwindSafe(|| self.log.publication()));
         self.publication = publication.unwrap_or_else(|_| {
