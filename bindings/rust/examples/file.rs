@@ -61,7 +61,13 @@ fn replay(log: &Log, written: usize) -> Result<(), Error> {
 }
 
 fn main() -> Result<(), Box<dyn std::error::Error>> {
-    let mut log = Log::builder().term_length(TERM as i32).initial_term_id(7).session_id(11).stream_id(22).publication_limit(3 * TERM as i64).open()?;
+    let mut log = Log::builder()
+        .term_length(TERM as i32)
+        .initial_term_id(7)
+        .session_id(11)
+        .stream_id(22)
+        .publication_limit(3 * TERM as i64)
+        .open()?;
     log.set_page_size(4_096);
     log.set_correlation_id(1_926);
     let written = write(&mut log)?;

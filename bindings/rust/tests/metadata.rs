@@ -8,21 +8,8 @@ use logbuffer::{Beside, Error, Log, Record};
 const LENGTH: usize = Record::METADATA_LENGTH;
 
 /// Where fields are, each with its size; 268 is the header length.
-const FIELDS: [(usize, usize); 13] = [
-    (0, 8),
-    (8, 8),
-    (16, 8),
-    (24, 4),
-    (128, 8),
-    (136, 4),
-    (140, 4),
-    (256, 8),
-    (264, 4),
-    (268, 4),
-    (272, 4),
-    (276, 4),
-    (280, 4),
-];
+const FIELDS: [(usize, usize); 13] =
+    [(0, 8), (8, 8), (16, 8), (24, 4), (128, 8), (136, 4), (140, 4), (256, 8), (264, 4), (268, 4), (272, 4), (276, 4), (280, 4)];
 
 /// A log with the caller's numbers set, each another in every byte.
 fn marked() -> Log {
@@ -63,7 +50,8 @@ fn each_field_has_its_place_and_all_else_is_zero() {
         let r = record(&mut random);
         let section = r.metadata().unwrap();
         let mut wanted = [0; LENGTH];
-        let longs = [(0, r.tails[0]), (8, r.tails[1]), (16, r.tails[2]), (128, r.end_of_stream_position), (256, r.correlation_id)];
+        let longs =
+            [(0, r.tails[0]), (8, r.tails[1]), (16, r.tails[2]), (128, r.end_of_stream_position), (256, r.correlation_id)];
         let ints = [
             (24, r.active_term_count),
             (136, r.is_connected),
@@ -144,7 +132,18 @@ fn illegal_record_2_comes_last() {
         section[at..at + 4].copy_from_slice(&number.to_le_bytes());
         Record::from_metadata(&section, beside).err()
     };
-    for (at, number) in [(0, 8), (0, i32::MIN), (24, -1), (272, 65), (272, 32), (272, 65_536), (276, 65_537), (276, 32_768), (276, 0), (276, i32::MIN)] {
+    for (at, number) in [
+        (0, 8),
+        (0, i32::MIN),
+        (24, -1),
+        (272, 65),
+        (272, 32),
+        (272, 65_536),
+        (276, 65_537),
+        (276, 32_768),
+        (276, 0),
+        (276, i32::MIN),
+    ] {
         assert_eq!(with(at, number), Some(Error::IllegalRecord), "{number} at {at}");
     }
     // No number of these is out of its range; page size 0 is what opening leaves.
