@@ -2,8 +2,8 @@
 //! a file, read back, replayed and gone on with. `cargo run --example file`; what it prints stands in file.txt.
 //!
 //! Two numbers of the section are there for Aeron's own clients. A Java client wants the page size, a power of two from 4,096 to 2^30, and refuses a log without
-//! one; and the correlation id, the number by which its driver registered the publication. Opening leaves both 0 and no call on the log sets them: the program
-//! does, with [`Log::set_page_size`] and [`Log::set_correlation_id`].
+//! one; and the correlation id, the number by which its driver registered the publication. Opening leaves both 0, and no offer, claim or other call of the log sets
+//! them: they are the caller's, here set with [`Log::set_page_size`] and [`Log::set_correlation_id`].
 
 use logbuffer::{Beside, Error, Log, Record};
 use std::path::Path;
