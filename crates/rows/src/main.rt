@@ -1,8 +1,9 @@
 // Document 01's small inputs, one for each refusal that the calls of `logbuffer` and `publication` can give, and the marked positions
-// that are no theorems; and of R-10 of document 02 a small input for each rule that decides an offer or a claim. A line for each: the call, its number (0:
-// none), its position or value, the active term count after it, and the rule.
+// that are no theorems; and of document 02 a small input for each rule that decides an offer or a claim (R-10), and those of the metadata section (R-11). A line for
+// each: the call, its number (0: none), its position or value, the active term count after it, and the rule.
 mod print;
 mod rules;
+mod sections;
 
 use logbuffer::buffer_claim;
 use logbuffer::term_appender;
@@ -291,6 +292,13 @@ fn bad_scans(rec: LogRecord, log: &[u8]) {
     );
 }
 
+// Rows 25 and 2 of the metadata section.
+fn metadata_sections() {
+    let mut log = [0u8; 196608];
+    let rec = fresh(&mut log);
+    sections::rows(rec);
+}
+
 fn main() {
     marked();
     claims();
@@ -302,4 +310,5 @@ fn main() {
     raises();
     leaves();
     bad_frames();
+    metadata_sections();
 }

@@ -29,7 +29,7 @@ fn head(name: &[u8], number: usize, value: usize, rec: LogRecord) {
     io::print_decimal(1, cast::word(rec.active_term_count) as u64);
 }
 
-fn line(name: &[u8], number: usize, value: usize, rec: LogRecord) {
+pub fn line(name: &[u8], number: usize, value: usize, rec: LogRecord) {
     head(name, number, value, rec);
     io::write_all(1, b"\n");
 }
