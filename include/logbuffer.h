@@ -658,9 +658,10 @@ LOGBUFFER_ANSWER struct logbuffer_assembly_reply logbuffer_assembler_on_fragment
                                                                 const uint8_t *log, size_t log_length, uint8_t *buffer,
                                                                 size_t buffer_length, int32_t partition, int32_t offset);
 
-/* Makes it a replay from a position: 0, or one that an accepted call or a reader answered. It goes up to the publisher's position, and gives what was
- * accepted after its start, each message once. The start lies in a term that is not cleared; from a cleared one nothing comes, or what was written in its
- * place since. Refuses nothing: each call judges the position. */
+/* Makes it a replay from a position: 0, or one that an accepted call answered, as the position behind a whole message is. It goes up to the publisher's
+ * position, and gives what was accepted after its start, each message once; from between two fragments it misses the message that they are of. The start
+ * lies in a term that is not cleared; from a cleared one nothing comes, or what was written in its place since. Refuses nothing: each call judges the
+ * position. */
 void logbuffer_replay_new(struct logbuffer_replay *replay, int64_t position, int32_t session_id);
 
 /* The next message; LOGBUFFER_NOTHING at the end, which is the publisher's position or before the first claim still open. In the log it lies at the

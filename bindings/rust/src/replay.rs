@@ -201,7 +201,8 @@ impl<B: Bytes> Log<B> {
         self.replay_from(0)
     }
 
-    /// The log's messages from a position that an offer, claim or reader answered. Any position is taken; a replay from one that is out of range is
+    /// The log's messages from a position that an offer or a claim answered, as the position behind a whole message is: from between two fragments the message
+    /// that they are of is missed. Any position is taken; a replay from one that is out of range is
     /// refused [`Error::PositionOutOfRange`].
     ///
     /// ```

@@ -11,7 +11,24 @@
 -- "having handed out exactly the later messages before the first claim after that position still open, each once, equal and ordered"
 --                                                                `exact`, with `from`: the extents from the position on, and `messages`
 -- Which terms are cleared is told by calls and answers alone: `toldTerms` (History).
--- Demand 3's own words, of a stream short of three terms: `Demand3`, with one premise more, that term 0 is not cleared.
+--
+-- Demand 3 is `Demand3`, with one premise more, that no term is cleared. Its words, most of which a season shares:
+-- "for every list of offers, claims, lendings, writings into lent bodies of open claims, commits, aborts, limit changes and closes,
+--  refused ones included"                                        every `calls : List Call` (History), every argument
+-- "from a log fresh from our opening"                            `openOf .. .answer ≡ Done`, for every log lent to it
+-- "if the stream ends short of three full terms"                 the publisher's position below `3 * shape w .term`, the last premise of `Demand3`
+-- "any replay of the log so left comes to an end"                `finish` of `ReplayedFree`: some poll hands out nothing and moves nothing
+-- "having handed out exactly the messages of accepted offers and committed claims before the first claim still open, equal in every
+--  byte, each once, in the order of their stretches"             `exact` of `ReplayedFree`, with `messages` (History)
+-- "message stretches, claim stretches without one and end-of-term paddings lie end to end and add up to the publisher's position"
+--                                                                `adds-up`, with `sizeAll`: the extents' sizes, one after another
+-- "each answered position the end of its own stretch"            `ends`
+-- "Each call gets the record and log the last one left, which nobody else writes"        `left`, `answers`
+-- "lendings, commits and aborts get only claim records that claims on this log answered" `AllGiven`
+-- "A replay polls from position 0 by a fresh image, whatever the fragment limits of 1 or more, until nothing comes and nothing moves"
+--                                                                `start`, `freeRounds`, `QuietPoll` (Replay), `Allowed`
+-- "into a fresh assembler whose parts each hold the longest fragmented message"           `start`, `Holds`
+-- "A replay's lent slices meet row 1"                            `Allowed`, and the buffer's length in `UpheldShort` and `Upheld`
 use mathlib.Core.Path.{_≡_}
 use Prim.Native.Nat.{ℕ, _-_, _*_, _/_, _<_, _≤_}
 use mathlib.Core.List.{List, [], _∷_}
