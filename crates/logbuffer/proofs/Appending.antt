@@ -10,8 +10,9 @@ use denote.Enum.Declared.{tagOf}
 use Rattle.model.specs.declared.Reading.{Reading}
 use Rattle.model.specs.declared.Course.{Course}
 use Rattle.model.specs.declared.Course.the-variants.{Refuse, Stray, Trip, Fit}
+use Rattle.model.specs.Bytes.{splice}
 use Rattle.model.specs.LogBufferDescriptor.{Sound}
-use Rattle.model.specs.TermAppender.{course, bytesBy}
+use Rattle.model.specs.TermAppender.{Fragment, fragmentBytes, written, course, bytesBy}
 use Rattle.model.proofs.Course.{the-type}
 use Rattle.model.proofs.Append.{course-says, base-in}
 
@@ -35,3 +36,8 @@ pub fits : (v : Reading) (k : ℕ) (log now : List ℕ) (nd g : ℕ) → Fit ≡
 fits v k log now nd g e h l =
     let w = course-says v (length log) nd g Fit (sym e) in
     (h ∙ sym (ap (bytesBy v k log log) e), (w .0 .sound-so, (w .1, omega (arith, base-in k (v .term) l, w .0 .sound-so .three))))
+
+-- a frame by itself is all that is written
+pub one-written : (v : Reading) (log out : List ℕ) (base offset : ℕ) (f : Fragment) → out ≡ splice log (base + offset) (fragmentBytes v offset f) → out ≡ written v log base offset (f ∷ [])
+unfolding written
+one-written v log out base offset f e = e

@@ -7,6 +7,7 @@ pub mod Shifts
 pub mod Signs
 pub mod Lengths
 pub mod Behind
+pub mod Inside
 pub mod Actions
 pub mod Copies
 pub mod Headers

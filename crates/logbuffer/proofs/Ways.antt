@@ -32,9 +32,9 @@ use Rattle.model.proofs.Choice.{cond-true, cond-false, cond-case}
 use Rattle.model.proofs.Course.{the-type}
 use Rattle.model.proofs.Cut.{need-one, cut-one}
 use Rattle.model.proofs.Sound.{id-small}
-use Rattle.model.proofs.Append.{Room, course-room, message-true, appendReply, appendBytes}
+use Rattle.model.proofs.Append.{Room, course-room, message-true, base-in, appendReply, appendBytes}
 use Rattle.logbuffer.specs.declared.way.Way.{Way}
-use Rattle.logbuffer.specs.Ways.{noWay, wayTo, wayBy, goodAppend, courseOf, goodClaiming, claimCourse, tailAt, movedWith, replyWith, claimReplyWith, messageReply, messageBytes, fragmentLimit, appendWay, appendWayBytes, oneWayBytes, claimWay, claimBits}
+use Rattle.logbuffer.specs.Ways.{noWay, wayTo, wayBy, goodAppend, courseOf, goodClaiming, claimCourse, tailAt, movedWith, replyWith, claimReplyWith, messageReply, messageBytes, fragmentLimit, appendWay, appendWayBytes, oneWayBytes, claimWay, claimBits, frameFits}
 
 -- ---- what a caller makes of a way
 
@@ -110,6 +110,26 @@ claiming-true v k m h =
     let a = and-true (goodMessage k m) _ h in
     let b = message-true k m (a .0) in
     (b .0, (ltb-true _ _ (a .1), b .1))
+
+-- ---- one frame where it fits
+
+pub record Fits (v : Reading) (n k m : ℕ) : Type 0 where
+  pub part : k ≤ 2
+  pub id-in : v .id < 4294967296
+  pub whole : m ≤ 2147483647
+  pub term-high : v .term ≤ 1073741824
+  pub room : v .offset + space m ≤ v .term
+  pub inside : k * v .term + v .term ≤ n
+
+pub fits-true : (v : Reading) (n k m : ℕ) → frameFits v n k m ≡ true → Fits v n k m
+unfolding frameFits
+fits-true v n k m h =
+    let a = and-true (goodClaiming v k m) _ h in
+    let b = and-true (leb (v .offset) 2147483647) _ (a .1) in
+    let d = and-true (leb (v .term) 1073741824) _ (b .1) in
+    let e = and-true (eqb n (3 * v .term)) _ (d .1) in
+    let g = claiming-true v k m (a .0) in
+    record { part = g .0; id-in = g .1 .0; whole = g .1 .1; term-high = leb-true _ _ (d .0); room = leb-true _ _ (e .1); inside = omega (arith, base-in k (v .term) (g .0), eqb-true n (3 * v .term) (e .0)) }
 
 -- ---- the course by whether they are good
 

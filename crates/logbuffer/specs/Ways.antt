@@ -75,6 +75,25 @@ claimWay v log k n given = wayBy v (space n) (claimCourse v (length log) k n giv
 abbrev pub claimWayBytes : Reading → List ℕ → ℕ → ℕ → ℕ → List ℕ
 claimWayBytes v log k n given = bytesBy v k log (claimed v log (k * v .term) n) (claimCourse v (length log) k n given)
 
+-- ---- one frame where it fits: what is answered, 0 for none, and what is left
+
+-- Whether a frame with a body of m bytes fits at the tail of partition k, in a log of n bytes that are three terms. No more is asked of the record: its
+-- other ranges are its caller's to judge.
+unfoldable pub frameFits : Reading → ℕ → ℕ → ℕ → Bool
+frameFits v n k m =
+    goodClaiming v k m && (leb (v .offset) 2147483647 && (leb (v .term) 1073741824
+    && (eqb n (3 * v .term) && leb (v .offset + space m) (v .term))))
+
+abbrev pub fitEnd : Reading → List ℕ → ℕ → ℕ → ℕ
+fitEnd v log k m = cond (frameFits v (length log) k m) (v .offset + space m) 0
+
+abbrev pub messageFitBytes : Reading → List ℕ → ℕ → List ℕ → ℕ → List ℕ
+messageFitBytes v log k m reserved =
+    cond (frameFits v (length log) k (length m)) (written v log (k * v .term) (v .offset) (fragment 192 reserved m ∷ [])) log
+
+abbrev pub claimFitBytes : Reading → List ℕ → ℕ → ℕ → List ℕ
+claimFitBytes v log k n = cond (frameFits v (length log) k n) (claimed v log (k * v .term) n) log
+
 -- ---- what a caller makes of it
 
 -- the record with partition k's tail at the way's

@@ -122,18 +122,25 @@ pub fn write(rec: LogRecord, log: &mut [u8], claim: Claim, bytes: &[u8]) -> Outc
     }
 }
 
-// The length is stored: the frame is finished.
+// The length is stored: the frame is finished. It asks what `locate` asks by itself, since a claim is committed more often than anything else
+// is done with it.
 pub fn commit(rec: LogRecord, log: &mut [u8], claim: Claim) -> Outcome
     ensures { λ r. ⌜ r ≡ commitOf rec (now (log .entry)) claim ⌝ }
     ensures { λ _. ⌜ now (log .exit) ≡ commitBytes rec (now (log .entry)) claim ⌝ }
 {
-    match locate(rec, log, claim) {
-        Located::Refused(e) => Outcome::Refused(e),
-        Located::Span(from, _) => {
-            field::put4(log, from - HEADER_LENGTH, cast::word(claim.length));
-            Outcome::Done
-        }
+    let v = log_buffer_descriptor::read_active(rec);
+    if !good_claim(v, claim) {
+        return Outcome::Refused(Error::IllegalArgument);
     }
+    if !log_buffer_descriptor::is_sound(v, log.len()) {
+        return Outcome::Refused(Error::IllegalRecord);
+    }
+    let at = start(v, claim);
+    if !shows(log, at, claim) {
+        return Outcome::Refused(Error::ClaimMismatch);
+    }
+    field::put4(log, at, cast::word(claim.length));
+    Outcome::Done
 }
 
 // The same with type 0: the frame is padding.

@@ -6,7 +6,7 @@ ghost use Prim.Native.Nat.{_+_, _/_, _≤_, _<_, min};
 ghost use lib.ListN.{length, drop, getD};
 ghost use Rattle.model.specs.Bytes.{word, u16 as halfOf, u32 as wordOf};
 ghost use lib.Dec.{eqb};
-ghost use Rattle.model.specs.FrameDescriptor.{frameLength, isFinished, isWriting, lengthAt, frameAt, unsoundFrame, flagsAt, ends};
+ghost use Rattle.model.specs.FrameDescriptor.{frameLength, isFinished, isWriting, lengthAt, frameBy, frameAt, unsoundFrame, flagsAt, ends};
 ghost use Rattle.model.specs.DataFrameHeader.{headerAt};
 ghost use Rattle.model.specs.TermReader.{lengthCall};
 use crate::argument;
@@ -180,6 +180,39 @@ pub fn frame_at(log: &[u8], at: usize, room: usize) -> Frame
             }
         }
     }
+}
+
+// A length word where no frame has room: nothing, or a frame that is being written, or an unsound one.
+fn no_frame(word: usize) -> Frame
+    requires { ⌜ word < 4294967296 ⌝ }
+    ensures { λ r. ⌜ r ≡ frameBy 0 0 (frameLength word) ⌝ }
+{
+    if word == 0 {
+        return Frame::Absent;
+    }
+    if word > 2147483647 {
+        return Frame::Absent;
+    }
+    Frame::Unsound(word)
+}
+
+// What stands at an index that has a header's room before the log's end, as `frame_at` has it: shorter, since no byte can lie past the end, and since
+// the length of a frame that is being written is more than the room.
+pub(crate) fn frame_inside(log: &[u8], at: usize, room: usize) -> Frame
+    requires { ⌜ (at + 32 ≤ length (now log)) × (room ≤ 2147483647) ⌝ }
+    ensures { λ r. ⌜ r ≡ frameAt (drop at (now (log .entry))) room ⌝ }
+{
+    let word = field::word4(log, at);
+    if word < HEADER_LENGTH {
+        return no_frame(word);
+    }
+    if room < (word + ALIGNMENT_MASK) / FRAME_ALIGNMENT * FRAME_ALIGNMENT {
+        return no_frame(word);
+    }
+    if field::half(log, at + TYPE_FIELD_OFFSET) == HDR_TYPE_PAD {
+        return Frame::Padding(word);
+    }
+    Frame::Data(word)
 }
 
 // The refusal of an unsound frame, by its length and its offset in its term: too short for a header, or past the term's end.

@@ -6,7 +6,7 @@ ghost use lib.ListN.{length};
 ghost use Rattle.model.specs.Bytes.{word, long};
 ghost use Rattle.model.specs.FrameDescriptor.{space};
 ghost use Rattle.model.specs.TermAppender.{cut, need, fragment, written, claimed, course, bytesBy, goodMessage, unfragmentedReply, unfragmentedBytes, fragmentedReply, fragmentedBytes, claimAppendReply, claimAppendBytes};
-ghost use Rattle.logbuffer.specs.Ways.{goodAppend, goodClaiming, messageReply, messageBytes, fragmentLimit, claimBits, appendWay, appendWayBytes, oneWayBytes, claimWay, claimWayBytes};
+ghost use Rattle.logbuffer.specs.Ways.{goodAppend, goodClaiming, messageReply, messageBytes, fragmentLimit, claimBits, appendWay, appendWayBytes, oneWayBytes, claimWay, claimWayBytes, frameFits, fitEnd, messageFitBytes, claimFitBytes};
 use crate::cast;
 use crate::data_frame_header::HEADER_LENGTH;
 use crate::frame_descriptor::ALIGNMENT_MASK;
@@ -16,6 +16,8 @@ use crate::frame_descriptor::FRAME_ALIGNMENT;
 use crate::frame_descriptor::UNFRAGMENTED;
 use crate::header;
 use crate::log_buffer_descriptor;
+use crate::log_buffer_descriptor::PARTITION_COUNT;
+use crate::log_buffer_descriptor::TERM_MAX_LENGTH;
 use crate::way;
 use crate::way::Way;
 use model::AppendClaimReply;
@@ -274,6 +276,68 @@ pub fn append_one(
         (message.len() + HEADER_LENGTH + ALIGNMENT_MASK) / FRAME_ALIGNMENT * FRAME_ALIGNMENT,
         course,
     )
+}
+
+// Whether a frame with a body of m bytes fits at the tail of partition k, in a log of n bytes.
+fn fits(v: Reading, n: usize, k: usize, m: usize) -> bool
+    ensures { λ r. ⌜ r ≡ frameFits v n k m ⌝ }
+{
+    if !good_claiming(v, k, m) {
+        return false;
+    }
+    if v.offset > 2147483647 {
+        return false;
+    }
+    if v.term > TERM_MAX_LENGTH {
+        return false;
+    }
+    if n != PARTITION_COUNT * v.term {
+        return false;
+    }
+    v.offset + (m + HEADER_LENGTH + ALIGNMENT_MASK) / FRAME_ALIGNMENT * FRAME_ALIGNMENT <= v.term
+}
+
+// A message as one frame at partition k where it fits, and the offset after it; 0, and the log left as it was, where it does not. It is for a
+// caller who moves the tail by himself and has another path for all that does not fit.
+pub fn append_fit(
+    numbers: Reading,
+    log: &mut [u8],
+    partition: usize,
+    message: &[u8],
+    reserved_value: i64,
+) -> usize
+    ensures { λ r. ⌜ r ≡ fitEnd numbers (now (log .entry)) partition (length (now (message .entry))) ⌝ }
+    ensures { λ _. ⌜ now (log .exit) ≡ messageFitBytes numbers (now (log .entry)) partition (now (message .entry)) (long «reserved_value») ⌝ }
+{
+    if !fits(numbers, log.len(), partition, message.len()) {
+        return 0;
+    }
+    let term = numbers.term;
+    let offset = numbers.offset;
+    header::write_fragment(
+        log,
+        partition * term + offset,
+        numbers,
+        offset,
+        UNFRAGMENTED,
+        cast::long(reserved_value),
+        message,
+    );
+    offset + (message.len() + HEADER_LENGTH + ALIGNMENT_MASK) / FRAME_ALIGNMENT * FRAME_ALIGNMENT
+}
+
+// The same for the frame of a claim of so many bytes.
+pub fn claim_fit(numbers: Reading, log: &mut [u8], partition: usize, body_length: usize) -> usize
+    ensures { λ r. ⌜ r ≡ fitEnd numbers (now (log .entry)) partition «body_length» ⌝ }
+    ensures { λ _. ⌜ now (log .exit) ≡ claimFitBytes numbers (now (log .entry)) partition «body_length» ⌝ }
+{
+    if !fits(numbers, log.len(), partition, body_length) {
+        return 0;
+    }
+    let term = numbers.term;
+    let offset = numbers.offset;
+    header::write_claim(log, partition * term, numbers, body_length);
+    offset + (body_length + HEADER_LENGTH + ALIGNMENT_MASK) / FRAME_ALIGNMENT * FRAME_ALIGNMENT
 }
 
 // A message as one frame or as many, for a caller who has not read the record.

@@ -2,7 +2,7 @@
 ghost use mathlib.Core.Path.{_≡_};
 ghost use mathlib.Core.Bool.{cond, _&&_};
 ghost use mathlib.Core.List.{[]};
-ghost use Prim.Native.Nat.{_+_, _*_, _≤_, _<_};
+ghost use Prim.Native.Nat.{_+_, _*_, _%_, _≤_, _<_};
 ghost use lib.ListN.{length, drop};
 ghost use denote.Ref.{ptr};
 ghost use Rattle.logbuffer.specs.Lent.{startOf};
@@ -220,7 +220,7 @@ fn walk_term(
     limit: usize,
     entries: &mut [i32],
 ) -> TermRead
-    requires { ⌜ (base + term ≤ length (now log)) × ((term ≤ 1073741824) × (2 * limit ≤ length (now entries))) ⌝ }
+    requires { ⌜ (base + term ≤ length (now log)) × ((term ≤ 1073741824) × ((term % 32 ≡ 0) × ((at % 32 ≡ 0) × (2 * limit ≤ length (now entries))))) ⌝ }
     ensures { λ r. ⌜ r ≡ readFrom at (framesBy (walk term (now (log .entry)) base term term at limit []) (cond (firstUnsound (now (log .entry)) base term term at limit) (Refuse (unsoundFrameAt (now (log .entry)) base at)) Pass)) ⌝ }
     ensures { λ _. ⌜ now (entries .exit) ≡ entriesBy (now (entries .entry)) (walk term (now (log .entry)) base term term at limit []) (cond (firstUnsound (now (log .entry)) base term term at limit) (Refuse (unsoundFrameAt (now (log .entry)) base at)) Pass) ⌝ }
 {
@@ -233,7 +233,7 @@ fn walk_term(
         if term <= offset {
             break;
         }
-        match frame_descriptor::frame_at(log, base + offset, term - offset) {
+        match frame_descriptor::frame_inside(log, base + offset, term - offset) {
             Frame::Absent => {
                 break;
             }

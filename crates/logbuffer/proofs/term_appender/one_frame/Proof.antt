@@ -5,12 +5,10 @@ use Prim.Native.Nat.{ℕ, _+_, _*_, _≤_}
 use native.Mathlib.Omega.{arith}
 use borrow.Author.Needs.{needs}
 use lib.ListN.{length}
-use Rattle.model.specs.declared.Reading.{Reading}
-use Rattle.model.specs.Bytes.{splice}
 use Rattle.model.specs.LogBufferDescriptor.{Sound}
 use Rattle.model.specs.FrameDescriptor.{space}
-use Rattle.model.specs.TermAppender.{Fragment, fragment, fragmentBytes, written, bytesBy}
-use Rattle.logbuffer.proofs.Appending.{no-fit, fits}
+use Rattle.model.specs.TermAppender.{fragment, written, bytesBy}
+use Rattle.logbuffer.proofs.Appending.{no-fit, fits, one-written}
 use Rattle.logbuffer.proofs.term_appender.one_frame.Statement.{statement}
 use Rattle.logbuffer.proofs.term_appender.one_frame.Tie as tie
 
@@ -31,15 +29,11 @@ write-fragment-requires : tie.Need-write-fragment-requires
 write-fragment-requires c κs = let f = fit (c .before) in let s = c .before .before .before .before .before .before .before .before .before in
     (omega (arith, f .1 .1, ap length (f .0)), (s .pre .1 .0, omega arith))
 
-one : (v : Reading) (log out : List ℕ) (base offset : ℕ) (f : Fragment) → out ≡ splice log (base + offset) (fragmentBytes v offset f) → out ≡ written v log base offset (f ∷ [])
-unfolding written
-one v log out base offset f e = e
-
 returns : tie.Need-returns
 returns c = let s = c .before .before .before .before .before .before .before .before .before .before .before .before .args in
     let f = fit (c .before .before .before .before) in
     let made : List ℕ → List ℕ = λ l. written (s .v) l (s .k * s .v .term) (s .v .offset) (fragment 192 (s .reserved) (s .message .now) ∷ []) in
-    (c .before .before .before .before .before .before .before .before .begin-append .ensures .0, one _ _ _ (s .k * s .v .term) (s .v .offset) _ (c .before .before .write-fragment .ensures) ∙ ap made (f .0) ∙ ap (bytesBy (s .v) (s .k) (s .log .now) (made (s .log .now))) (sym (c .before .before .before .before .enum-told .given .1) ∙ c .before .before .before .before .before .before .before .before .begin-append .ensures .0))
+    (c .before .before .before .before .before .before .before .before .begin-append .ensures .0, one-written _ _ _ (s .k * s .v .term) (s .v .offset) _ (c .before .before .write-fragment .ensures) ∙ ap made (f .0) ∙ ap (bytesBy (s .v) (s .k) (s .log .now) (made (s .log .now))) (sym (c .before .before .before .before .enum-told .given .1) ∙ c .before .before .before .before .before .before .before .before .begin-append .ensures .0))
 
 returns-2 : tie.Need-returns-2
 returns-2 c = let s = c .before .before .before .before .before .before .before .args in

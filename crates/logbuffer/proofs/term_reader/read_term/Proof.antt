@@ -25,7 +25,7 @@ walk-term-requires : tie.Need-walk-term-requires
 walk-term-requires c κs =
     let a = c .before .before .before .before .args in
     let g = good-walk-true (length (a .log .now)) (a .base) (a .term) (a .term) (a .at) (a .fragment-limit) (length (a .entries .now)) (walks (c .before)) in
-    (g .inside, (g .term-high, omega (arith, g .room)))
+    (g .inside, (g .term-high, (g .term-32, (g .at-32, omega (arith, g .room)))))
 
 returns-2 : tie.Need-returns-2
 returns-2 c =
