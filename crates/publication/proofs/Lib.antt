@@ -2,6 +2,7 @@
 pub mod ClaimLaws
 pub mod ClearLaws
 pub mod OfferBy
+pub mod Fits
 pub mod Lengths
 pub mod Numbers
 pub mod OpenLaws

@@ -33,6 +33,7 @@ use model::Rule;
 use model::Verdict;
 
 pub mod clearing;
+pub mod fit;
 mod judge;
 mod judge_claim;
 pub mod opening;

@@ -1,0 +1,186 @@
+-- The shorter path: what its tests say, its answer by the offset that the appender gives, and that the calls of `model` answer and leave the same.
+use mathlib.Core.Path.{_≡_, refl, sym, ap, ap₂, _∙_}
+use mathlib.Core.Bool.{Bool, true, false, cond, not, _&&_}
+use mathlib.Core.List.{List, [], _∷_}
+use Prim.Native.Nat.{ℕ, _+_, _*_, _/_, _%_, _≤_, _<_}
+use native.Mathlib.Omega.{arith}
+use borrow.Author.Tests.{not-true, leb-true, ltb-true, eqb-true, le-leb, le-ltb, eq-eqb, ne-eqb}
+use lib.Dec.{eqb, leb, ltb}
+use lib.IntN.{ℤ, pos}
+use lib.ListN.{length}
+use mir.Syntax.{w32, w64}
+use mir.Val.{toZ}
+use mir.Facts.{ofZ-toZ}
+use Rattle.model.specs.declared.LogRecord.{LogRecord}
+use Rattle.model.specs.declared.Reading.{Reading}
+use Rattle.model.specs.declared.Verdict.the-variants.{Pass}
+use Rattle.model.specs.declared.Course.{Course}
+use Rattle.model.specs.declared.Course.the-variants.{Fit}
+use Rattle.model.specs.declared.Rule.{Rule}
+use Rattle.model.specs.declared.Rule.the-variants.{Unfragmented, Fragmented, Claimed as ByClaim}
+use Rattle.model.specs.declared.OfferReply.{OfferReply}
+use Rattle.model.specs.declared.ClaimReply.{ClaimReply}
+use Rattle.model.specs.declared.Offered.the-variants.{Position}
+use Rattle.model.specs.declared.Claimed.the-variants.{Position as ClaimPosition}
+use Rattle.model.specs.Bytes.{word, long}
+use Rattle.model.specs.FrameDescriptor.{space}
+use Rattle.model.specs.LogBufferDescriptor.{idMinus, readingOf, reading, active, payloadLimit, messageLimit, sound, Sound, withTail, isReady, rawOf, termId}
+use Rattle.model.specs.TermAppender.{need, cut, fragment, written, claimed, course, bytesBy, replyBy, claimRecord, claimAppendedBy}
+use Rattle.model.specs.Publication.{place, tooLong, afterClosed, beforeAppend, claimVerdict, offerOf, offerBytes, claimOf, claimBytes}
+use Rattle.model.proofs.Both.{and-true, test}
+use Rattle.model.proofs.Choice.{cond-true, cond-false}
+use Rattle.model.proofs.Sound.{sound-true}
+use Rattle.model.proofs.Cut.{need-one, cut-one}
+use Rattle.model.proofs.OfferLaws.{closed-last, rung-10, after, offer-is}
+use Rattle.logbuffer.specs.Ways.{frameFits}
+use Rattle.logbuffer.proofs.Ways.{fits-true}
+use Rattle.publication.specs.declared.fit.Fitted.{Fitted}
+use Rattle.publication.specs.declared.fit.FittedClaim.{FittedClaim}
+use Rattle.publication.specs.Fits.{inStep, isOpen, isFit, noneFitted, fittedAt, afterEnd, fitted, claimAt}
+use Rattle.publication.proofs.OfferBy.{active-by}
+use Rattle.publication.proofs.ClaimLaws as claims
+
+-- ---- what the tests say
+
+pub record Open (v : Reading) (n m : ℕ) : Type 0 where
+  pub is-so : sound v n ≡ true
+  pub so : Sound v n
+  pub not-closed : v .closed ≡ false
+  pub id-in : v .id < 4294967296
+  pub step : idMinus (v .id) (v .initial) ≡ v .count
+  pub below : place v < v .limit
+  pub short : m ≤ payloadLimit v
+
+pub open-true : (v : Reading) (n m : ℕ) → isOpen v n m ≡ true → Open v n m
+unfolding isOpen inStep
+open-true v n m h =
+    let a = and-true (sound v n) _ h in
+    let b = and-true (not (v .closed)) _ (a .1) in
+    let d = and-true (inStep v) _ (b .1) in
+    let e = and-true (ltb (place v) (v .limit)) _ (d .1) in
+    let i = and-true (ltb (v .id) 4294967296) _ (d .0) in
+    let j = and-true (ltb (v .initial) 4294967296) _ (i .1) in
+    record {
+      is-so = a .0;
+      so = sound-true v n (a .0);
+      not-closed = not-true _ (b .0);
+      id-in = ltb-true _ _ (i .0);
+      step = eqb-true _ _ (j .1);
+      below = ltb-true _ _ (e .0);
+      short = leb-true _ _ (e .1);
+    }
+
+-- ---- the answer and the log by what the appender gives
+
+module _ (v : Reading) (n m : ℕ) where
+  pub not-open : isOpen v n m ≡ false → isFit v n m ≡ false
+  not-open h = ap (λ (b : Bool). b && frameFits v n (v .count % 3) m) h
+
+  module _ (h : isOpen v n m ≡ true) where
+    pub fit-is : isFit v n m ≡ frameFits v n (v .count % 3) m
+    fit-is = ap (λ (b : Bool). b && frameFits v n (v .count % 3) m) h
+
+    pub fitted-by : (end : ℕ) → end ≡ cond (frameFits v n (v .count % 3) m) (v .offset + space m) 0 → afterEnd v end ≡ fitted v n m
+    fitted-by end e =
+        test (frameFits v n (v .count % 3) m)
+        (λ f.
+        let q : end ≡ v .offset + space m = e ∙ cond-true _ _ _ f in
+        let z : end ≡ 0 → ⊥ = λ (y : end ≡ 0). omega arith in
+        cond-false (eqb end 0) noneFitted (fittedAt v end) (ne-eqb end 0 z) ∙ ap (fittedAt v) q ∙ sym (cond-true _ _ _ (fit-is ∙ f)))
+        (λ f.
+        let q : end ≡ 0 = e ∙ cond-false _ _ _ f in
+        cond-true (eqb end 0) noneFitted (fittedAt v end) (eq-eqb end 0 q) ∙ sym (cond-false _ _ _ (fit-is ∙ f)))
+
+    pub end-none : (end : ℕ) → end ≡ cond (frameFits v n (v .count % 3) m) (v .offset + space m) 0 → end ≡ 0 → isFit v n m ≡ false
+    end-none end e z =
+        test (frameFits v n (v .count % 3) m)
+        (λ f. let q : end ≡ v .offset + space m = e ∙ cond-true _ _ _ f in absurd (omega arith))
+        (λ f. fit-is ∙ f)
+
+    pub end-some : (end : ℕ) → end ≡ cond (frameFits v n (v .count % 3) m) (v .offset + space m) 0 → (end ≡ 0 → ⊥) → (isFit v n m ≡ true) × (end ≡ v .offset + space m)
+    end-some end e z =
+        test (frameFits v n (v .count % 3) m) (λ f. (fit-is ∙ f, e ∙ cond-true _ _ _ f))
+        (λ f. absurd (z (e ∙ cond-false _ _ _ f)))
+
+    -- an end is in its term
+    pub end-in : (end : ℕ) → end ≡ cond (frameFits v n (v .count % 3) m) (v .offset + space m) 0 → end ≤ v .term
+    end-in end e =
+        test (frameFits v n (v .count % 3) m)
+        (λ f. let q : end ≡ v .offset + space m = e ∙ cond-true _ _ _ f in omega (arith, fits-true v n (v .count % 3) m f .room))
+        (λ f. let q : end ≡ 0 = e ∙ cond-false _ _ _ f in omega arith)
+
+    -- and the log is changed where the frame fits
+    pub bytes-by : (log new out : List ℕ) → out ≡ cond (frameFits v n (v .count % 3) m) new log → out ≡ cond (isFit v n m) new log
+    bytes-by log new out e = e ∙ ap (λ (t : Bool). cond t new log) (sym fit-is)
+
+-- a raw tail put together from numbers, and its term id
+pub raw-is : (id end : ℕ) (t : ℤ) → id < 4294967296 → t ≡ toZ w64 (id * 4294967296 + end) → t ≡ rawOf id end
+unfolding rawOf
+raw-is id end t h e = let k : id ≡ id % 4294967296 = omega arith in e ∙ ap (λ (i : ℕ). toZ w64 (i * 4294967296 + end)) k
+
+pub raw-term : (id end : ℕ) → id < 4294967296 → end < 4294967296 → termId (rawOf id end) ≡ toZ w32 id
+unfolding rawOf
+raw-term id end h k =
+    let e : long (rawOf id end) ≡ id % 4294967296 * 4294967296 + end = ofZ-toZ {w = w64} (record { fits = omega arith }) in
+    let q : (id % 4294967296 * 4294967296 + end) / 4294967296 ≡ id = omega arith in
+    ap (λ (n : ℕ). toZ w32 (n / 4294967296)) e ∙ ap (toZ w32) q
+
+-- the answer of a claim, number by number
+pub claim-answer : (v : Reading) (m end : ℕ) (x : Fitted) (t p a b l i : ℤ) → end ≡ v .offset + space m → x ≡ fittedAt v end → t ≡ x .tail → p ≡ x .position → a ≡ pos (v .count % 3) → b ≡ pos (v .offset) → l ≡ pos (m + 32) → i ≡ toZ w32 (v .id)
+    → record { tail = t; position = p; claim = record { partition = a; offset = b; length = l; «term_id» = i } } ≡ claimAt v m
+unfolding claimRecord
+claim-answer v m end x t p a b l i ee ex et ep ea eb el ei = cc
+
+-- ---- the calls of `model`
+
+course-fits : (v : Reading) (n needed : ℕ) → sound v n ≡ true → v .offset + needed ≤ v .term → v .term ≤ 1073741824 → course v n needed (v .id) ≡ Fit
+unfolding course
+course-fits v n needed s room high =
+    let l : v .offset + needed ≤ 2147483647 = omega arith in
+    simp (s, le-leb _ _ l, eq-eqb (v .id) (v .id) refl, le-leb _ _ room)
+
+module _ (r : LogRecord) (log : List ℕ) where
+  abbrev v· : Reading
+  v· = reading r
+
+  abbrev n· : ℕ
+  n· = length log
+
+  part : v· .count % 3 ≡ active r
+  part = active-by r v· refl
+
+  pub offer-fits : (m : List ℕ) (z : ℤ) → isFit v· n· (length m) ≡ true
+      → (record { next = withTail r (active r) (v· .id) (v· .offset + space (length m)); answer = Position (pos (v· .count * v· .term + (v· .offset + space (length m)))); rule = Unfragmented } ≡ offerOf r log m)
+      × (written v· log (active r * v· .term) (v· .offset) (fragment 192 (long z) m ∷ []) ≡ offerBytes r log m z)
+  offer-fits m z h =
+      let a = and-true (isOpen v· n· (length m)) _ h in
+      let o = open-true v· n· (length m) (a .0) in
+      let f = fits-true v· n· (v· .count % 3) (length m) (a .1) in
+      let p = payloadLimit v· in
+      let last = closed-last v· (length m) (o .step) (o .below) in
+      let pass = sym (rung-10 v· n· (length m) (f .whole) (o .is-so) (o .not-closed) false (sym last) (ap (λ (b : Bool). b && ltb (messageLimit v·) (length m)) (le-ltb _ _ (o .short)))) in
+      let law = offer-is r log m z pass in
+      let one = need-one p (length m) (o .short) in
+      let fit : course v· n· (need p (length m)) (v· .id) ≡ Fit = ap (λ (d : ℕ). course v· n· d (v· .id)) one ∙ course-fits v· n· (space (length m)) (o .is-so) (f .room) (f .term-high) in (
+        ap (λ (x : Rule). record { next = withTail r (active r) (v· .id) (v· .offset + space (length m)); answer = Position (pos (v· .count * v· .term + (v· .offset + space (length m)))); rule = x }) (sym (cond-true (leb (length m) p) Unfragmented Fragmented (le-leb _ _ (o .short))))
+            ∙ sym (ap₂ (λ (d : ℕ) (x : Course). after v· (isReady r) (length m) (replyBy r v· (active r) d x)) one fit) ∙ law .0,
+        ap (λ (l : List _). written v· log (active r * v· .term) (v· .offset) l) (sym (cut-one p (long z) m (o .short)))
+            ∙ sym (ap (bytesBy v· (active r) log (written v· log (active r * v· .term) (v· .offset) (cut p (long z) m))) fit) ∙ law .1,
+      )
+
+  pub claim-fits : (len : ℤ) → isFit v· n· (word len) ≡ true
+      → (record { next = withTail r (active r) (v· .id) (v· .offset + space (word len)); answer = ClaimPosition (pos (v· .count * v· .term + (v· .offset + space (word len)))) (claimRecord v· (active r) (word len)); rule = ByClaim } ≡ claimOf r log len)
+      × (claimed v· log (active r * v· .term) (word len) ≡ claimBytes r log len)
+  claim-fits len h =
+      let m = word len in
+      let a = and-true (isOpen v· n· m) _ h in
+      let o = open-true v· n· m (a .0) in
+      let f = fits-true v· n· (v· .count % 3) m (a .1) in
+      let last = closed-last v· m (o .step) (o .below) in
+      let room : v· .offset + space m ≤ 2147483647 = omega (arith, f .room, f .term-high) in
+      let pass = sym (claims.claim-11 v· n· m (f .whole) (o .is-so) (o .not-closed) (o .short) false (sym last) (le-ltb _ _ room)) in
+      let law = claims.claim-is r log len pass in
+      let fit : course v· n· (space m) (v· .id) ≡ Fit = course-fits v· n· (space m) (o .is-so) (f .room) (f .term-high) in (
+        sym (ap (λ (x : Course). claims.after v· (isReady r) (claimAppendedBy r v· (active r) m x)) fit) ∙ law .0,
+        sym (ap (bytesBy v· (active r) log (claimed v· log (active r * v· .term) m)) fit) ∙ law .1,
+      )
