@@ -11,12 +11,15 @@
  * - A slice is a pointer and a count of elements. The pointer must be valid for so many elements, and nothing that is written, slice or struct,
  *   may overlap anything else of the same call. Nothing else is asked: any number and any bytes may be handed in; a bool is yes unless its byte is 0.
  *   A pointer may be NULL where its count is 0.
+ * - Arguments come in one order: a reader's own struct (image, assembler, replay), the record, the log, then numbers, and last what else is lent, each slice as
+ *   pointer and count: entries before actions, a buffer before numbers, what is read before what is written. A writer's message or bytes stand where the Rust has
+ *   them, before the reserved value.
  * - Callers take turns: while a call writes a log, its record or another struct, no other call may use it. Calls that only read may run at the same time
  *   on a log that nobody is writing, each with a struct of its own.
  * - The record changes in place, so nobody goes on with an old one unless it was copied on purpose. A record kept elsewhere is good with the log as it was then.
  * - `code` is 0, or the number of the refusal below. Where it is not 0 the other values of a reply are 0, and what was lent by a pointer
  *   is as it was, every byte of it, unless the refusal's line or the call's says otherwise. Only `rule` of an offer or a claim always stands.
- * - With 22 and 23 a reply tells the place of the frame, its offset in its term: in `offset` of a read, a scan, a gap scan and a block, in `outcome`
+ * - With 22 and 23 a reply tells the place of the frame, its offset in its term: in `offset` of a read, a scan, a gap scan and a block, in `available`
  *   of an availability scan, in `fragments` of a poll, in `position` of a peek, a tally and a holding, in `start` of the assembler and a replay, in `messages` of a batch
  *   and of a count.
  *
@@ -359,29 +362,36 @@ struct logbuffer_gap_reply {
     size_t length;
 };
 
-/* padding * 2^32 + available */
+/* The bytes available for sending, of a padding frame its header; and the padding behind the last of them, which need not be sent. The Rust answers one number,
+ * padding * 2^32 + available. */
 struct logbuffer_availability_reply {
     int32_t code;
-    int64_t outcome;
+    uint32_t padding;
+    size_t available;
 };
 
-/* The fragments read, and the entries written. */
+/* The fragments read, the entries written, and the partition that they lie in: that of the position before the call, position / term length % 3, also where nothing
+ * was read. It is 0 with every refusal, 22 and 23 too. */
 struct logbuffer_poll_reply {
     int32_t code;
     uint32_t fragments;
-    size_t entries;
+    uint32_t entries;
+    int32_t partition;
 };
 
-/* The position after the last whole message, and the entries written. */
+/* The entries written, the position after the last whole message, and the partition that the entries lie in: that of the start. It is 0 with every refusal. */
 struct logbuffer_peek_reply {
     int32_t code;
     uint32_t entries;
     int64_t position;
+    int32_t partition;
 };
 
-/* A block's offset in its term, its length, session and term id; four zeros where it is empty. */
+/* A block's partition, that of the position before the call; its offset in its term, its length, session and term id, four zeros where it is empty. It is
+ * log[partition * term length + offset ..], length bytes of it. The partition is 0 with every refusal. */
 struct logbuffer_block_reply {
     int32_t code;
+    int32_t partition;
     size_t offset;
     size_t length;
     int32_t session_id;
@@ -469,8 +479,8 @@ struct logbuffer_holding_reply {
 /* ---- this face */
 
 /* Its version, which the function's name carries too: an archive of another version does not link. */
-#define LOGBUFFER_FACE_VERSION 3
-LOGBUFFER_ANSWER uint32_t logbuffer_face_3(void);
+#define LOGBUFFER_FACE_VERSION 4
+LOGBUFFER_ANSWER uint32_t logbuffer_face_4(void);
 
 /* ---- opening, and calls on the record alone */
 
@@ -607,26 +617,29 @@ LOGBUFFER_ANSWER struct logbuffer_availability_reply logbuffer_scan_for_availabi
 /* A reader at a position. Refuses nothing: each call judges the position. */
 void logbuffer_image_new(struct logbuffer_image *image, int64_t position, int32_t session_id);
 
-/* Reads fragments up to the end of the term and moves past them; entries as in logbuffer_read, in the term of the position before the
- * call. Refuses 1, 2, 3, 22, 23. The second reads no frame that begins at or past a position. The third takes an answer for each fragment,
- * LOGBUFFER_ACTION_..: as many actions as the fragment limit or more, each of them 1 to 4. entries_length is at least 2 * fragment_limit; the entries lie in
- * the partition of the position before the call, position / term length % 3. */
+/* Reads fragments up to the end of the term and moves past them; entries as in logbuffer_read, in the partition that is answered: log[partition * term length +
+ * entries[0] ..] is the first body, entries[1] bytes of it, and logbuffer_view takes the three numbers too. entries_length is at least 2 * fragment_limit; a limit of 0
+ * or less reads nothing, and passes no padding. Refuses 1, 2, 3, 22, 23. A poll does not compare a frame's term id with its position: stop at the publisher's position,
+ * as a bounded poll to it does. The second reads no frame that begins at or past a limit position, of any value; one that begins before it may end past it.
+ * The third takes an answer for each fragment, LOGBUFFER_ACTION_..: as many actions as the fragment limit or more, each of them 1 to 4. */
 LOGBUFFER_ANSWER struct logbuffer_poll_reply logbuffer_image_poll(struct logbuffer_image *image, const struct logbuffer_record *rec, const uint8_t *log,
-                                                 size_t log_length, int32_t *entries, size_t entries_length, int32_t fragment_limit);
+                                                 size_t log_length, int32_t fragment_limit, int32_t *entries, size_t entries_length);
 LOGBUFFER_ANSWER struct logbuffer_poll_reply logbuffer_image_bounded_poll(struct logbuffer_image *image, const struct logbuffer_record *rec,
-                                                         const uint8_t *log, size_t log_length, int32_t *entries, size_t entries_length,
-                                                         int64_t limit_position, int32_t fragment_limit);
+                                                         const uint8_t *log, size_t log_length, int64_t limit_position,
+                                                         int32_t fragment_limit, int32_t *entries, size_t entries_length);
 LOGBUFFER_ANSWER struct logbuffer_poll_reply logbuffer_image_controlled_poll(struct logbuffer_image *image, const struct logbuffer_record *rec,
-                                                            const uint8_t *log, size_t log_length, int32_t *entries, size_t entries_length,
-                                                            const uint8_t *actions, size_t actions_length, int32_t fragment_limit);
+                                                            const uint8_t *log, size_t log_length, int32_t fragment_limit,
+                                                            int32_t *entries, size_t entries_length, const uint8_t *actions,
+                                                            size_t actions_length);
 
-/* Reads from a start at or after the image's position without moving it, at most one fragment for each action (each 1 to 4, entries_length at least 2 *
- * actions_length), and answers the position
- * after the last whole message or padding, which counts also between the fragments of a message. Refuses 1, 2, 3, 15, 16, 22, 23. */
+/* Reads from a start without moving the image: a multiple of 32 from the image's position to the end of its term. It reads no frame that begins at or past the limit
+ * position, and at most one fragment for each action: each 1 to 4, entries_length at least 2 * actions_length; no actions read nothing, and a last one of 3 or 4 acts
+ * as 2. It answers the position after the last whole message or padding, which counts also between the fragments of a message. Refuses 1, 2, 3, 15, 16, 22,
+ * 23. */
 LOGBUFFER_ANSWER struct logbuffer_peek_reply logbuffer_image_controlled_peek(const struct logbuffer_image *image, const struct logbuffer_record *rec,
-                                                            const uint8_t *log, size_t log_length, int32_t *entries, size_t entries_length,
-                                                            const uint8_t *actions, size_t actions_length, int64_t start,
-                                                            int64_t limit_position);
+                                                            const uint8_t *log, size_t log_length, int64_t start,
+                                                            int64_t limit_position, int32_t *entries, size_t entries_length,
+                                                            const uint8_t *actions, size_t actions_length);
 
 /* Moves past whole frames of together at most limit bytes and answers where they lie. Padding is taken only as the first frame, and then
  * alone and even where it is longer than the limit: a caller who copies blocks into limit bytes has to look at the length first. Refuses 2, 3, 22, 23. */
@@ -655,8 +668,8 @@ void logbuffer_assembler_new(struct logbuffer_assembler *assembler);
  * next call. Refuses 1, 2, 22, 23, 18. After 18 for fragments longer than their part that session stays entered, emptied, and the rest of the
  * message is ignored; 18 for a 17th session changes nothing. */
 LOGBUFFER_ANSWER struct logbuffer_assembly_reply logbuffer_assembler_on_fragment(struct logbuffer_assembler *assembler, const struct logbuffer_record *rec,
-                                                                const uint8_t *log, size_t log_length, uint8_t *buffer,
-                                                                size_t buffer_length, int32_t partition, int32_t offset);
+                                                                const uint8_t *log, size_t log_length, int32_t partition,
+                                                                int32_t offset, uint8_t *buffer, size_t buffer_length);
 
 /* Makes it a replay from a position: 0, or one that an accepted call answered, as the position behind a whole message is. It goes up to the publisher's
  * position, and gives what was accepted after its start, each message once; from between two fragments it misses the message that they are of. The start
@@ -681,7 +694,7 @@ LOGBUFFER_ANSWER struct logbuffer_batch_reply logbuffer_replay_next_batch(struct
 
 /* A whole replay from a position: how many messages, and how many bytes they have together. Refuses as logbuffer_replay_next. */
 LOGBUFFER_ANSWER struct logbuffer_count_reply logbuffer_replay_count(const struct logbuffer_record *rec, const uint8_t *log, size_t log_length,
-                                                    uint8_t *buffer, size_t buffer_length, int64_t position, int32_t session_id);
+                                                    int64_t position, int32_t session_id, uint8_t *buffer, size_t buffer_length);
 
 /* ---- find cards: message bodies that every reader understands alike */
 
@@ -796,7 +809,7 @@ static inline const char *logbuffer_strerror(int32_t code) {
 
 /* What makes the linker look for the version. */
 #if defined(__GNUC__) || defined(__clang__)
-static uint32_t (*const logbuffer_face_linked)(void) __attribute__((used)) = logbuffer_face_3;
+static uint32_t (*const logbuffer_face_linked)(void) __attribute__((used)) = logbuffer_face_4;
 #endif
 
 #ifdef __cplusplus

@@ -57,7 +57,8 @@ pub struct ClaimReply {
 pub struct PollReply {
     code: i32,
     fragments: u32,
-    entries: usize,
+    entries: u32,
+    partition: i32,
 }
 
 #[repr(C)]
@@ -115,7 +116,8 @@ pub struct GapReply {
 #[repr(C)]
 pub struct AvailabilityReply {
     code: i32,
-    outcome: i64,
+    padding: u32,
+    available: usize,
 }
 
 extern "C" {
@@ -125,13 +127,13 @@ extern "C" {
     fn logbuffer_try_claim(rec: *mut Record, log: *mut u8, n: usize, length: i32) -> ClaimReply;
     fn logbuffer_commit(rec: *const Record, log: *mut u8, n: usize, claim: Claim) -> i32;
     fn logbuffer_image_new(image: *mut Image, position: i64, session: i32);
-    fn logbuffer_image_poll(image: *mut Image, rec: *const Record, log: *const u8, n: usize, entries: *mut i32, e: usize, limit: i32) -> PollReply;
+    fn logbuffer_image_poll(image: *mut Image, rec: *const Record, log: *const u8, n: usize, limit: i32, entries: *mut i32, e: usize) -> PollReply;
     fn logbuffer_replay_new(replay: *mut Replay, position: i64, session: i32);
     fn logbuffer_replay_next(replay: *mut Replay, rec: *const Record, log: *const u8, n: usize, buffer: *mut u8, b: usize) -> NextReply;
     fn logbuffer_replay_next_batch(
         replay: *mut Replay, rec: *const Record, log: *const u8, n: usize, buffer: *mut u8, b: usize, numbers: *mut usize, m: usize,
     ) -> BatchReply;
-    fn logbuffer_replay_count(rec: *const Record, log: *const u8, n: usize, buffer: *mut u8, b: usize, position: i64, session: i32) -> CountReply;
+    fn logbuffer_replay_count(rec: *const Record, log: *const u8, n: usize, position: i64, session: i32, buffer: *mut u8, b: usize) -> CountReply;
     fn logbuffer_scan(rec: *const Record, log: *const u8, n: usize, partition: i32, offset: i32, limit: i32) -> ScanReply;
     fn logbuffer_scan_for_gap(rec: *const Record, log: *const u8, n: usize, partition: i32, id: i32, offset: i32, high: i32) -> GapReply;
     fn logbuffer_tally(rec: *const Record, log: *const u8, n: usize, from: i64, to: i64) -> TallyReply;
@@ -148,7 +150,7 @@ pub fn poll_in_turns(logs: &[&Log], entries: &mut [i32], limit: i32) -> usize {
         before = fragments;
         for (image, log) in images.iter_mut().zip(logs) {
             let (bytes, n) = (log.bytes.as_ptr(), log.bytes.len());
-            let reply = unsafe { logbuffer_image_poll(image, &log.record, bytes, n, entries.as_mut_ptr(), entries.len(), limit) };
+            let reply = unsafe { logbuffer_image_poll(image, &log.record, bytes, n, limit, entries.as_mut_ptr(), entries.len()) };
             fragments += if reply.code == 0 { reply.fragments as usize } else { 0 };
         }
     }
@@ -240,11 +242,11 @@ impl Log {
         unsafe { logbuffer_image_new(&mut image, 0, 11) };
         loop {
             let (log, n) = (self.bytes.as_ptr(), self.bytes.len());
-            let reply = unsafe { logbuffer_image_poll(&mut image, &self.record, log, n, entries.as_mut_ptr(), entries.len(), limit) };
+            let reply = unsafe { logbuffer_image_poll(&mut image, &self.record, log, n, limit, entries.as_mut_ptr(), entries.len()) };
             if reply.code != 0 || reply.fragments == 0 {
                 return (fragments, sum);
             }
-            sum += entries[..2 * reply.entries].iter().map(|&x| x as i64).sum::<i64>();
+            sum += entries[..2 * reply.entries as usize].iter().map(|&x| x as i64).sum::<i64>();
             fragments += reply.fragments as usize;
         }
     }
@@ -287,7 +289,7 @@ impl Log {
     /// The same in one call.
     pub fn count_all(&self, buffer: &mut [u8]) -> (usize, usize) {
         let (log, n) = (self.bytes.as_ptr(), self.bytes.len());
-        let reply = unsafe { logbuffer_replay_count(&self.record, log, n, buffer.as_mut_ptr(), buffer.len(), 0, 11) };
+        let reply = unsafe { logbuffer_replay_count(&self.record, log, n, 0, 11, buffer.as_mut_ptr(), buffer.len()) };
         assert_eq!(reply.code, 0);
         (reply.messages, reply.bytes)
     }
@@ -317,6 +319,6 @@ impl Log {
 
     pub fn scan_for_availability(&self, most: i32) -> i64 {
         let reply = unsafe { logbuffer_scan_for_availability(&self.record, self.bytes.as_ptr(), self.bytes.len(), 0, 0, most) };
-        reply.outcome + reply.code as i64
+        ((reply.padding as i64) << 32) + reply.available as i64 + reply.code as i64
     }
 }

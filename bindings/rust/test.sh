@@ -4,7 +4,10 @@
 set -eu
 cd "$(dirname "$0")"
 export CARGO_NET_OFFLINE=true CARGO_TARGET_DIR="$PWD/target"
-[ -n "${LOGBUFFER_LIB_DIR:-}" ] || [ -f ../../target/liblogbuffer.a ] || ../../archive >/dev/null
+if [ -z "${LOGBUFFER_LIB_DIR:-}" ] && [ ! -f ../../target/liblogbuffer.a ]; then
+    echo "there is no target/liblogbuffer.a: run ./archive first, which proves and builds it"
+    exit 1
+fi
 cargo test --quiet
 for example in sync season file cards holding; do cargo run --quiet --example "$example" | diff "examples/$example.txt" -; done
 # What lints and layout ask changes with the compiler, so they are looked at only on request.

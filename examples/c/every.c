@@ -52,7 +52,7 @@ static void say_assembler(const char *call, struct logbuffer_assembler a) {
 }
 
 static void say_poll(const char *call, struct logbuffer_image next, struct logbuffer_poll_reply p) {
-    SAY(call, "code fragments entries", p.code, p.fragments, p.entries);
+    SAY(call, "code fragments entries partition", p.code, p.fragments, p.entries, p.partition);
     say_image("  next", next);
     SAY("  entries", "offset length offset length", entries[0], entries[1], entries[2], entries[3]);
     memset(entries, 0, sizeof entries);
@@ -169,7 +169,38 @@ static void frames(struct logbuffer_record rec) {
     SAY("scan_for_gap", "code gap being_written term_id offset length", g.code, g.is_gap, g.is_being_written, g.term_id, g.offset,
         g.length);
     struct logbuffer_availability_reply a = logbuffer_scan_for_availability(&rec, second_log, sizeof second_log, 2, 96, 128);
-    SAY("scan_for_availability", "code outcome", a.code, a.outcome);
+    SAY("scan_for_availability", "code padding available", a.code, a.padding, a.available);
+    second_log[2 * TERM + 6] = 0; /* the first frame, of 96 bytes, is padding for a while */
+    a = logbuffer_scan_for_availability(&rec, second_log, sizeof second_log, 2, 0, 64);
+    SAY("  padding of 96, maximum 64", "code padding available", a.code, a.padding, a.available);
+    second_log[2 * TERM + 6] = 1;
+    a = logbuffer_scan_for_availability(&rec, second_log, sizeof second_log, 3, 0, 64);
+    SAY("  partition 3", "code padding available", a.code, a.padding, a.available);
+}
+
+/* The same readers in the third partition, two of whose frames are finished, and where they are refused. */
+static void elsewhere(struct logbuffer_record rec) {
+    static const uint8_t actions[2] = {4, 4};
+    struct logbuffer_image i, moved;
+    logbuffer_image_new(&i, 5 * TERM, 33);
+    moved = i;
+    struct logbuffer_poll_reply q = logbuffer_image_poll(&moved, &rec, second_log, sizeof second_log, 4, entries, 8);
+    say_poll("image_poll, partition 2", moved, q);
+    struct logbuffer_peek_reply p =
+        logbuffer_image_controlled_peek(&i, &rec, second_log, sizeof second_log, 5 * TERM + 96, 6 * TERM, entries, 8, actions, 2);
+    SAY("image_controlled_peek, partition 2", "code entries position partition", p.code, p.entries, p.position, p.partition);
+    p = logbuffer_image_controlled_peek(&i, &rec, second_log, sizeof second_log, 0, 6 * TERM, entries, 8, actions, 2);
+    SAY("  from 0", "code entries position partition", p.code, p.entries, p.position, p.partition);
+    struct logbuffer_block_reply b = logbuffer_image_block_poll(&i, &rec, second_log, sizeof second_log, 4000);
+    SAY("image_block_poll, partition 2", "code partition offset length", b.code, b.partition, b.offset, b.length);
+    b = logbuffer_image_block_poll(&i, &rec, second_log, sizeof second_log, 4000);
+    SAY("  at the open claim", "code partition offset length", b.code, b.partition, b.offset, b.length);
+    i.position += 8;
+    b = logbuffer_image_block_poll(&i, &rec, second_log, sizeof second_log, 4000);
+    SAY("  at no multiple of 32", "code partition offset length", b.code, b.partition, b.offset, b.length);
+    q = logbuffer_image_poll(&i, &rec, second_log, sizeof second_log, 4, entries, 8);
+    SAY("image_poll, at no multiple of 32", "code fragments entries partition", q.code, q.fragments, q.entries, q.partition);
+    memset(entries, 0, sizeof entries);
 }
 
 static void images(struct logbuffer_record rec) {
@@ -178,22 +209,23 @@ static void images(struct logbuffer_record rec) {
     logbuffer_image_new(&i, 64, 33);
     say_image("image_new", i);
     moved = i;
-    struct logbuffer_poll_reply q = logbuffer_image_poll(&moved, &rec, log_bytes, sizeof log_bytes, entries, 8, 2);
+    struct logbuffer_poll_reply q = logbuffer_image_poll(&moved, &rec, log_bytes, sizeof log_bytes, 2, entries, 8);
     say_poll("image_poll", moved, q);
     moved = i;
-    q = logbuffer_image_bounded_poll(&moved, &rec, log_bytes, sizeof log_bytes, entries, 8, 160, 3);
+    q = logbuffer_image_bounded_poll(&moved, &rec, log_bytes, sizeof log_bytes, 160, 3, entries, 8);
     say_poll("image_bounded_poll", moved, q);
     moved = i;
-    q = logbuffer_image_controlled_poll(&moved, &rec, log_bytes, sizeof log_bytes, entries, 8, actions, 5, 3);
+    q = logbuffer_image_controlled_poll(&moved, &rec, log_bytes, sizeof log_bytes, 3, entries, 8, actions, 5);
     say_poll("image_controlled_poll", moved, q);
     struct logbuffer_peek_reply p =
-        logbuffer_image_controlled_peek(&i, &rec, log_bytes, sizeof log_bytes, entries, 8, actions + 2, 2, 128, 400);
-    SAY("image_controlled_peek", "code position entries", p.code, p.position, p.entries);
+        logbuffer_image_controlled_peek(&i, &rec, log_bytes, sizeof log_bytes, 128, 400, entries, 8, actions + 2, 2);
+    SAY("image_controlled_peek", "code entries position partition", p.code, p.entries, p.position, p.partition);
     SAY("  entries", "offset length offset length", entries[0], entries[1], entries[2], entries[3]);
     SAY("image_set_position", "code", logbuffer_image_set_position(&i, &rec, log_bytes, sizeof log_bytes, 128));
     say_image("  next", i);
     struct logbuffer_block_reply b = logbuffer_image_block_poll(&i, &rec, log_bytes, sizeof log_bytes, 100);
-    SAY("image_block_poll", "code offset length session term_id", b.code, b.offset, b.length, b.session_id, b.term_id);
+    SAY("image_block_poll", "code partition offset length session term_id", b.code, b.partition, b.offset, b.length, b.session_id,
+        b.term_id);
     say_image("  next", i);
     rec.end_of_stream_position = 192;
     struct logbuffer_end_of_stream_reply e = logbuffer_image_is_end_of_stream(&i, &rec, log_bytes, sizeof log_bytes);
@@ -209,8 +241,8 @@ static void assemblies(struct logbuffer_record rec) {
     say_assembler("assembler_new", a);
     static const int32_t places[3][2] = {{1, 0}, {2, 0}, {2, 96}};
     for (int k = 0; k < 3; k++) {
-        struct logbuffer_assembly_reply r = logbuffer_assembler_on_fragment(&a, &rec, second_log, sizeof second_log, buffer,
-                                                                            sizeof buffer, places[k][0], places[k][1]);
+        struct logbuffer_assembly_reply r = logbuffer_assembler_on_fragment(&a, &rec, second_log, sizeof second_log, places[k][0],
+                                                                            places[k][1], buffer, sizeof buffer);
         SAY("assembler_on_fragment", "code place start length", r.code, r.place, r.start, r.length);
         say_assembler("  next", a);
     }
@@ -242,7 +274,7 @@ static void replays(struct logbuffer_record rec) {
         say_image("  image", replay.image);
         say_assembler("  assembler", replay.assembler);
     }
-    struct logbuffer_count_reply c = logbuffer_replay_count(&rec, log_bytes, sizeof log_bytes, buffer, sizeof buffer, 128, 55);
+    struct logbuffer_count_reply c = logbuffer_replay_count(&rec, log_bytes, sizeof log_bytes, 128, 55, buffer, sizeof buffer);
     SAY("replay_count", "code messages bytes", c.code, c.messages, c.bytes);
 }
 
@@ -490,7 +522,7 @@ static void seasons(void) {
     say_offer("offer again", rec, o);
     o = logbuffer_offer(&rec, second_log, sizeof second_log, (const uint8_t *)"coin", 4, 0);
     say_offer("offer once more", rec, o);
-    struct logbuffer_count_reply n = logbuffer_replay_count(&rec, second_log, sizeof second_log, buffer, sizeof buffer, TERM, 33);
+    struct logbuffer_count_reply n = logbuffer_replay_count(&rec, second_log, sizeof second_log, TERM, 33, buffer, sizeof buffer);
     SAY("replay_count", "code messages bytes", n.code, n.messages, n.bytes);
     struct logbuffer_replay replay;
     logbuffer_replay_new(&replay, 3 * TERM, 33);
@@ -516,12 +548,13 @@ static void seasons(void) {
 }
 
 int main(void) {
-    printf("face: %" PRIu32 "\n", logbuffer_face_3());
+    printf("face: %" PRIu32 "\n", logbuffer_face_4());
     numbers();
     struct logbuffer_record rec = written(), second = appended();
     positions(rec);
     frames(second);
     images(rec);
+    elsewhere(second);
     assemblies(second);
     replays(rec);
     cards();

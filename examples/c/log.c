@@ -104,7 +104,7 @@ int main(void) {
     must(logbuffer_close(&rec));
     offer(&rec, "offer after close", (const uint8_t *)"late", 4);
     replay(&rec);
-    struct logbuffer_count_reply n = logbuffer_replay_count(&rec, log_bytes, sizeof log_bytes, buffer, sizeof buffer, 0, 11);
+    struct logbuffer_count_reply n = logbuffer_replay_count(&rec, log_bytes, sizeof log_bytes, 0, 11, buffer, sizeof buffer);
     printf("count: %zu messages, %zu bytes\n", n.messages, n.bytes);
     return 0;
 }

@@ -3,7 +3,7 @@
 set -eu
 here=$(cd "$(dirname "$0")" && pwd)
 root=$here/../..
-[ -f "$root/target/liblogbuffer.a" ] || (cd "$root" && ./archive >/dev/null)
+[ -f "$root/target/liblogbuffer.a" ] || { echo "there is no target/liblogbuffer.a: run ./archive first, which proves and builds it"; exit 1; }
 out=$(mktemp -d)
 trap 'rm -rf "$out"' EXIT
 for program in log season file every; do

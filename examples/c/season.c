@@ -71,17 +71,17 @@ static void read_by_polls(void) {
     struct logbuffer_position_reply published = logbuffer_position(&rec);
     must(published.code);
     while (image.position < end && image.position < published.position) {
-        int32_t entries[2], partition = (int32_t)(image.position / TERM % 3);
+        int32_t entries[2];
         int64_t before = image.position;
-        struct logbuffer_poll_reply p = logbuffer_image_bounded_poll(&image, &rec, log_bytes, LOG, entries, 2, published.position, 1);
+        struct logbuffer_poll_reply p = logbuffer_image_bounded_poll(&image, &rec, log_bytes, LOG, published.position, 1, entries, 2);
         must(p.code);
         if (p.entries == 0 && image.position == before) return;
         if (p.entries == 0) continue; /* padding was passed */
         int32_t offset = entries[0] - LOGBUFFER_HEADER_LENGTH;
         struct logbuffer_assembly_reply a =
-            logbuffer_assembler_on_fragment(&assembler, &rec, log_bytes, LOG, polling.buffer, sizeof polling.buffer, partition, offset);
+            logbuffer_assembler_on_fragment(&assembler, &rec, log_bytes, LOG, p.partition, offset, polling.buffer, sizeof polling.buffer);
         must(a.code);
-        if (a.place == LOGBUFFER_IN_LOG) met(&polling, log_bytes + (size_t)partition * TERM + a.start, a.length);
+        if (a.place == LOGBUFFER_IN_LOG) met(&polling, log_bytes + (size_t)p.partition * TERM + a.start, a.length);
         if (a.place == LOGBUFFER_IN_BUFFER) met(&polling, polling.buffer + a.start, a.length);
     }
 }

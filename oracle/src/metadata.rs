@@ -43,7 +43,7 @@ extern "C" {
     fn logbuffer_set_publication_limit(rec: *mut Lent, limit: i64) -> i32;
     fn logbuffer_offer(rec: *mut Lent, log: *mut u8, n: usize, message: *const u8, m: usize, reserved: i64) -> OfferReply;
     #[rustfmt::skip]
-    fn logbuffer_replay_count(rec: *const Lent, log: *const u8, n: usize, buffer: *mut u8, m: usize, position: i64, session: i32) -> CountReply;
+    fn logbuffer_replay_count(rec: *const Lent, log: *const u8, n: usize, position: i64, session: i32, buffer: *mut u8, m: usize) -> CountReply;
 }
 
 fn port_write(rec: &Lent, out: &mut [u8]) -> i32 {
@@ -553,7 +553,7 @@ fn log_of_the_rust(random: &mut Random) -> Result<u64, String> {
     let mut rec = lent(&random.numbers(), &b, 0, 1);
     let code = port_read(&mut rec, &section);
     let (terms, mut buffer) = (log.terms(), vec![0; 16 * TERM / 8]);
-    let count = unsafe { logbuffer_replay_count(&rec, terms.as_ptr(), terms.len(), buffer.as_mut_ptr(), buffer.len(), 0, 11) };
+    let count = unsafe { logbuffer_replay_count(&rec, terms.as_ptr(), terms.len(), 0, 11, buffer.as_mut_ptr(), buffer.len()) };
     let mut again = vec![0; 320];
     if (code, count.code, count.messages, count.bytes, port_write(&rec, &mut again)) != (0, 0, messages, bytes, 0) || again != section {
         return Err(format!("a log of the Rust's with {messages} messages of {bytes} bytes: {code}, {}, {} of {}", count.code, count.messages, count.bytes));

@@ -39,10 +39,10 @@ mod c {
     reply!(ScanReply { code: i32, offset: usize });
     reply!(FrameLengthReply { code: i32, state: i32, length: usize });
     reply!(GapReply { code: i32, is_gap: bool, is_being_written: bool, term_id: i32, offset: usize, length: usize });
-    reply!(AvailabilityReply { code: i32, outcome: i64 });
-    reply!(PollReply { code: i32, fragments: u32, entries: usize });
-    reply!(PeekReply { code: i32, entries: u32, position: i64 });
-    reply!(BlockReply { code: i32, offset: usize, length: usize, session_id: i32, term_id: i32 });
+    reply!(AvailabilityReply { code: i32, padding: u32, available: usize });
+    reply!(PollReply { code: i32, fragments: u32, entries: u32, partition: i32 });
+    reply!(PeekReply { code: i32, entries: u32, position: i64, partition: i32 });
+    reply!(BlockReply { code: i32, partition: i32, offset: usize, length: usize, session_id: i32, term_id: i32 });
     reply!(EndOfStreamReply { code: i32, is_eos: bool });
     reply!(AssemblyReply { code: i32, place: i32, start: usize, length: usize });
     reply!(NextReply { code: i32, place: i32, start: usize, length: usize });
@@ -99,17 +99,17 @@ mod c {
         ) -> AvailabilityReply;
         pub fn logbuffer_image_new(image: *mut Image, position: i64, session_id: i32);
         pub fn logbuffer_image_poll(
-            image: *mut Image, rec: *const Record, log: In, n: usize, entries: *mut i32, m: usize, limit: i32,
+            image: *mut Image, rec: *const Record, log: In, n: usize, limit: i32, entries: *mut i32, m: usize,
         ) -> PollReply;
         pub fn logbuffer_image_bounded_poll(
-            image: *mut Image, rec: *const Record, log: In, n: usize, entries: *mut i32, m: usize, limit_position: i64, limit: i32,
+            image: *mut Image, rec: *const Record, log: In, n: usize, limit_position: i64, limit: i32, entries: *mut i32, m: usize,
         ) -> PollReply;
         pub fn logbuffer_image_controlled_poll(
-            image: *mut Image, rec: *const Record, log: In, n: usize, entries: *mut i32, m: usize, actions: In, a: usize, limit: i32,
+            image: *mut Image, rec: *const Record, log: In, n: usize, limit: i32, entries: *mut i32, m: usize, actions: In, a: usize,
         ) -> PollReply;
         pub fn logbuffer_image_controlled_peek(
-            image: *const Image, rec: *const Record, log: In, n: usize, entries: *mut i32, m: usize, actions: In, a: usize, start: i64,
-            limit_position: i64,
+            image: *const Image, rec: *const Record, log: In, n: usize, start: i64, limit_position: i64, entries: *mut i32, m: usize,
+            actions: In, a: usize,
         ) -> PeekReply;
         pub fn logbuffer_image_block_poll(image: *mut Image, rec: *const Record, log: In, n: usize, limit: i32) -> BlockReply;
         pub fn logbuffer_image_set_position(image: *mut Image, rec: *const Record, log: In, n: usize, new_position: i64) -> i32;
@@ -117,12 +117,12 @@ mod c {
         pub fn logbuffer_image_close(image: *mut Image, rec: *const Record, log: In, n: usize) -> i32;
         pub fn logbuffer_assembler_new(assembler: *mut Assembler);
         pub fn logbuffer_assembler_on_fragment(
-            assembler: *mut Assembler, rec: *const Record, log: In, n: usize, buffer: Out, m: usize, partition: i32, offset: i32,
+            assembler: *mut Assembler, rec: *const Record, log: In, n: usize, partition: i32, offset: i32, buffer: Out, m: usize,
         ) -> AssemblyReply;
         pub fn logbuffer_replay_new(replay: *mut Replay, position: i64, session_id: i32);
         pub fn logbuffer_replay_next(replay: *mut Replay, rec: *const Record, log: In, n: usize, buffer: Out, m: usize) -> NextReply;
         pub fn logbuffer_replay_count(
-            rec: *const Record, log: In, n: usize, buffer: Out, m: usize, position: i64, session_id: i32,
+            rec: *const Record, log: In, n: usize, position: i64, session_id: i32, buffer: Out, m: usize,
         ) -> CountReply;
     }
 }
@@ -377,10 +377,15 @@ impl Port {
             }
             Call::ScanForAvailability { partition, offset, maximum } => {
                 let reply = unsafe { c::logbuffer_scan_for_availability(record, log, n, *partition, *offset, *maximum) };
-                Answer { code: reply.code, ..Answer::of(&[reply.outcome]) }
+                Answer { code: reply.code, ..Answer::of(&[((reply.padding as i64) << 32) + reply.available as i64]) }
             }
             _ => return None,
         })
+    }
+
+    /// The partition of a position, by division.
+    fn partition_of(&self, position: i64) -> i32 {
+        (position as u64 / self.record.term_length.max(1) as u64 % 3) as i32
     }
 
     /// Lends entries that end in a margin of their own. Of very many only the number counts: they are zeros, and not answered.
@@ -398,9 +403,10 @@ impl Port {
 
     fn polled(&mut self, image: usize, entries: usize, run: impl FnOnce(*mut Image, *mut i32, usize) -> c::PollReply) -> Answer {
         let mut next = self.images[image];
+        let wanted = self.partition_of(next.position);
         let answer = self.with_entries(entries, |lent, m| {
             let reply = run(&mut next, lent, m);
-            Answer { code: reply.code, ..Answer::of(&[reply.fragments as i64, reply.entries as i64]) }
+            Answer { code: in_partition(reply.code, reply.partition, wanted), ..Answer::of(&[reply.fragments as i64, reply.entries as i64]) }
         });
         self.images[image] = next;
         answer
@@ -410,27 +416,29 @@ impl Port {
         let (record, (log, n)) = (&self.record as *const Record, self.log());
         Some(match call {
             Call::Poll { image, entries, fragment_limit } => self.polled(*image, *entries, |image, lent, m| unsafe {
-                c::logbuffer_image_poll(image, record, log, n, lent, m, *fragment_limit)
+                c::logbuffer_image_poll(image, record, log, n, *fragment_limit, lent, m)
             }),
             Call::BoundedPoll { image, entries, limit_position, fragment_limit } => {
                 self.polled(*image, *entries, |image, lent, m| unsafe {
-                    c::logbuffer_image_bounded_poll(image, record, log, n, lent, m, *limit_position, *fragment_limit)
+                    c::logbuffer_image_bounded_poll(image, record, log, n, *limit_position, *fragment_limit, lent, m)
                 })
             }
             Call::ControlledPoll { image, entries, actions, fragment_limit } => {
                 let (bytes, a) = (actions.as_ptr(), actions.len());
                 self.polled(*image, *entries, |image, lent, m| unsafe {
-                    c::logbuffer_image_controlled_poll(image, record, log, n, lent, m, bytes, a, *fragment_limit)
+                    c::logbuffer_image_controlled_poll(image, record, log, n, *fragment_limit, lent, m, bytes, a)
                 })
             }
             Call::ControlledPeek { image, entries, actions, start, limit_position } => {
                 let (bytes, a) = (actions.as_ptr(), actions.len());
                 let from: *const Image = &self.images[*image];
+                let wanted = self.partition_of(*start);
                 self.with_entries(*entries, |lent, m| {
                     let reply = unsafe {
-                        c::logbuffer_image_controlled_peek(from, record, log, n, lent, m, bytes, a, *start, *limit_position)
+                        c::logbuffer_image_controlled_peek(from, record, log, n, *start, *limit_position, lent, m, bytes, a)
                     };
-                    Answer { code: reply.code, ..Answer::of(&[reply.position, reply.entries as i64]) }
+                    let code = in_partition(reply.code, reply.partition, wanted);
+                    Answer { code, ..Answer::of(&[reply.position, reply.entries as i64]) }
                 })
             }
             _ => return None,
@@ -445,8 +453,10 @@ impl Port {
                 Answer::default()
             }
             Call::BlockPoll { image, limit } => {
+                let wanted = self.partition_of(self.images[*image].position);
                 let r = unsafe { c::logbuffer_image_block_poll(&mut self.images[*image], record, log, n, *limit) };
-                Answer { code: r.code, ..Answer::of(&[r.offset as i64, r.length as i64, r.session_id as i64, r.term_id as i64]) }
+                let code = in_partition(r.code, r.partition, wanted);
+                Answer { code, ..Answer::of(&[r.offset as i64, r.length as i64, r.session_id as i64, r.term_id as i64]) }
             }
             Call::SetPosition { image, new_position } => {
                 let image = &mut self.images[*image];
@@ -481,7 +491,7 @@ impl Port {
             Call::ReplayCount { position, session_id, buffer } => {
                 let mut lent = Lent::zeroed(*buffer);
                 let out = lent.get_mut().as_mut_ptr();
-                let reply = unsafe { c::logbuffer_replay_count(record, log, n, out, *buffer, *position, *session_id) };
+                let reply = unsafe { c::logbuffer_replay_count(record, log, n, *position, *session_id, out, *buffer) };
                 self.strayed |= lent.margins_touched();
                 Answer { code: reply.code, ..Answer::of(&[reply.messages as i64, reply.bytes as i64]) }
             }
@@ -493,7 +503,7 @@ impl Port {
         let (record, (log, n)) = (self.record, self.log());
         let (buffer, m) = (self.buffer.get_mut().as_mut_ptr(), self.buffer.get().len());
         let reply = unsafe {
-            c::logbuffer_assembler_on_fragment(&mut self.assembler, &record, log, n, buffer, m, partition, offset)
+            c::logbuffer_assembler_on_fragment(&mut self.assembler, &record, log, n, partition, offset, buffer, m)
         };
         let term = (partition.max(0) as usize).wrapping_mul(record.term_length.max(0) as usize);
         let bytes = self.message(reply.place as i64, reply.start, term + reply.start, reply.length, false);
@@ -544,6 +554,15 @@ fn placed_first(call: &Call, mut answer: Answer) -> Answer {
     }
     answer.values[0] = place;
     answer
+}
+
+/// A reader's number, and -2 where its partition is another one, or not 0 beside a refusal: the Rust does not answer it.
+fn in_partition(code: i32, partition: i32, wanted: i32) -> i32 {
+    if partition == if code == 0 { wanted } else { 0 } {
+        code
+    } else {
+        -2
+    }
 }
 
 /// A call's number and its companion's: -1 where they differ.

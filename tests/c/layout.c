@@ -184,10 +184,10 @@ int main(void) {
     memset((uint8_t *)&image + 14, 0xd1, 2);
     memcpy(&was, &image, sizeof was);
     int32_t numbers[2];
-    int32_t code = logbuffer_image_poll(&image, rec(), log_bytes, LOG, numbers, 2, 1).code;
+    int32_t code = logbuffer_image_poll(&image, rec(), log_bytes, LOG, 1, numbers, 2).code;
     expect(code == 3 && memcmp(&was, &image, sizeof was) == 0, "a refused poll changes the image", (size_t)code);
     image.position = 0;
-    expect(logbuffer_image_poll(&image, rec(), log_bytes, LOG, numbers, 2, 1).fragments == 1, "a poll", 0);
+    expect(logbuffer_image_poll(&image, rec(), log_bytes, LOG, 1, numbers, 2).fragments == 1, "a poll", 0);
     expect(logbuffer_image_close(&image, rec(), log_bytes, LOG) == 0 && image.is_closed && !image.is_eos, "closing", 0);
     expect(memcmp((uint8_t *)&was + 14, (uint8_t *)&image + 14, 2) == 0 && image.position == 64 && image.session_id == SESSION, "the image", 0);
     metadata();

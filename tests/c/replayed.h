@@ -59,7 +59,7 @@ static int32_t replayed(const struct logbuffer_record *rec, const uint8_t *log, 
         struct logbuffer_next_reply n = logbuffer_replay_next(&at, rec, log, LOG, buffer, sizeof buffer);
         if (n.code != 0 || n.place == LOGBUFFER_NOTHING) {
             expect(i == count, "not as many messages as there should be", where);
-            struct logbuffer_count_reply c = logbuffer_replay_count(rec, log, LOG, buffer, sizeof buffer, 0, SESSION);
+            struct logbuffer_count_reply c = logbuffer_replay_count(rec, log, LOG, 0, SESSION, buffer, sizeof buffer);
             place = n.start;
             batched(rec, log, list, count, 1 + where % 7, n.code, where);
             expect(c.code == n.code && c.messages == (c.code != 0 ? place : count), "the count is another", where);

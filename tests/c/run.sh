@@ -4,7 +4,7 @@ set -eu
 here=$(cd "$(dirname "$0")" && pwd)
 root=$here/../..
 archive=${ARCHIVE:-$root/target/liblogbuffer.a}
-[ -f "$archive" ] || (cd "$root" && ./archive >/dev/null)
+[ -f "$archive" ] || { echo "there is no $archive: run ./archive first, which proves and builds target/liblogbuffer.a"; exit 1; }
 out=$(mktemp -d)
 trap 'rm -rf "$out"' EXIT
 for name in layout broken_off cut; do

@@ -60,7 +60,7 @@ impl Assembler {
     /// ```
     pub fn on_fragment<'a, B: Bytes>(&'a mut self, log: &'a Log<B>, fragment: &Fragment<'_>) -> Result<Option<&'a [u8]>, Error> {
         let (partition, offset) = (fragment.partition, fragment.offset);
-        let reply = sys::assembler_on_fragment(&mut self.sessions, &log.record, log.bytes.as_ref(), &mut self.buffer, partition, offset);
+        let reply = sys::assembler_on_fragment(&mut self.sessions, &log.record, log.bytes.as_ref(), partition, offset, &mut self.buffer);
         Error::check_frame(reply.code, partition, reply.start)?;
         Ok(match reply.place {
             sys::IN_LOG => Some(log.view(partition, reply.start as i32, reply.length as i32)?),

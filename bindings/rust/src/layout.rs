@@ -56,7 +56,7 @@ fn replies_have_the_sizes_of_c() {
     assert_eq!(size_of::<GapReply>(), 32);
     assert_eq!(size_of::<AvailabilityReply>(), 16);
     assert_eq!(size_of::<PollReply>(), 16);
-    assert_eq!(size_of::<PeekReply>(), 16);
+    assert_eq!(size_of::<PeekReply>(), 24);
     assert_eq!(size_of::<BlockReply>(), 32);
     assert_eq!(size_of::<EndOfStreamReply>(), 8);
     assert_eq!(size_of::<AssemblyReply>(), 24);
@@ -78,12 +78,13 @@ fn fields_of_replies_have_the_offsets_of_c() {
     assert_eq!([offset_of!(AppendClaimReply, is_tripped), offset_of!(AppendClaimReply, offset)], [4, 8]);
     assert_eq!(offset_of!(AppendClaimReply, claim), 16);
     assert_eq!([offset_of!(ReadReply, fragments), offset_of!(ReadReply, offset)], [4, 8]);
-    assert_eq!([offset_of!(PollReply, fragments), offset_of!(PollReply, entries)], [4, 8]);
-    assert_eq!([offset_of!(PeekReply, entries), offset_of!(PeekReply, position)], [4, 8]);
+    assert_eq!([offset_of!(AvailabilityReply, padding), offset_of!(AvailabilityReply, available)], [4, 8]);
+    assert_eq!([offset_of!(PollReply, fragments), offset_of!(PollReply, entries), offset_of!(PollReply, partition)], [4, 8, 12]);
+    assert_eq!([offset_of!(PeekReply, entries), offset_of!(PeekReply, position), offset_of!(PeekReply, partition)], [4, 8, 16]);
     assert_eq!([offset_of!(FrameLengthReply, state), offset_of!(FrameLengthReply, length)], [4, 8]);
     assert_eq!([offset_of!(GapReply, is_gap), offset_of!(GapReply, is_being_written)], [4, 5]);
     assert_eq!([offset_of!(GapReply, term_id), offset_of!(GapReply, offset)], [8, 16]);
-    assert_eq!([offset_of!(BlockReply, offset), offset_of!(BlockReply, session_id)], [8, 24]);
+    assert_eq!([offset_of!(BlockReply, partition), offset_of!(BlockReply, offset), offset_of!(BlockReply, session_id)], [4, 8, 24]);
     assert_eq!([offset_of!(NextReply, code), offset_of!(NextReply, place), offset_of!(NextReply, start)], [0, 4, 8]);
     assert_eq!([offset_of!(BatchReply, code), offset_of!(BatchReply, messages)], [0, 8]);
     assert_eq!([offset_of!(CardReadReply, card), offset_of!(CardReadReply, note_start)], [4, 24]);

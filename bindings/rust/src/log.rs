@@ -361,7 +361,7 @@ impl<B: Bytes> Log<B> {
             let term_id = self.header_at(partition, offset)?.term_id;
             let length = i32::try_from(size).map_err(|_| Error::ClaimMismatch)?;
             let claim = sys::Claim { partition, offset, length, term_id };
-            return Ok(OpenClaim::new(claim, position + i64::from(length + 31 & !31), self.identity));
+            return Ok(OpenClaim::new(claim, position + ((i64::from(length) + 31) & !31), self.identity));
         }
         Err(Error::ClaimMismatch)
     }

@@ -4,7 +4,7 @@
 //! So every call here is bounded by the publisher's position: what lies past it is of an older term, or nothing.
 
 use crate::log::Bytes;
-use crate::sys::{self, Header, Image};
+use crate::sys::{self, Header, Image, PollReply};
 use crate::{Error, FrameLength, Log};
 
 /// A frame's body that a reader came by, and its header. A message longer than the payload limit comes in several:
@@ -141,11 +141,11 @@ impl Poller {
         limit: usize,
         mut handler: impl FnMut(Fragment<'a>),
     ) -> Result<usize, Error> {
-        let partition = log.partition_of(self.image.position);
-        let (next, count) = self.look(log, limit_position, limit)?;
+        let (next, reply) = self.look(log, limit_position, limit)?;
         self.image = next;
+        let count = reply.entries as usize;
         for index in 0..count {
-            handler(self.fragment(log, partition, index)?);
+            handler(self.fragment(log, reply.partition, index)?);
         }
         Ok(count)
     }
@@ -170,17 +170,17 @@ impl Poller {
         limit: usize,
         handler: impl FnMut(Fragment<'a>) -> Action,
     ) -> Result<usize, Error> {
-        let partition = log.partition_of(self.image.position);
-        let (next, count) = self.look(log, i64::MAX, limit)?;
-        let actions = self.ask(log, partition, count, handler)?;
+        let (next, looked) = self.look(log, i64::MAX, limit)?;
+        let count = looked.entries as usize;
+        let actions = self.ask(log, looked.partition, count, handler)?;
         // With nothing stopped, a controlled poll is a poll, which has been made.
         if !is_stopped(&actions) {
             self.image = next;
             return Ok(count);
         }
         let limit = actions.len() as i32;
-        let reply = sys::image_controlled_poll(&mut self.image, &log.record, log.bytes.as_ref(), &mut self.entries, &actions, limit);
-        Error::check_frame(reply.code, partition, reply.fragments as usize)?;
+        let reply = sys::image_controlled_poll(&mut self.image, &log.record, log.bytes.as_ref(), limit, &mut self.entries, &actions);
+        Error::check_frame(reply.code, looked.partition, reply.fragments as usize)?;
         Ok(reply.fragments as usize)
     }
 
@@ -212,11 +212,11 @@ impl Poller {
         let limit_position = limit_position.min(log.publisher_position());
         let onward = vec![Action::Continue as u8; self.reserve(log, start, limit)];
         let peek = |image: &Image, entries: &mut [i32], actions: &[u8]| {
-            let reply = sys::image_controlled_peek(image, &log.record, log.bytes.as_ref(), entries, actions, start, limit_position);
+            let reply = sys::image_controlled_peek(image, &log.record, log.bytes.as_ref(), start, limit_position, entries, actions);
             Error::check_frame(reply.code, log.partition_of(start), reply.position as usize).map(|()| reply)
         };
         let first = peek(&self.image, &mut self.entries, &onward)?;
-        let actions = self.ask(log, log.partition_of(start), first.entries as usize, handler)?;
+        let actions = self.ask(log, first.partition, first.entries as usize, handler)?;
         if !is_stopped(&actions) {
             return Ok(first.position);
         }
@@ -237,13 +237,13 @@ impl Poller {
     pub fn block_poll<'a, B: Bytes>(&mut self, log: &'a Log<B>, limit: usize) -> Result<Option<Block<'a>>, Error> {
         self.check_place(log, self.image.position)?;
         let limit = limit.min(i32::MAX as usize).min(log.written_after(self.image.position)) as i32;
-        let partition = log.partition_of(self.image.position);
+        let place = log.partition_of(self.image.position);
         let reply = sys::image_block_poll(&mut self.image, &log.record, log.bytes.as_ref(), limit);
-        Error::check_frame(reply.code, partition, reply.offset)?;
+        Error::check_frame(reply.code, place, reply.offset)?;
         if reply.length == 0 {
             return Ok(None);
         }
-        let bytes = log.view(partition, reply.offset as i32, reply.length as i32)?;
+        let bytes = log.view(reply.partition, reply.offset as i32, reply.length as i32)?;
         Ok(Some(Block { bytes, term_offset: reply.offset, session_id: reply.session_id, term_id: reply.term_id }))
     }
 
@@ -315,7 +315,7 @@ impl Poller {
     pub fn ahead<B: Bytes>(&self, log: &Log<B>) -> Result<FrameLength, Error> {
         let position = self.image.position;
         // A poll of nothing, for the refusals of its position.
-        let nothing = sys::image_bounded_poll(&mut self.image.clone(), &log.record, log.bytes.as_ref(), &mut [], position, 0);
+        let nothing = sys::image_bounded_poll(&mut self.image.clone(), &log.record, log.bytes.as_ref(), position, 0, &mut []);
         Error::check(nothing.code)?;
         self.check_place(log, position)?;
         if position >= log.publisher_position() {
@@ -353,15 +353,15 @@ impl Poller {
         log.check_place(position)
     }
 
-    /// A bounded poll that leaves the reader where it is: the image that it answers, and how many entries it wrote.
-    fn look<B: Bytes>(&mut self, log: &Log<B>, limit_position: i64, limit: usize) -> Result<(Image, usize), Error> {
+    /// A bounded poll that leaves the reader where it is: the image that it answers, and the reply.
+    fn look<B: Bytes>(&mut self, log: &Log<B>, limit_position: i64, limit: usize) -> Result<(Image, PollReply), Error> {
         self.check_place(log, self.image.position)?;
         let limit_position = limit_position.min(log.publisher_position());
         let limit = self.reserve(log, self.image.position, limit) as i32;
         let mut next = self.image;
-        let reply = sys::image_bounded_poll(&mut next, &log.record, log.bytes.as_ref(), &mut self.entries, limit_position, limit);
+        let reply = sys::image_bounded_poll(&mut next, &log.record, log.bytes.as_ref(), limit_position, limit, &mut self.entries);
         let partition = log.partition_of(self.image.position);
-        Error::check_frame(reply.code, partition, reply.fragments as usize).map(|()| (next, reply.entries))
+        Error::check_frame(reply.code, partition, reply.fragments as usize).map(|()| (next, reply))
     }
 
     /// Makes room for as many entries as a limit asks for, or as frames can lie between a position and the publisher's, or in a term, if

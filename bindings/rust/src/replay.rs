@@ -244,7 +244,7 @@ impl<B: Bytes> Log<B> {
     pub fn count_from(&self, position: i64) -> Result<Count, Error> {
         self.check_place(position)?;
         let mut buffer = self.assembly_buffer();
-        let reply = sys::replay_count(&self.record, self.bytes.as_ref(), &mut buffer, position, self.record.session_id);
+        let reply = sys::replay_count(&self.record, self.bytes.as_ref(), position, self.record.session_id, &mut buffer);
         Error::check_frame(reply.code, None, reply.messages).map(|()| Count { messages: reply.messages, bytes: reply.bytes })
     }
 

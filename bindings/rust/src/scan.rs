@@ -129,8 +129,7 @@ impl<B: Bytes> Log<B> {
     /// ```
     pub fn scan_for_availability(&self, partition: i32, offset: i32, maximum: i32) -> Result<Availability, Error> {
         let reply = sys::scan_for_availability(&self.record, self.bytes.as_ref(), partition, offset, maximum);
-        Error::check_frame(reply.code, partition, reply.outcome as usize)?;
-        // The answer is padding * 2^32 + available.
-        Ok(Availability { available: reply.outcome as u32 as usize, padding: (reply.outcome >> 32) as usize })
+        Error::check_frame(reply.code, partition, reply.available)?;
+        Ok(Availability { available: reply.available, padding: reply.padding as usize })
     }
 }

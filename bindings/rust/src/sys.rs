@@ -176,10 +176,10 @@ replies! {
     ReadReply { code: i32, fragments: u32, offset: usize }
     ScanReply { code: i32, offset: usize }
     GapReply { code: i32, is_gap: bool, is_being_written: bool, term_id: i32, offset: usize, length: usize }
-    AvailabilityReply { code: i32, outcome: i64 }
-    PollReply { code: i32, fragments: u32, entries: usize }
-    PeekReply { code: i32, entries: u32, position: i64 }
-    BlockReply { code: i32, offset: usize, length: usize, session_id: i32, term_id: i32 }
+    AvailabilityReply { code: i32, padding: u32, available: usize }
+    PollReply { code: i32, fragments: u32, entries: u32, partition: i32 }
+    PeekReply { code: i32, entries: u32, position: i64, partition: i32 }
+    BlockReply { code: i32, partition: i32, offset: usize, length: usize, session_id: i32, term_id: i32 }
     EndOfStreamReply { code: i32, is_eos: bool }
     AssemblyReply { code: i32, place: i32, start: usize, length: usize }
     NextReply { code: i32, place: i32, start: usize, length: usize }
@@ -207,7 +207,7 @@ pub use face::{
 
 /// What makes the linker look for the face's version: an archive of another one does not link.
 #[used]
-static FACE: extern "C" fn() -> u32 = face::logbuffer_face_3;
+static FACE: extern "C" fn() -> u32 = face::logbuffer_face_4;
 
 #[allow(dead_code)] // the whole face stands here; what the safe calls have no use for too
 mod face {
@@ -227,7 +227,7 @@ mod face {
         pub safe fn logbuffer_position(rec: &Record) -> PositionReply;
         pub safe fn logbuffer_publication_limit(rec: &Record) -> PositionReply;
         pub safe fn logbuffer_available_window(rec: &Record) -> PositionReply;
-        pub safe fn logbuffer_face_3() -> u32;
+        pub safe fn logbuffer_face_4() -> u32;
         pub safe fn logbuffer_align(value: u32) -> usize;
         pub safe fn logbuffer_is_power_of_two(value: u32) -> bool;
         pub safe fn logbuffer_term_id(raw_tail: i64) -> i32;
@@ -283,19 +283,19 @@ mod face {
             rec: &Record, log: In, log_length: usize, partition: i32, offset: i32, maximum: i32,
         ) -> AvailabilityReply;
         pub fn logbuffer_image_poll(
-            image: &mut Image, rec: &Record, log: In, log_length: usize, entries: Entries, entries_length: usize, fragment_limit: i32,
+            image: &mut Image, rec: &Record, log: In, log_length: usize, fragment_limit: i32, entries: Entries, entries_length: usize,
         ) -> PollReply;
         pub fn logbuffer_image_bounded_poll(
-            image: &mut Image, rec: &Record, log: In, log_length: usize, entries: Entries, entries_length: usize, limit_position: i64,
-            fragment_limit: i32,
+            image: &mut Image, rec: &Record, log: In, log_length: usize, limit_position: i64, fragment_limit: i32, entries: Entries,
+            entries_length: usize,
         ) -> PollReply;
         pub fn logbuffer_image_controlled_poll(
-            image: &mut Image, rec: &Record, log: In, log_length: usize, entries: Entries, entries_length: usize, actions: In,
-            actions_length: usize, fragment_limit: i32,
+            image: &mut Image, rec: &Record, log: In, log_length: usize, fragment_limit: i32, entries: Entries, entries_length: usize,
+            actions: In, actions_length: usize,
         ) -> PollReply;
         pub fn logbuffer_image_controlled_peek(
-            image: &Image, rec: &Record, log: In, log_length: usize, entries: Entries, entries_length: usize, actions: In,
-            actions_length: usize, start: i64, limit_position: i64,
+            image: &Image, rec: &Record, log: In, log_length: usize, start: i64, limit_position: i64, entries: Entries,
+            entries_length: usize, actions: In, actions_length: usize,
         ) -> PeekReply;
         pub fn logbuffer_image_block_poll(image: &mut Image, rec: &Record, log: In, log_length: usize, limit: i32) -> BlockReply;
         pub fn logbuffer_image_set_position(
@@ -304,8 +304,8 @@ mod face {
         pub fn logbuffer_image_is_end_of_stream(image: &Image, rec: &Record, log: In, log_length: usize) -> EndOfStreamReply;
         pub fn logbuffer_image_close(image: &mut Image, rec: &Record, log: In, log_length: usize) -> i32;
         pub fn logbuffer_assembler_on_fragment(
-            assembler: &mut Assembler, rec: &Record, log: In, log_length: usize, buffer: Out, buffer_length: usize, partition: i32,
-            offset: i32,
+            assembler: &mut Assembler, rec: &Record, log: In, log_length: usize, partition: i32, offset: i32, buffer: Out,
+            buffer_length: usize,
         ) -> AssemblyReply;
         pub fn logbuffer_replay_next(
             replay: &mut Replay, rec: &Record, log: In, log_length: usize, buffer: Out, buffer_length: usize,
@@ -315,7 +315,7 @@ mod face {
             numbers_length: usize,
         ) -> BatchReply;
         pub fn logbuffer_replay_count(
-            rec: &Record, log: In, log_length: usize, buffer: Out, buffer_length: usize, position: i64, session_id: i32,
+            rec: &Record, log: In, log_length: usize, position: i64, session_id: i32, buffer: Out, buffer_length: usize,
         ) -> CountReply;
         pub fn logbuffer_card_write(
             card: Card, note: In, note_length: usize, out: Out, out_length: usize,
@@ -476,9 +476,9 @@ pub fn image_bounded_poll(
     image: &mut Image,
     rec: &Record,
     log: &[u8],
-    entries: &mut [i32],
     limit_position: i64,
     fragment_limit: i32,
+    entries: &mut [i32],
 ) -> PollReply {
     // SAFETY: pointers and lengths are those of the slices.
     unsafe {
@@ -487,10 +487,10 @@ pub fn image_bounded_poll(
             rec,
             log.as_ptr(),
             log.len(),
-            entries.as_mut_ptr(),
-            entries.len(),
             limit_position,
             fragment_limit,
+            entries.as_mut_ptr(),
+            entries.len(),
         )
     }
 }
@@ -499,9 +499,9 @@ pub fn image_controlled_poll(
     image: &mut Image,
     rec: &Record,
     log: &[u8],
+    fragment_limit: i32,
     entries: &mut [i32],
     actions: &[u8],
-    fragment_limit: i32,
 ) -> PollReply {
     // SAFETY: pointers and lengths are those of the slices.
     unsafe {
@@ -510,11 +510,11 @@ pub fn image_controlled_poll(
             rec,
             log.as_ptr(),
             log.len(),
+            fragment_limit,
             entries.as_mut_ptr(),
             entries.len(),
             actions.as_ptr(),
             actions.len(),
-            fragment_limit,
         )
     }
 }
@@ -523,10 +523,10 @@ pub fn image_controlled_peek(
     image: &Image,
     rec: &Record,
     log: &[u8],
-    entries: &mut [i32],
-    actions: &[u8],
     start: i64,
     limit_position: i64,
+    entries: &mut [i32],
+    actions: &[u8],
 ) -> PeekReply {
     // SAFETY: pointers and lengths are those of the slices.
     unsafe {
@@ -535,12 +535,12 @@ pub fn image_controlled_peek(
             rec,
             log.as_ptr(),
             log.len(),
+            start,
+            limit_position,
             entries.as_mut_ptr(),
             entries.len(),
             actions.as_ptr(),
             actions.len(),
-            start,
-            limit_position,
         )
     }
 }
@@ -569,9 +569,9 @@ pub fn assembler_on_fragment(
     assembler: &mut Assembler,
     rec: &Record,
     log: &[u8],
-    buffer: &mut [u8],
     partition: i32,
     offset: i32,
+    buffer: &mut [u8],
 ) -> AssemblyReply {
     // SAFETY: pointers and lengths are those of the slices.
     unsafe {
@@ -580,10 +580,10 @@ pub fn assembler_on_fragment(
             rec,
             log.as_ptr(),
             log.len(),
-            buffer.as_mut_ptr(),
-            buffer.len(),
             partition,
             offset,
+            buffer.as_mut_ptr(),
+            buffer.len(),
         )
     }
 }
@@ -609,9 +609,9 @@ pub fn replay_next_batch(replay: &mut Replay, rec: &Record, log: &[u8], buffer: 
     }
 }
 
-pub fn replay_count(rec: &Record, log: &[u8], buffer: &mut [u8], position: i64, session_id: i32) -> CountReply {
+pub fn replay_count(rec: &Record, log: &[u8], position: i64, session_id: i32, buffer: &mut [u8]) -> CountReply {
     // SAFETY: pointers and lengths are those of the slices.
-    unsafe { face::logbuffer_replay_count(rec, log.as_ptr(), log.len(), buffer.as_mut_ptr(), buffer.len(), position, session_id) }
+    unsafe { face::logbuffer_replay_count(rec, log.as_ptr(), log.len(), position, session_id, buffer.as_mut_ptr(), buffer.len()) }
 }
 
 pub fn card_write(card: Card, note: &[u8], out: &mut [u8]) -> CardWriteReply {

@@ -5,3 +5,5 @@ pub mod Kept
 pub mod Passed
 pub mod Steps
 pub mod Narrow
+pub mod Partitions
+pub mod Apart

@@ -1,7 +1,7 @@
 -- How what C keeps lies in words, what is proved of that, and how each answer crosses to C.
 pub mod Words
-pub mod Theorems
 pub mod Replies
+pub mod Theorems
 pub mod Cards
 pub mod Tallies
 pub mod Holdings

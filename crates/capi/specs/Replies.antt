@@ -1,14 +1,17 @@
 -- Each answer as it crosses to C: document 01's number, 0 for none, and 01's values (`Answers` of the model), 0 where there are none. The place of a frame
 -- that is refused crosses where an answer has its first value, or a message its start (R-7 of document 02).
-use Prim.Native.Nat.{ℕ, _-_, min}
-use mathlib.Core.Bool.{Bool, true, false}
+use Prim.Native.Nat.{ℕ, _-_, _/_, _%_, min}
+use mathlib.Core.Bool.{Bool, true, false, cond}
 use lib.Dec.{ltb}
 use lib.IntN.{ℤ, pos, negsuc}
 use lib.ListN.{getD, length}
 use Rattle.model.specs.Rule.{rulePlace}
-use Rattle.model.specs.Answers.{Told, outcomeTold, positionedTold, offeredTold, claimedTold, locatedTold, appendedTold, appendedClaimTold, headerTold, lengthReadTold, readTold, scannedTold, gapTold, availabilityTold, polledTold, peekedTold, blockTold, endTold, assembledTold, replayedTold}
+use Rattle.model.specs.Answers.{Told, outcomeTold, positionedTold, offeredTold, claimedTold, locatedTold, appendedTold, appendedClaimTold, headerTold, lengthReadTold, readTold, scannedTold, gapTold, polledTold, peekedTold, blockTold, endTold, assembledTold, replayedTold}
 use Rattle.model.specs.Errors.{numberOf, placeOf}
+use Rattle.model.specs.Bytes.{long}
+use Rattle.model.specs.LogBufferDescriptor.{partitionOf, reading}
 use Rattle.model.specs.TermReader.{natural}
+use Rattle.model.specs.declared.LogRecord.{LogRecord}
 use Rattle.model.specs.declared.Claim.{Claim}
 use Rattle.model.specs.declared.HeaderFields.{HeaderFields}
 use Rattle.model.specs.declared.Outcome.{Outcome}
@@ -26,6 +29,7 @@ use Rattle.model.specs.declared.Scanned.{Scanned}
 use Rattle.model.specs.declared.GapScanned.{GapScanned}
 use Rattle.model.specs.declared.GapScanned.the-variants.{Gap, NoGap, Refused as GapRefused}
 use Rattle.model.specs.declared.AvailabilityScanned.{AvailabilityScanned}
+use Rattle.model.specs.declared.AvailabilityScanned.the-variants.{Outcome as AvailabilityOutcome, Refused as AvailabilityRefused}
 use Rattle.model.specs.declared.Polled.{Polled}
 use Rattle.model.specs.declared.Peeked.{Peeked}
 use Rattle.model.specs.declared.BlockPolled.{BlockPolled}
@@ -165,21 +169,45 @@ gapReply a =
       length = size 3 (gapTold a);
     }
 
+-- Document 01 answers padding × 2^32 + available. Here the two stand apart, the quotient and the remainder of that number's bits; with a refusal the second is
+-- the place (`AvailabilityApart` of Theorems has them as the walk counts them).
 abbrev pub availabilityReply : AvailabilityScanned → AvailabilityReply
-availabilityReply a = record { code = availabilityTold a .number; outcome = valueOrPlace 0 (availabilityTold a) }
+availabilityReply (AvailabilityOutcome n) = record { code = pos 0; padding = long n / 4294967296; available = long n % 4294967296 }
+availabilityReply (AvailabilityRefused e) = record { code = numberOf e; padding = 0; available = placeOf e }
 
 -- ---- images
 
-abbrev pub pollReply : Polled → PollReply
-pollReply a = record { code = polledTold a .number; fragments = cut32 (sizeOrPlace 0 (polledTold a)); entries = size 1 (polledTold a) }
+-- the partition of the position at which a read begins: there lie the frames that it tells by their offsets in a term
+abbrev pub partitionAt : LogRecord → ℤ → ℤ
+partitionAt r p = pos (partitionOf (long p) (reading r .term))
 
-abbrev pub peekReply : Peeked → PeekReply
-peekReply a = record { code = peekedTold a .number; entries = cut32 (size 1 (peekedTold a)); position = valueOrPlace 0 (peekedTold a) }
+-- it stands beside an answer; a refusal, which has no values, has 0
+abbrev pub answeredIn : ℤ → Told → ℤ
+answeredIn k t = cond (ltb 0 (length (t .values))) k (pos 0)
 
-abbrev pub blockReply : BlockPolled → BlockReply
-blockReply a =
+abbrev pub pollReply : ℤ → Polled → PollReply
+pollReply k a =
+    record {
+      code = polledTold a .number;
+      fragments = cut32 (sizeOrPlace 0 (polledTold a));
+      entries = cut32 (size 1 (polledTold a));
+      partition = answeredIn k (polledTold a);
+    }
+
+abbrev pub peekReply : ℤ → Peeked → PeekReply
+peekReply k a =
+    record {
+      code = peekedTold a .number;
+      entries = cut32 (size 1 (peekedTold a));
+      position = valueOrPlace 0 (peekedTold a);
+      partition = answeredIn k (peekedTold a);
+    }
+
+abbrev pub blockReply : ℤ → BlockPolled → BlockReply
+blockReply k a =
     record {
       code = blockTold a .number;
+      partition = answeredIn k (blockTold a);
       offset = sizeOrPlace 0 (blockTold a);
       length = size 1 (blockTold a);
       «session_id» = value 2 (blockTold a);

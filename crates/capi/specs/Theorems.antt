@@ -1,22 +1,27 @@
 -- What is proved of the words, as statements. proofs/ has a proof of each, under the name that is said with it.
 use mathlib.Core.Path.{_≡_}
-use Prim.Native.Nat.{ℕ, _≤_}
+use Prim.Native.Nat.{ℕ, _-_, _*_, _≤_, min}
 use mathlib.Core.Bool.{Bool}
 use mathlib.Core.List.{List}
-use lib.IntN.{ℤ}
+use lib.IntN.{ℤ, pos}
 use lib.ListN.{length}
 use mir.Syntax.{w32, w64}
 use mir.Val.{SFits}
 use Rattle.model.specs.declared.LogRecord.{LogRecord}
 use Rattle.model.specs.declared.Error.{Error}
-use Rattle.model.specs.LogBufferDescriptor.{changed, noted}
-use Rattle.model.specs.TermReader.{walk}
+use Rattle.model.specs.declared.Verdict.the-variants.{Pass}
+use Rattle.model.specs.Bytes.{word}
+use Rattle.model.specs.LogBufferDescriptor.{changed, noted, reading}
+use Rattle.model.specs.TermReader.{natural, walk}
+use Rattle.model.specs.TermScan.{Available, availableFrom, availabilityJudge, availabilityOf}
 use Rattle.model.specs.Image.{movedTo}
 use Rattle.model.specs.History.{Call, offer, claim, fill, commit, abort, setLimit, close, clear, raise, World, step}
 use Rattle.model.specs.Corollaries.{RefusedWith}
 use Rattle.logbuffer.specs.Assembler.{sessionsOf}
 use Rattle.image.specs.Images.{stateOf}
 use Rattle.replay.specs.Replays.{stateOf as stateOfReplay}
+use Rattle.capi.specs.declared.replies.AvailabilityReply.{AvailabilityReply}
+use Rattle.capi.specs.Replies.{availabilityReply}
 use Rattle.capi.specs.Words.{at, recordIn, recordOut, limitOut, closedOut, slowestOut, marksOut, imageIn, imageOut, shutOut, assemblerIn, assemblerOut, replayIn, replayOut}
 
 -- an array of so many words of 64 bits, as a call is lent it
@@ -93,3 +98,17 @@ ImageBack = (w : List ℤ) (p : ℤ) → Words 2 w → stateOf (imageIn (imageOu
 abbrev pub NothingCut : Type 0
 NothingCut = (fuel : ℕ) (log : List ℕ) (base term end at limit : ℕ) (acts : List ℕ)
     → (walk fuel log base term end at limit acts .fragments ≤ limit) × (length (walk fuel log base term end at limit acts .entries) ≤ limit)
+
+-- ---- availability's two numbers
+
+-- what a scan for availability counts in a term
+abbrev pub countedFrom : LogRecord → List ℕ → ℤ → ℤ → ℤ → Available
+countedFrom r log partition offset maximum =
+    availableFrom (reading r .term) log (word partition * reading r .term) (reading r .term) (word offset)
+    (min (natural maximum) (reading r .term - word offset)) 0 0
+
+-- Of a scan that is not refused, the reply's numbers are those two: neither runs into the other (Apart, `availability-apart`).
+abbrev pub AvailabilityApart : Type 0
+AvailabilityApart = (r : LogRecord) (log : List ℕ) (partition offset maximum : ℤ) → availabilityJudge r log (word partition) (word offset) ≡ Pass
+    → availabilityReply (availabilityOf r log partition offset maximum)
+    ≡ record { code = pos 0; padding = countedFrom r log partition offset maximum .padding; available = countedFrom r log partition offset maximum .available }

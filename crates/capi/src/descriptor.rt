@@ -10,10 +10,10 @@ use logbuffer::log_buffer_descriptor;
 
 // The version of this face. Its number is in the name, so that a program made for another one does not link.
 #[no_mangle]
-pub extern "C" fn logbuffer_face_3() -> u32
-    ensures { λ r. ⌜ r ≡ 3 ⌝ }
+pub extern "C" fn logbuffer_face_4() -> u32
+    ensures { λ r. ⌜ r ≡ 4 ⌝ }
 {
-    3
+    4
 }
 
 #[no_mangle]

@@ -34,9 +34,9 @@ pub extern "C" fn logbuffer_assembler_on_fragment(
     assembler: &mut [i64; 25],
     rec: &[i64; 14],
     log: &[u8],
-    buffer: &mut [u8],
     partition: i32,
     offset: i32,
+    buffer: &mut [u8],
 ) -> AssemblyReply
     ensures { λ r. ⌜ r ≡ assemblyReply (assembleOf (recordIn (now (rec .entry))) (now (log .entry)) (sessionsOf (assemblerIn (now (assembler .entry)))) (now (buffer .entry)) partition offset .answer) ⌝ }
     ensures { λ _. ⌜ now (assembler .exit) ≡ assemblerOut (now (assembler .entry)) (assembleOf (recordIn (now (rec .entry))) (now (log .entry)) (sessionsOf (assemblerIn (now (assembler .entry)))) (now (buffer .entry)) partition offset .next) ⌝ }
@@ -129,9 +129,9 @@ pub extern "C" fn logbuffer_replay_next_batch(
 pub extern "C" fn logbuffer_replay_count(
     rec: &[i64; 14],
     log: &[u8],
-    buffer: &mut [u8],
     position: i64,
     session_id: i32,
+    buffer: &mut [u8],
 ) -> CountReply
     ensures { λ r. ⌜ r ≡ countReply (countOf (recordIn (now (rec .entry))) (now (log .entry)) position «session_id» (now (buffer .entry)) .answer) ⌝ }
     ensures { λ _. ⌜ now (buffer .exit) ≡ countOf (recordIn (now (rec .entry))) (now (log .entry)) position «session_id» (now (buffer .entry)) .buffer ⌝ }

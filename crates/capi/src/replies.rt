@@ -9,6 +9,7 @@ ghost use Rattle.model.specs.Answers.{answered};
 ghost use Rattle.model.specs.declared.FrameLengthRead.the-variants.{Length};
 ghost use Rattle.capi.specs.Replies.{outcomeNumber, cut32, positionReply, offerReply, claimReply, spanReply, appendReply, appendClaimReply, fieldsAt, headerReply, frameLengthReply, readReply, scanReply, gapReply, availabilityReply, pollReply, peekReply, blockReply, endOfStreamReply, assemblyReply, nextReply, batchReply, countReply};
 use crate::words;
+use logbuffer::cast;
 use logbuffer::errors;
 use model::Appended;
 use model::AppendedClaim;
@@ -119,14 +120,16 @@ pub struct GapReply {
 #[repr(C)]
 pub struct AvailabilityReply {
     pub code: i32,
-    pub outcome: i64,
+    pub padding: u32,
+    pub available: usize,
 }
 
 #[repr(C)]
 pub struct PollReply {
     pub code: i32,
     pub fragments: u32,
-    pub entries: usize,
+    pub entries: u32,
+    pub partition: i32,
 }
 
 #[repr(C)]
@@ -134,11 +137,13 @@ pub struct PeekReply {
     pub code: i32,
     pub entries: u32,
     pub position: i64,
+    pub partition: i32,
 }
 
 #[repr(C)]
 pub struct BlockReply {
     pub code: i32,
+    pub partition: i32,
     pub offset: usize,
     pub length: usize,
     pub session_id: i32,
@@ -457,61 +462,72 @@ pub fn gap_scanned(answer: GapScanned) -> GapReply
     }
 }
 
+// The two numbers apart: the upper 32 bits, and the lower.
 pub fn availability_scanned(answer: AvailabilityScanned) -> AvailabilityReply
     ensures { λ r. ⌜ r ≡ availabilityReply answer ⌝ }
 {
     match answer {
-        AvailabilityScanned::Outcome(outcome) => AvailabilityReply {
-            code: 0,
-            outcome: outcome,
-        },
+        AvailabilityScanned::Outcome(outcome) => {
+            let bits = cast::long(outcome);
+            AvailabilityReply {
+                code: 0,
+                padding: (bits / 4294967296) as u32,
+                available: bits % 4294967296,
+            }
+        }
         AvailabilityScanned::Refused(e) => AvailabilityReply {
             code: errors::number(e),
-            outcome: errors::place(e) as i64,
+            padding: 0,
+            available: errors::place(e) as usize,
         },
     }
 }
 
-pub fn polled(answer: Polled) -> PollReply
-    ensures { λ r. ⌜ r ≡ pollReply answer ⌝ }
+pub fn polled(answer: Polled, partition: i32) -> PollReply
+    ensures { λ r. ⌜ r ≡ pollReply partition answer ⌝ }
 {
     match answer {
         Polled::Fragments(fragments, entries) => PollReply {
             code: 0,
             fragments: narrow(fragments),
-            entries: entries,
+            entries: narrow(entries),
+            partition: partition,
         },
         Polled::Refused(e) => PollReply {
             code: errors::number(e),
             fragments: narrow(errors::place(e) as usize),
             entries: 0,
+            partition: 0,
         },
     }
 }
 
-pub fn peeked(answer: Peeked) -> PeekReply
-    ensures { λ r. ⌜ r ≡ peekReply answer ⌝ }
+pub fn peeked(answer: Peeked, partition: i32) -> PeekReply
+    ensures { λ r. ⌜ r ≡ peekReply partition answer ⌝ }
 {
     match answer {
         Peeked::Position(p, entries) => PeekReply {
             code: 0,
-            position: p,
             entries: narrow(entries),
+            position: p,
+            partition: partition,
         },
         Peeked::Refused(e) => PeekReply {
             code: errors::number(e),
-            position: errors::place(e) as i64,
             entries: 0,
+            position: errors::place(e) as i64,
+            partition: 0,
         },
     }
 }
 
-pub fn block_polled(answer: BlockPolled) -> BlockReply
-    ensures { λ r. ⌜ r ≡ blockReply answer ⌝ }
+pub fn block_polled(answer: BlockPolled, partition: i32) -> BlockReply
+    ensures { λ r. ⌜ r ≡ blockReply partition answer ⌝ }
 {
     match answer {
         BlockPolled::Block(offset, length, session_id, term_id) => BlockReply {
             code: 0,
+            partition: partition,
             offset: offset,
             length: length,
             session_id: session_id,
@@ -519,6 +535,7 @@ pub fn block_polled(answer: BlockPolled) -> BlockReply
         },
         BlockPolled::Refused(e) => BlockReply {
             code: errors::number(e),
+            partition: 0,
             offset: errors::place(e) as usize,
             length: 0,
             session_id: 0,
