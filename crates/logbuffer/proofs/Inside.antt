@@ -1,50 +1,56 @@
--- A frame whose header lies inside the log, by its length word without its sign: a frame that is being written shows a length above any room.
-use mathlib.Core.Path.{_≡_, refl, sym, ap, _∙_}
+-- What a frame is by its length word and its type, as the code asks for them.
+use mathlib.Core.Path.{_≡_, sym, ap, ap₂, _∙_}
 use mathlib.Core.Bool.{Bool, true, false, cond, _||_}
 use mathlib.Core.List.{List}
-use Prim.Native.Nat.{ℕ, _-_, _≤_, _<_}
+use Prim.Native.Nat.{ℕ, _≤_, _<_}
 use native.Mathlib.Omega.{arith}
-use borrow.Author.Tests.{ltb-true, ltb-false, lt-ltb, le-ltb}
+use borrow.Author.Tests.{ltb-true, ltb-false, lt-ltb, le-ltb, eq-eqb, ne-eqb}
 use lib.Dec.{eqb, ltb}
+use lib.IntN.{ℤ, pos, negsuc}
 use lib.ListN.{drop}
-use Rattle.model.specs.declared.FrameLength.the-variants.{Free, Writing, Finished}
+use lib.Signed.{ltZ}
+use mir.Syntax.{w32}
+use mir.Val.{SFits, toZ, ofZ}
+use mir.Facts.{toZ-ofZ}
 use Rattle.model.specs.declared.Frame.{Frame}
-use Rattle.model.specs.declared.Frame.the-variants.{Unsound}
+use Rattle.model.specs.declared.Frame.the-variants.{Absent, Unsound, Padding, Data}
 use Rattle.model.specs.Bytes.{u16, u32}
-use Rattle.model.specs.FrameDescriptor.{align, frameLength, unsoundLength, frameBy, frameAt}
-use Rattle.model.proofs.Both.{test}
-use Rattle.model.proofs.FrameLaws.{length-finished}
+use Rattle.model.specs.FrameDescriptor.{align, frameLength, frameBy, frameAt}
+use Rattle.model.proofs.FrameLaws.{length-free, length-writing, length-finished}
 
-short : (w room : ℕ) → w < 32 → unsoundLength w room ≡ true
-short w room h = rw (lt-ltb w 32 h)
-
-long : (w room : ℕ) → 32 ≤ w → room < align w → unsoundLength w room ≡ true
-long w room h l = rw (le-ltb w 32 h, lt-ltb room (align w) l)
-
--- no length has room where there is none
-none : (w : ℕ) → unsoundLength w 0 ≡ true
-none w = test (ltb w 32) (λ h. short w 0 (ltb-true w 32 h)) (λ h. long w 0 (ltb-false w 32 h) (let l = ltb-false w 32 h in omega arith))
-
-pub no-room : (w : ℕ) → Unsound w ≡ frameBy 0 0 (Finished w)
-no-room w = rw (none w)
-
--- a length that no sound frame has is told alike, whatever the type and the room
-unfit : (s : List ℕ) (room : ℕ) → unsoundLength (u32 s) room ≡ true → frameBy 0 0 (frameLength (u32 s)) ≡ frameAt s room
-unfolding frameAt frameLength
-unfit s room h = go (eqb (u32 s) 0) (ltb (u32 s) 2147483648)
+-- zero and less are no frame's length
+pub no-length : (k room : ℕ) (z : ℤ) → SFits w32 z → ltZ (toZ w32 (ofZ w32 z)) (pos 1) ≡ true → Absent ≡ frameBy k room (frameLength (ofZ w32 z))
+no-length k room z f h = go z f (ap (λ (x : ℤ). ltZ x (pos 1)) (sym (toZ-ofZ f)) ∙ h)
   where
-    go : (b1 b2 : Bool) → frameBy 0 0 (cond b1 Free (cond b2 (Finished (u32 s)) (Writing (4294967296 - u32 s)))) ≡ frameBy (u16 (drop 6 s)) room (cond b1 Free (cond b2 (Finished (u32 s)) (Writing (4294967296 - u32 s))))
-    go true b2 = refl
-    go false false = refl
-    go false true = rw (none (u32 s), h)
+    go : (y : ℤ) → SFits w32 y → ltZ y (pos 1) ≡ true → Absent ≡ frameBy k room (frameLength (ofZ w32 y))
+    go (pos n) f t = let l = ltb-true n 1 t in let e : ofZ w32 (pos n) ≡ 0 = omega arith in ap (frameBy k room) (length-free (ofZ w32 (pos n)) e)
+    go (negsuc n) f t = let l : 2147483648 ≤ ofZ w32 (negsuc n) = omega arith in ap (frameBy k room) (length-writing (ofZ w32 (negsuc n)) l)
 
--- and by the number that the code has
-pub too-short : (s : List ℕ) (room w : ℕ) (x : Frame) → w ≡ u32 s → w < 32 → x ≡ frameBy 0 0 (frameLength w) → x ≡ frameAt s room
-too-short s room w x e h f = f ∙ ap (λ (n : ℕ). frameBy 0 0 (frameLength n)) e ∙ unfit s room (short (u32 s) room (omega arith))
+pub a-length : (z : ℤ) → SFits w32 z → ltZ (toZ w32 (ofZ w32 z)) (pos 1) ≡ false → (0 < ofZ w32 z) × (ofZ w32 z < 2147483648)
+a-length z f h = go z f (ap (λ (x : ℤ). ltZ x (pos 1)) (sym (toZ-ofZ f)) ∙ h)
+  where
+    go : (y : ℤ) → SFits w32 y → ltZ y (pos 1) ≡ false → (0 < ofZ w32 y) × (ofZ w32 y < 2147483648)
+    go (pos n) f t = let l = ltb-false n 1 t in (omega arith, omega arith)
+    go (negsuc n) f t = absurd (let z : _≡_ {A = ℕ} 0 1 = cc in omega arith)
 
-pub too-long : (s : List ℕ) (room w : ℕ) (x : Frame) → w ≡ u32 s → 32 ≤ w → room < align w → x ≡ frameBy 0 0 (frameLength w) → x ≡ frameAt s room
-too-long s room w x e h l f = f ∙ ap (λ (n : ℕ). frameBy 0 0 (frameLength n)) e ∙ unfit s room (long (u32 s) room (omega arith) (omega arith))
+-- a finished length, judged
+module _ (k room n : ℕ) (l : (0 < n) × (n < 2147483648)) where
+  judged : frameBy k room (frameLength n) ≡ cond (ltb n 32 || ltb room (align n)) (Unsound n) (cond (eqb k 0) (Padding n) (Data n))
+  judged = let z : n ≡ 0 → ⊥ = λ e. omega (arith, l) in ap (frameBy k room) (sym (length-finished n z (l .1)))
 
--- a length that has room is a finished one
-pub has-room : (s : List ℕ) (room w : ℕ) → w ≡ u32 s → 32 ≤ w → align w ≤ room → room ≤ 2147483647 → frameLength (u32 s) ≡ Finished w
-has-room s room w e h l r = ap frameLength (sym e) ∙ sym (length-finished w (λ z. omega arith) (omega arith))
+  pub by-short : n < 32 → Unsound n ≡ frameBy k room (frameLength n)
+  by-short h = sym (judged ∙ rw (lt-ltb n 32 h))
+
+  pub by-long : 32 ≤ n → room < align n → Unsound n ≡ frameBy k room (frameLength n)
+  by-long h m = sym (judged ∙ rw (le-ltb n 32 h, lt-ltb room (align n) m))
+
+  pub by-padding : 32 ≤ n → align n ≤ room → k ≡ 0 → Padding n ≡ frameBy k room (frameLength n)
+  by-padding h m t = sym (judged ∙ rw (le-ltb n 32 h, le-ltb room (align n) m, eq-eqb k 0 t))
+
+  pub by-data : 32 ≤ n → align n ≤ room → (k ≡ 0 → ⊥) → Data n ≡ frameBy k room (frameLength n)
+  by-data h m t = sym (judged ∙ rw (le-ltb n 32 h, le-ltb room (align n) m, ne-eqb k 0 t))
+
+-- the frame at the beginning of s, by the length word and the type that were read there
+pub frame-is : (s : List ℕ) (room k w : ℕ) (x : Frame) → x ≡ frameBy k room (frameLength w) → w ≡ u32 s → k ≡ u16 (drop 6 s) → x ≡ frameAt s room
+unfolding frameAt
+frame-is s room k w x e ew ek = e ∙ ap₂ (λ (t n : ℕ). frameBy t room (frameLength n)) ek ew

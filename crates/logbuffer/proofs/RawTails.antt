@@ -1,12 +1,20 @@
 -- The upper half of a raw tail, read with its sign, and the exact arithmetic of a position.
-use mathlib.Core.Path.{_≡_, ap, _∙_}
-use Prim.Native.Nat.{suc, _-_, _/_, _<_}
+use mathlib.Core.Path.{_≡_, refl, ap, _∙_}
+use Prim.Native.Nat.{ℕ, suc, _-_, _/_, _<_}
 use native.Mathlib.Omega.{arith}
 use lib.IntN.{ℤ, pos, negsuc}
 use lib.Signed.{shrZ}
 use mir.Syntax.{w32, w64}
 use mir.Val.{Fits, SFits, ofZ, toZ}
 use mir.Facts.{toZ-pos, toZ-neg, ofZ-toZ, fits-ofZ}
+use Rattle.model.specs.declared.LogRecord.{LogRecord}
+use Rattle.model.specs.LogBufferDescriptor.{readingOf, tailOf}
+use Rattle.logbuffer.specs.Reads.{readingWith}
+
+-- the record's numbers with a partition's own tail
+pub reading-with : (r : LogRecord) (k : ℕ) → readingWith r (tailOf r k) ≡ readingOf r k
+unfolding readingWith readingOf
+reading-with r k = refl
 
 -- it fits 32 bits
 pub id-fits : (v : ℤ) → SFits w64 v → SFits w32 (shrZ v 4294967296)

@@ -159,60 +159,48 @@ pub fn frame_length_at(rec: LogRecord, log: &[u8], partition: i32, offset: i32) 
     }
 }
 
+// What a frame is by its length word, its type and the bytes to the term's end. Zero and less are one question, so that a reader asks no more than it must.
+fn frame_by(length: i32, kind: usize, room: usize) -> Frame
+    ensures { λ r. ⌜ r ≡ frameBy kind room (frameLength (word length)) ⌝ }
+{
+    if length < 1 {
+        return Frame::Absent;
+    }
+    let n = cast::word(length);
+    if n < HEADER_LENGTH {
+        return Frame::Unsound(n);
+    }
+    if room < (n + ALIGNMENT_MASK) / FRAME_ALIGNMENT * FRAME_ALIGNMENT {
+        return Frame::Unsound(n);
+    }
+    if kind == HDR_TYPE_PAD {
+        return Frame::Padding(n);
+    }
+    Frame::Data(n)
+}
+
 // What stands at an index of a log, with so many bytes to the term's end. No index is refused.
 pub fn frame_at(log: &[u8], at: usize, room: usize) -> Frame
     ensures { λ r. ⌜ r ≡ frameAt (drop at (now (log .entry))) room ⌝ }
 {
-    match length_at(log, at) {
-        FrameLength::Free => Frame::Absent,
-        FrameLength::Writing(_) => Frame::Absent,
-        FrameLength::Finished(n) => {
-            if n < HEADER_LENGTH {
-                return Frame::Unsound(n);
-            }
-            if room < (n + ALIGNMENT_MASK) / FRAME_ALIGNMENT * FRAME_ALIGNMENT {
-                return Frame::Unsound(n);
-            }
-            if frame_type(log, at) == HDR_TYPE_PAD {
-                Frame::Padding(n)
-            } else {
-                Frame::Data(n)
-            }
-        }
-    }
+    frame_by(
+        cast::to_i32(length_word(log, at)),
+        frame_type(log, at),
+        room,
+    )
 }
 
-// A length word where no frame has room: nothing, or a frame that is being written, or an unsound one.
-fn no_frame(word: usize) -> Frame
-    requires { ⌜ word < 4294967296 ⌝ }
-    ensures { λ r. ⌜ r ≡ frameBy 0 0 (frameLength word) ⌝ }
-{
-    if word == 0 {
-        return Frame::Absent;
-    }
-    if word > 2147483647 {
-        return Frame::Absent;
-    }
-    Frame::Unsound(word)
-}
-
-// What stands at an index that has a header's room before the log's end, as `frame_at` has it: shorter, since no byte can lie past the end, and since
-// the length of a frame that is being written is more than the room.
+// The same at an index that has a header's room before the log's end, where no byte can lie past it.
 pub(crate) fn frame_inside(log: &[u8], at: usize, room: usize) -> Frame
-    requires { ⌜ (at + 32 ≤ length (now log)) × (room ≤ 2147483647) ⌝ }
+    requires { ⌜ at + 32 ≤ length (now log) ⌝ }
     ensures { λ r. ⌜ r ≡ frameAt (drop at (now (log .entry))) room ⌝ }
 {
     let word = field::word4(log, at);
-    if word < HEADER_LENGTH {
-        return no_frame(word);
-    }
-    if room < (word + ALIGNMENT_MASK) / FRAME_ALIGNMENT * FRAME_ALIGNMENT {
-        return no_frame(word);
-    }
-    if field::half(log, at + TYPE_FIELD_OFFSET) == HDR_TYPE_PAD {
-        return Frame::Padding(word);
-    }
-    Frame::Data(word)
+    frame_by(
+        cast::to_i32(word),
+        field::half(log, at + TYPE_FIELD_OFFSET),
+        room,
+    )
 }
 
 // The refusal of an unsound frame, by its length and its offset in its term: too short for a header, or past the term's end.

@@ -4,6 +4,7 @@ ghost use Prim.Native.Nat.{_+_, _^_, _≤_, _<_};
 ghost use lib.IntN.{pos, _*ℤ_};
 ghost use mir.Syntax.{w32};
 ghost use mir.Val.{toZ};
+ghost use Rattle.logbuffer.specs.Reads.{readingWith};
 ghost use Rattle.model.specs.LogBufferDescriptor.{idPlus, idMinus, offsetOf, termId, termOffset, indexByTermCount, indexByPosition, bitsToShift, computePosition, tailOf, readingOf, reading, soundRecord, sound, withTail, withCount, withMark, isMarked, nextTail, rotateVerdict, rotateLogOf};
 use crate::cast;
 use crate::frame_descriptor::FRAME_ALIGNMENT;
@@ -122,13 +123,12 @@ fn tail(rec: LogRecord, partition: usize) -> i64
     0
 }
 
-// The record's numbers without signs, with the tail of a partition.
-pub fn read(rec: LogRecord, partition: usize) -> Reading
-    ensures { λ r. ⌜ r ≡ readingOf rec partition ⌝ }
+// The record's numbers without signs, with a raw tail that the caller has: it need not be looked for among three.
+pub fn read_with(rec: LogRecord, raw_tail: i64) -> Reading
+    ensures { λ r. ⌜ r ≡ readingWith rec «raw_tail» ⌝ }
 {
-    let raw = tail(rec, partition);
-    let id = cast::word(term_id(raw));
-    let offset = offset_bits(raw);
+    let id = cast::word(term_id(raw_tail));
+    let offset = offset_bits(raw_tail);
     Reading {
         term: cast::word(rec.term_length),
         mtu: cast::word(rec.mtu_length),
@@ -143,6 +143,13 @@ pub fn read(rec: LogRecord, partition: usize) -> Reading
         closed: rec.is_closed,
         slowest: cast::long(rec.slowest_position),
     }
+}
+
+// And with the tail of a partition.
+pub fn read(rec: LogRecord, partition: usize) -> Reading
+    ensures { λ r. ⌜ r ≡ readingOf rec partition ⌝ }
+{
+    read_with(rec, tail(rec, partition))
 }
 
 // The same at the active partition.

@@ -58,7 +58,7 @@ loop-holds c =
 
 -- before the end of a term of whole frames' lengths there is a header's room
 frame-inside-requires : tie.Need-frame-inside-requires Inv-loop μ-loop
-frame-inside-requires c κs = let l = c .before .before in let p = st l .pre in (omega (arith, p .0, p .1 .1 .0, l .loop .inv .1 .0), omega (arith, p .1 .0))
+frame-inside-requires c κs = let l = c .before .before in let p = st l .pre in omega (arith, p .0, p .1 .1 .0, l .loop .inv .1 .0)
 
 returns : tie.Need-returns Inv-loop μ-loop
 returns c =
