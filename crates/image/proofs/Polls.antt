@@ -30,7 +30,7 @@ use Rattle.model.proofs.ReadLaws.{walk-moved}
 use Rattle.model.proofs.Sound.{sound-true}
 use Rattle.image.specs.declared.PollReply.{PollReply as Reply}
 use Rattle.image.specs.declared.frames.PolledTo.{PolledTo}
-use Rattle.image.specs.Images.{imageOf, pollReplyOf, polledTo}
+use Rattle.image.specs.Images.{pollBy, imageOf, pollReplyOf, polledTo}
 use Rattle.image.proofs.Replies.{only-moved, poll-replied}
 use Rattle.image.proofs.Rungs.{after, readable-read, poll-after}
 use Rattle.image.proofs.Places.{walked-first, refused-first}
@@ -161,13 +161,16 @@ module _ (v : Reading) (log : List ℕ) (i : State) (slots : List ℤ) (good : B
 
 -- ---- the three calls, with the numbers as the code has them
 
-module _ (r : LogRecord) (log : List ℕ) (i : State) (slots : List ℤ) (fragments : ℤ) (v : Reading) (limit : ℕ) (good : Bool) (ev : v ≡ reading r) (el : limit ≡ natural fragments) where
-  pub as-poll : good ≡ goodEntries (length slots) limit → ending v log i slots good limit [] (v .term) ≡ pollOf r log i slots fragments
-  unfolding pollOf
-  as-poll eg =
-      let f : Reading → ℕ → PollReply = λ (x : Reading) (l : ℕ). ending x log i slots (goodEntries (length slots) l) l [] (x .term) in
-      ap (λ (b : Bool). ending v log i slots b limit [] (v .term)) eg ∙ ap₂ f ev el
+module _ (log : List ℕ) (i : State) (slots : List ℤ) (fragments : ℤ) (v : Reading) where
+  pub as-numbers : (limit : ℕ) (good : Bool) → limit ≡ natural fragments → good ≡ goodEntries (length slots) limit → ending v log i slots good limit [] (v .term) ≡ pollBy v log i slots fragments
+  as-numbers limit good el eg =
+      ap (λ (b : Bool). ending v log i slots b limit [] (v .term)) eg ∙ ap (λ (l : ℕ). ending v log i slots (goodEntries (length slots) l) l [] (v .term)) el
 
+  pub as-poll : (r : LogRecord) → v ≡ reading r → pollBy v log i slots fragments ≡ pollOf r log i slots fragments
+  unfolding pollOf
+  as-poll r ev = ap (λ (x : Reading). pollBy x log i slots fragments) ev
+
+module _ (r : LogRecord) (log : List ℕ) (i : State) (slots : List ℤ) (fragments : ℤ) (v : Reading) (limit : ℕ) (good : Bool) (ev : v ≡ reading r) (el : limit ≡ natural fragments) where
   pub as-controlled : (acts : List ℕ) → good ≡ (goodEntries (length slots) limit && (goodActions acts && (leb (length acts) 2147483647 && leb limit (length acts))))
       → ending v log i slots good limit acts (endOffset v (long (i .position)) 9223372036854775807) ≡ controlledPollOf r log i slots acts fragments
   unfolding controlledPollOf

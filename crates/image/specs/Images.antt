@@ -5,11 +5,13 @@ use mathlib.Core.Bool.{Bool}
 use mathlib.Core.List.{List, []}
 use lib.Count.{ones}
 use lib.IntN.{ℤ}
+use lib.ListN.{length}
 use Rattle.model.specs.declared.Reading.{Reading}
 use Rattle.model.specs.declared.ReadVerdict.{ReadVerdict}
 use Rattle.model.specs.declared.ReadVerdict.the-variants.{Read}
 use Rattle.model.specs.declared.Peeked.{Peeked}
 use Rattle.model.specs.Bytes.{long}
+use Rattle.model.specs.TermReader.{natural, goodEntries}
 use Rattle.model.specs.Image.{Image as State, PollReply as PollSaid, BlockReply as BlockSaid, ImageReply as ImageSaid, refuseIf, unsoundAt, unsoundFrameOf, blockEnd, blockLength, blockBy, imageBy, walkAt, endOffset, pollReply, pollVerdict}
 use Rattle.image.specs.declared.Image.{Image}
 use Rattle.image.specs.declared.PollReply.{PollReply}
@@ -48,6 +50,10 @@ pollUpTo v log i slots good bound limit acts =
 abbrev pub pollToTerm : Reading → List ℕ → State → List ℤ → Bool → ℕ → PollSaid
 pollToTerm v log i slots good limit =
     pollReply i slots (walkAt v log (long (i .position)) (v .term) limit []) (pollVerdict v log i good (v .term) limit)
+
+-- `pollOf` of `model`, for a record's numbers: with what row 1 says of the lent entries, and a limit below 0 taken as 0
+abbrev pub pollBy : Reading → List ℕ → State → List ℤ → ℤ → PollSaid
+pollBy v log i slots limit = pollToTerm v log i slots (goodEntries (length slots) (natural limit)) (natural limit)
 
 -- what of a reply is worked out, before the image takes its position
 abbrev pub polledTo : PollSaid → PolledTo

@@ -4,7 +4,7 @@ ghost use lib.IntN.{pos};
 ghost use lib.ListN.{getD};
 ghost use Rattle.model.specs.Image.{newImage, pollOf, boundedPollOf, controlledPollOf, setPositionOf, endOfStreamOf, closeImageOf, peekOf, peekSlots, blockPollOf};
 ghost use Rattle.model.specs.Replay.{pollOne};
-ghost use Rattle.image.specs.Images.{stateOf, imageOf, pollReplyOf, peekReplyOf, blockReplyOf, imageReplyOf};
+ghost use Rattle.image.specs.Images.{stateOf, imageOf, pollBy, pollReplyOf, peekReplyOf, blockReplyOf, imageReplyOf};
 use logbuffer::argument;
 use logbuffer::cast;
 use logbuffer::log_buffer_descriptor;
@@ -16,6 +16,7 @@ use model::Outcome;
 use model::Peeked;
 use model::Polled;
 use model::ReadVerdict;
+use model::Reading;
 
 mod block;
 mod frames;
@@ -81,10 +82,28 @@ impl Image {
         ensures { λ r. ⌜ r ≡ pollReplyOf (pollOf rec (now (log .entry)) (stateOf self) (now (entries .entry)) «fragment_limit») ⌝ }
         ensures { λ _. ⌜ now (entries .exit) ≡ pollOf rec (now (log .entry)) (stateOf self) (now (entries .entry)) «fragment_limit» .slots ⌝ }
     {
-        let v = log_buffer_descriptor::read_active(rec);
+        self.poll_on(
+            log_buffer_descriptor::read_active(rec),
+            log,
+            entries,
+            fragment_limit,
+        )
+    }
+
+    // The same, for a caller who has read the record's numbers.
+    pub fn poll_on(
+        mut self,
+        numbers: Reading,
+        log: &[u8],
+        entries: &mut [i32],
+        fragment_limit: i32,
+    ) -> PollReply
+        ensures { λ r. ⌜ r ≡ pollReplyOf (pollBy numbers (now (log .entry)) (stateOf self) (now (entries .entry)) «fragment_limit») ⌝ }
+        ensures { λ _. ⌜ now (entries .exit) ≡ pollBy numbers (now (log .entry)) (stateOf self) (now (entries .entry)) «fragment_limit» .slots ⌝ }
+    {
         let limit = argument::natural(fragment_limit);
         let good = ladder::good_entries(entries.len(), limit);
-        let to = frames::poll_term(self, v, log, entries, good, limit);
+        let to = frames::poll_term(self, numbers, log, entries, good, limit);
         let position = to.position;
         let answer = to.answer;
         self.position = position;

@@ -10,7 +10,7 @@ use mir.Facts.{toZ-ofZ}
 use Rattle.model.specs.Bytes.{long}
 use Rattle.model.specs.Image.{endOffset}
 use Rattle.image.specs.Images.{stateOf, pollReplyOf}
-use Rattle.image.proofs.Polls.{as-poll, to-term, replied}
+use Rattle.image.proofs.Polls.{as-numbers, as-poll, to-term, replied}
 use borrow.Author.Needs.{needs}
 use Rattle.image.proofs.Image.poll_one.Statement.{statement}
 use Rattle.image.proofs.Image.poll_one.Tie as tie
@@ -23,7 +23,7 @@ returns c =
     let f = c .before .before .before .poll-frames in
     let two = replicate 2 (pos 0) in
     let z : toZ w64 (ofZ w64 (f .result .position)) ≡ f .result .position = toZ-ofZ {w = w64} {z = f .result .position} (search needs) in
-    let k = to-term v (a .log .now) (stateOf (a .self)) two true 1 [] ∙ as-poll (a .rec) (a .log .now) (stateOf (a .self)) two (pos 1) v 1 true (c .before .before .before .before .before .before .read-active .ensures) refl refl in
+    let k = to-term v (a .log .now) (stateOf (a .self)) two true 1 [] ∙ as-numbers (a .log .now) (stateOf (a .self)) two (pos 1) v 1 true refl refl ∙ as-poll (a .log .now) (stateOf (a .self)) two (pos 1) v (a .rec) (c .before .before .before .before .before .before .read-active .ensures) in
     let n = replied v (a .log .now) (stateOf (a .self)) two true 1 [] (endOffset v (long (a .self .position)) 9223372036854775807) _ (f .result) z (f .ensures .0) in
     (n ∙ ap pollReplyOf k, toZ-ofZ {w = w32} {z = getD (f .last .1 .1 .1 .0) 0 (pos 0)} (search needs) ∙ ap (λ (s : List ℤ). getD s 0 (pos 0)) (f .ensures .1 ∙ ap (λ x. x .slots) k))
 
