@@ -48,11 +48,11 @@ pub extern "C" fn logbuffer_image_poll(
     let r = words::record_in(rec);
     let position = i.position;
     let term_length = r.term_length;
-    let partition = partition_at(term_length, position);
     let o = i.poll(r, log, entries, fragment_limit);
     let next = o.next;
     let answer = o.answer;
     words::image_out(image, next);
+    let partition = partition_at(term_length, position);
     replies::polled(answer, partition)
 }
 
@@ -73,11 +73,11 @@ pub extern "C" fn logbuffer_image_bounded_poll(
     let r = words::record_in(rec);
     let position = i.position;
     let term_length = r.term_length;
-    let partition = partition_at(term_length, position);
     let o = i.bounded_poll(r, log, entries, limit_position, fragment_limit);
     let next = o.next;
     let answer = o.answer;
     words::image_out(image, next);
+    let partition = partition_at(term_length, position);
     replies::polled(answer, partition)
 }
 
@@ -98,11 +98,11 @@ pub extern "C" fn logbuffer_image_controlled_poll(
     let r = words::record_in(rec);
     let position = i.position;
     let term_length = r.term_length;
-    let partition = partition_at(term_length, position);
     let o = i.controlled_poll(r, log, entries, actions, fragment_limit);
     let next = o.next;
     let answer = o.answer;
     words::image_out(image, next);
+    let partition = partition_at(term_length, position);
     replies::polled(answer, partition)
 }
 
@@ -123,9 +123,9 @@ pub extern "C" fn logbuffer_image_controlled_peek(
     let i = words::image_in(image);
     let r = words::record_in(rec);
     let term_length = r.term_length;
-    let partition = partition_at(term_length, start);
     let o = i.controlled_peek(r, log, entries, actions, start, limit_position);
     let answer = o.answer;
+    let partition = partition_at(term_length, start);
     replies::peeked(answer, partition)
 }
 
@@ -143,11 +143,11 @@ pub extern "C" fn logbuffer_image_block_poll(
     let r = words::record_in(rec);
     let position = i.position;
     let term_length = r.term_length;
-    let partition = partition_at(term_length, position);
     let o = i.block_poll(r, log, limit);
     let next = o.next;
     let answer = o.answer;
     words::image_out(image, next);
+    let partition = partition_at(term_length, position);
     replies::block_polled(answer, partition)
 }
 

@@ -24,9 +24,9 @@ term-fits c = search needs
 
 returns : tie.Need-returns
 returns c =
-    let kc = c .before .before .before .before in
-    let kp = kc .before in
-    let kr = kp .before .before .before in
+    let kp = c .before in
+    let kc = kp .before .before .before .before in
+    let kr = kc .before .before .before in
     let ki = kr .before in
     let s = ki .before .before .before in
     let a = s .args in
@@ -37,7 +37,7 @@ returns c =
     let k : kp .partition-at .result ≡ shifted (recordIn (a .rec .now)) (a .log .now) (imageIn (a .image .now) .position) =
     of-2 (λ (t p : ℤ). pos (indexByPosition (long p) (bitsToShift (word t)))) (kp .partition-at .ensures) (promised (ap (λ (x : LogRecord). x .«term_length») r) (term-fits kr)) (promised64 (ap (λ (x : Image). x .position) i) (let h = ki .image-in .ok in search (needs, h))) in
     let e = c .block-polled .ensures ∙ ap₂ (λ (x : ℤ) (o : BlockReply). blockReply x (o .answer)) (promised k (let h = kp .partition-at .ok in search (needs, h))) q0 ∙ block-in (recordIn (a .rec .now)) (a .log .now) (stateOf (imageIn (a .image .now))) (a .limit) in
-    (e, c .before .image-out .ensures ∙ ap (λ (o : BlockReply). imageOut (a .image .now) (stateOf (o .next))) q0)
+    (e, kp .before .image-out .ensures ∙ ap (λ (o : BlockReply). imageOut (a .image .now) (stateOf (o .next))) q0)
 
 pub logbuffer-image-block-poll-spec : {M : Type 1} → statement M
 logbuffer-image-block-poll-spec =

@@ -24,9 +24,9 @@ term-fits c = search needs
 
 returns : tie.Need-returns
 returns c =
-    let kc = c .before .before .before .before .before in
-    let kp = kc .before .before in
-    let kr = kp .before .before .before in
+    let kp = c .before in
+    let kc = kp .before .before .before .before .before in
+    let kr = kc .before .before .before .before in
     let ki = kr .before in
     let s = ki .before .before .before in
     let a = s .args in
@@ -38,7 +38,7 @@ returns c =
     let k : kp .partition-at .result ≡ shifted (recordIn (a .rec .now)) (a .log .now) (imageIn (a .image .now) .position) =
     of-2 (λ (t p : ℤ). pos (indexByPosition (long p) (bitsToShift (word t)))) (kp .partition-at .ensures) (promised (ap (λ (x : LogRecord). x .«term_length») r) (term-fits kr)) (promised64 (ap (λ (x : Image). x .position) i) (let h = ki .image-in .ok in search (needs, h))) in
     let e = c .polled .ensures ∙ ap₂ (λ (x : ℤ) (o : PollReply). pollReply x (o .answer)) (promised k (let h = kp .partition-at .ok in search (needs, h))) q0 ∙ bounded-in (recordIn (a .rec .now)) (a .log .now) (stateOf (imageIn (a .image .now))) (a .entries .now) (a .limit-position) (a .fragment-limit) in
-    (e, (c .before .image-out .ensures ∙ ap (λ (o : PollReply). imageOut (a .image .now) (stateOf (o .next))) q0, q1))
+    (e, (kp .before .image-out .ensures ∙ ap (λ (o : PollReply). imageOut (a .image .now) (stateOf (o .next))) q0, q1))
 
 pub logbuffer-image-bounded-poll-spec : {M : Type 1} → statement M
 logbuffer-image-bounded-poll-spec =

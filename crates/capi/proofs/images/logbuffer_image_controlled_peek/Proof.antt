@@ -24,9 +24,9 @@ term-fits c = search needs
 
 returns : tie.Need-returns
 returns c =
-    let kc = c .before .before in
-    let kp = kc .before .before in
-    let kr = kp .before .before in
+    let kp = c .before in
+    let kc = kp .before .before in
+    let kr = kc .before .before .before in
     let ki = kr .before in
     let s = ki .before .before .before in
     let a = s .args in
