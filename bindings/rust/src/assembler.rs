@@ -1,7 +1,7 @@
 //! Messages put together out of fragments, for readers that poll. Read replay.rs next.
 
-use crate::sys;
 use crate::log::Bytes;
+use crate::sys;
 use crate::{Error, Fragment, Log};
 
 /// Puts the fragments of up to 16 sessions together into messages.
@@ -60,7 +60,8 @@ impl Assembler {
     /// ```
     pub fn on_fragment<'a, B: Bytes>(&'a mut self, log: &'a Log<B>, fragment: &Fragment<'_>) -> Result<Option<&'a [u8]>, Error> {
         let (partition, offset) = (fragment.partition, fragment.offset);
-        let reply = sys::assembler_on_fragment(&mut self.sessions, &log.record, log.bytes.as_ref(), partition, offset, &mut self.buffer);
+        let reply =
+            sys::assembler_on_fragment(&mut self.sessions, &log.record, log.bytes.as_ref(), partition, offset, &mut self.buffer);
         Error::check_frame(reply.code, partition, reply.start)?;
         Ok(match reply.place {
             sys::IN_LOG => Some(log.view(partition, reply.start as i32, reply.length as i32)?),

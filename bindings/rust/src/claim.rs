@@ -78,7 +78,9 @@ impl<'a, B: Bytes> Claim<'a, B> {
         match span.code {
             // Out of its range in this log, though its own log answered it: it is of another log.
             1 => Err(Error::ClaimMismatch),
-            code => Error::check(code).map(|()| Claim { log, body: span.start..span.start + span.length, open, is_settled: false }),
+            code => {
+                Error::check(code).map(|()| Claim { log, body: span.start..span.start + span.length, open, is_settled: false })
+            }
         }
     }
 

@@ -15,6 +15,7 @@ pub struct Field<T> {
 
 /// What holds of a find: each field from the last card that has it, and where the walk ended.
 #[derive(Clone, Debug, PartialEq, Eq, Hash)]
+#[non_exhaustive]
 pub struct Holding {
     /// The find number, with the end of the last of its cards.
     pub find: Field<u32>,

@@ -84,7 +84,10 @@ fn fields_of_replies_have_the_offsets_of_c() {
     assert_eq!([offset_of!(FrameLengthReply, state), offset_of!(FrameLengthReply, length)], [4, 8]);
     assert_eq!([offset_of!(GapReply, is_gap), offset_of!(GapReply, is_being_written)], [4, 5]);
     assert_eq!([offset_of!(GapReply, term_id), offset_of!(GapReply, offset)], [8, 16]);
-    assert_eq!([offset_of!(BlockReply, partition), offset_of!(BlockReply, offset), offset_of!(BlockReply, session_id)], [4, 8, 24]);
+    assert_eq!(
+        [offset_of!(BlockReply, partition), offset_of!(BlockReply, offset), offset_of!(BlockReply, session_id)],
+        [4, 8, 24]
+    );
     assert_eq!([offset_of!(NextReply, code), offset_of!(NextReply, place), offset_of!(NextReply, start)], [0, 4, 8]);
     assert_eq!([offset_of!(BatchReply, code), offset_of!(BatchReply, messages)], [0, 8]);
     assert_eq!([offset_of!(CardReadReply, card), offset_of!(CardReadReply, note_start)], [4, 24]);

@@ -66,7 +66,6 @@ impl Log {
     pub fn builder() -> Builder {
         Builder::new()
     }
-
 }
 
 impl<B: Bytes> Log<B> {

@@ -121,7 +121,12 @@ impl Poller {
     /// assert_eq!(poller.poll(&log, 1, |_| ())?, 0);
     /// # Ok::<(), logbuffer::Error>(())
     /// ```
-    pub fn poll<'a, B: Bytes>(&mut self, log: &'a Log<B>, limit: usize, handler: impl FnMut(Fragment<'a>)) -> Result<usize, Error> {
+    pub fn poll<'a, B: Bytes>(
+        &mut self,
+        log: &'a Log<B>,
+        limit: usize,
+        handler: impl FnMut(Fragment<'a>),
+    ) -> Result<usize, Error> {
         self.bounded_poll(log, i64::MAX, limit, handler)
     }
 
@@ -179,7 +184,8 @@ impl Poller {
             return Ok(count);
         }
         let limit = actions.len() as i32;
-        let reply = sys::image_controlled_poll(&mut self.image, &log.record, log.bytes.as_ref(), limit, &mut self.entries, &actions);
+        let reply =
+            sys::image_controlled_poll(&mut self.image, &log.record, log.bytes.as_ref(), limit, &mut self.entries, &actions);
         Error::check_frame(reply.code, looked.partition, reply.fragments as usize)?;
         Ok(reply.fragments as usize)
     }
@@ -212,7 +218,8 @@ impl Poller {
         let limit_position = limit_position.min(log.publisher_position());
         let onward = vec![Action::Continue as u8; self.reserve(log, start, limit)];
         let peek = |image: &Image, entries: &mut [i32], actions: &[u8]| {
-            let reply = sys::image_controlled_peek(image, &log.record, log.bytes.as_ref(), start, limit_position, entries, actions);
+            let reply =
+                sys::image_controlled_peek(image, &log.record, log.bytes.as_ref(), start, limit_position, entries, actions);
             Error::check_frame(reply.code, log.partition_of(start), reply.position as usize).map(|()| reply)
         };
         let first = peek(&self.image, &mut self.entries, &onward)?;

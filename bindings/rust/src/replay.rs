@@ -128,7 +128,13 @@ impl<B: Bytes> Replay<'_, B> {
             return end.err().map(Err);
         }
         self.numbers.resize(4 * most.clamp(1, 536_870_911), 0);
-        let reply = sys::replay_next_batch(&mut self.replay, &self.log.record, self.log.bytes.as_ref(), &mut self.buffer, &mut self.numbers);
+        let reply = sys::replay_next_batch(
+            &mut self.replay,
+            &self.log.record,
+            self.log.bytes.as_ref(),
+            &mut self.buffer,
+            &mut self.numbers,
+        );
         let partition = self.log.partition_of(self.replay.image.position);
         let answer = Error::check_frame(reply.code, partition, reply.messages);
         if answer.is_err() || reply.messages == 0 {

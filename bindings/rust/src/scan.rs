@@ -1,7 +1,7 @@
 //! Scans of one term, for those who send or repair a log. Read log.rs for the rest of a log's calls.
 
-use crate::sys;
 use crate::log::Bytes;
+use crate::sys;
 use crate::{Error, Log};
 
 /// What a frame's length says of its place. Both lengths count the header's 32 bytes; whether they are sound is not judged.

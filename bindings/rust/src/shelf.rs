@@ -1,7 +1,7 @@
 //! Finished terms on the shelf: all headers of a term together, and back. Read log.rs next.
 
-use crate::sys::{self, Record};
 use crate::log::Bytes;
+use crate::sys::{self, Record};
 use crate::{Error, Log};
 
 /// Finished terms on the shelf: a term, every frame of which is finished, with all its headers together.

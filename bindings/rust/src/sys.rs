@@ -201,8 +201,7 @@ pub use face::{
     logbuffer_index_by_term_count as index_by_term_count, logbuffer_is_power_of_two as is_power_of_two,
     logbuffer_position as position, logbuffer_position_bits_to_shift as position_bits_to_shift,
     logbuffer_publication_limit as publication_limit, logbuffer_set_publication_limit as set_publication_limit,
-    logbuffer_set_slowest_position as set_slowest_position,
-    logbuffer_term_id as term_id, logbuffer_term_offset as term_offset,
+    logbuffer_set_slowest_position as set_slowest_position, logbuffer_term_id as term_id, logbuffer_term_offset as term_offset,
 };
 
 /// What makes the linker look for the face's version: an archive of another one does not link.

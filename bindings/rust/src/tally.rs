@@ -1,12 +1,13 @@
 //! Where a log's bytes went between two positions. Read log.rs for the rest of a log's calls.
 
-use crate::sys;
 use crate::log::Bytes;
+use crate::sys;
 use crate::{Error, Log, Sums};
 use std::fmt;
 
 /// Why a walk, of a tally or for the card that holds, ended where it did.
 #[derive(Clone, Copy, Debug, PartialEq, Eq, Hash)]
+#[non_exhaustive]
 pub enum Stop {
     /// It came to the second position.
     Reached,
@@ -135,6 +136,7 @@ impl fmt::Display for Tally {
 /// # Ok::<(), logbuffer::Error>(())
 /// ```
 #[derive(Clone, Copy, Debug, PartialEq, Eq, Hash)]
+#[non_exhaustive]
 pub struct PartitionTally {
     /// The sums of partitions 0, 1 and 2, over the frames that the walk passed there.
     pub partitions: [Sums; 3],
@@ -145,7 +147,12 @@ pub struct PartitionTally {
 impl fmt::Display for PartitionTally {
     fn fmt(&self, f: &mut fmt::Formatter<'_>) -> fmt::Result {
         let Tally { body, headers, slack, padding, end, stop } = self.whole;
-        let rows = ["0", "1", "2", "together"].into_iter().zip(self.partitions.into_iter().chain([Sums { body, headers, slack, padding }]));
+        let rows = ["0", "1", "2", "together"].into_iter().zip(self.partitions.into_iter().chain([Sums {
+            body,
+            headers,
+            slack,
+            padding,
+        }]));
         writeln!(f, "{:<10}{:>13}{:>13}{:>13}{:>13}", "partition", "body", "headers", "slack", "padding")?;
         for (name, Sums { body, headers, slack, padding }) in rows {
             writeln!(f, "{name:<10}{body:>13}{headers:>13}{slack:>13}{padding:>13}")?;

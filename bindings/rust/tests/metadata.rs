@@ -35,7 +35,7 @@ fn record(random: &mut Random) -> Record {
         publication_limit: (random.next() >> 2) as i64,
         end_of_stream_position: random.next() as i64,
         is_closed: random.below(2) == 1,
-        slowest_position: (random.next() % (1 << 47) & !31) as i64,
+        slowest_position: ((random.next() % (1 << 47)) & !31) as i64,
         cleared_marks: random.next() % 8,
         active_transport_count: random.next() as i32,
         page_size: random.next() as i32,

@@ -242,7 +242,10 @@ fn position_out_of_range_3_and_new_position_out_of_range_15_of_the_slowest_reade
         assert_eq!(log.register_reader(position).err(), Some(Error::PositionOutOfRange));
     }
     log.close().unwrap();
-    assert_eq!([64, 64, 32, 96].map(|position| log.set_slowest_position(position)), [Ok(()), Ok(()), Err(Error::NewPositionOutOfRange), Ok(())]);
+    assert_eq!(
+        [64, 64, 32, 96].map(|position| log.set_slowest_position(position)),
+        [Ok(()), Ok(()), Err(Error::NewPositionOutOfRange), Ok(())]
+    );
     assert_eq!(log.record().slowest_position, 96);
 }
 
