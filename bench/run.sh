@@ -9,7 +9,7 @@ here=$(cd "$(dirname "$0")" && pwd)
 root=$here/..
 given=${1:-$root/../shared/docs/src}
 archive=${2:-$root/target/liblogbuffer.a}
-[ -f "$archive" ] || (cd "$root" && ./archive >/dev/null)
+[ -f "$archive" ] || { echo "there is no $archive: run ./archive first, which proves and builds target/liblogbuffer.a"; exit 1; }
 "$here/inlined.sh" "$archive" >/dev/null || { "$here/inlined.sh" "$archive"; exit 1; }
 "$root/oracle/build.sh" "$given" "$archive" >/dev/null
 out=$here/target

@@ -10,10 +10,10 @@
  *   and changes it in place; where the pointer is to const it only reads it. All memory is the caller's; nothing is allocated.
  * - A slice is a pointer and a count of elements. The pointer must be valid for so many elements, and nothing that is written, slice or struct,
  *   may overlap anything else of the same call. Nothing else is asked: any number and any bytes may be handed in; a bool is yes unless its byte is 0.
- *   A pointer may be NULL where its count is 0.
+ *   A pointer may be NULL where its count is 0. A slice other than the log that is longer than 2147483647 is refused 1.
  * - Arguments come in one order: a reader's own struct (image, assembler, replay), the record, the log, then numbers, and last what else is lent, each slice as
- *   pointer and count: entries before actions, a buffer before numbers, what is read before what is written. A writer's message or bytes stand where the Rust has
- *   them, before the reserved value.
+ *   pointer and count: entries before actions, a buffer before the numbers of a batch, a note or a shelf before the output. A writer's message stands where the Rust
+ *   has it, before the reserved value.
  * - Callers take turns: while a call writes a log, its record or another struct, no other call may use it. Calls that only read may run at the same time
  *   on a log that nobody is writing, each with a struct of its own.
  * - The record changes in place, so nobody goes on with an old one unless it was copied on purpose. A record kept elsewhere is good with the log as it was then.
@@ -125,17 +125,27 @@ enum {
 /* The answers of a handler, one for each fragment. */
 enum { LOGBUFFER_ACTION_ABORT = 1, LOGBUFFER_ACTION_BREAK = 2, LOGBUFFER_ACTION_COMMIT = 3, LOGBUFFER_ACTION_CONTINUE = 4 };
 
-/* Ranges: of the term length, a power of two; of the mtu, a multiple of 32; how many partitions a log has, and sessions an assembler knows. */
+/* Ranges: of the term length, a power of two; of the mtu, a multiple of 32; how many partitions a log has, and sessions an assembler knows; the longest message in
+ * fragments, which is also at most an eighth of a term; the longest slice other than the log. */
 enum {
     LOGBUFFER_TERM_MIN_LENGTH = 65536,
     LOGBUFFER_TERM_MAX_LENGTH = 1073741824,
     LOGBUFFER_MTU_MIN_LENGTH = 64,
     LOGBUFFER_MTU_MAX_LENGTH = 65504,
     LOGBUFFER_PARTITION_COUNT = 3,
-    LOGBUFFER_MAX_SESSIONS = 16
+    LOGBUFFER_MAX_SESSIONS = 16,
+    LOGBUFFER_MAX_MESSAGE_LENGTH = 16777216,
+    LOGBUFFER_MAX_SLICE_LENGTH = 2147483647
 };
 
+/* The greatest publication limit; and the greatest position of a log, by its term length. */
+#define LOGBUFFER_MAX_PUBLICATION_LIMIT ((int64_t)1 << 62)
+#define LOGBUFFER_MAX_POSITION(term_length) ((int64_t)(term_length) << 31)
+
 /* ---- values */
+
+/* Calls look at the fields alone. Bytes between them, and the bits of cleared_marks above the third, mean nothing and stay; only the calls that fill a struct, logbuffer_open,
+ * the three logbuffer_.._new and logbuffer_read_metadata, make them 0. In a reply such bytes may hold anything: compare fields, not bytes. */
 
 /* A log's record. A raw tail has a term id in its upper 32 bits and an offset in its lower. Bit k of cleared_marks, of k 0 to 2, says that
  * partition k is cleared and not written yet; the other bits mean nothing, and calls leave them as they are. The last three numbers are the caller's: 0 at
@@ -507,7 +517,8 @@ LOGBUFFER_ANSWER int32_t logbuffer_set_slowest_position(struct logbuffer_record 
 LOGBUFFER_ANSWER int32_t logbuffer_close(struct logbuffer_record *rec);
 
 /* The next partition's tail becomes (term_id + 1, 0) if its id is term_id - 2, and the count rises by one if it is the one given. In any case
- * the mark of the next partition, (count + 1) % 3, goes; a partition that was not marked is no hindrance here. The answer is the number: 0, 1, 2, 12. */
+ * the mark of the next partition, (count + 1) % 3, goes; a partition that was not marked is no hindrance here. count is 0 or more, else 1; at 2147483647 it refuses 12;
+ * term_id may be any. The answer is the number: 0, 1, 2, 12. */
 LOGBUFFER_ANSWER int32_t logbuffer_rotate_log(struct logbuffer_record *rec, int32_t count, int32_t term_id);
 
 /* The publisher's position; its limit; what is left up to the limit, below 0 where the position is past it. Each refuses 2, 5. */
@@ -555,6 +566,8 @@ LOGBUFFER_ANSWER struct logbuffer_offer_reply logbuffer_offer(struct logbuffer_r
  * 2, 4, 5, 6, 7, 8, 9, 11, 12, 19, the last as an offer does. On a closed publication a length over the payload limit refuses 5, not 4. */
 LOGBUFFER_ANSWER struct logbuffer_claim_reply logbuffer_try_claim(struct logbuffer_record *rec, uint8_t *log, size_t log_length, int32_t length);
 
+/* Of a claim the partition is 0 to 2, the offset a multiple of 32, the length at least 32, and the aligned end inside the term, else 1. */
+
 /* Where the body of an open claim lies in the log, to be written by the caller; and the number alone. Each refuses 1, 2, 14. */
 LOGBUFFER_ANSWER struct logbuffer_span_reply logbuffer_claim_body(const struct logbuffer_record *rec, const uint8_t *log, size_t log_length,
                                                  struct logbuffer_claim claim);
@@ -569,7 +582,8 @@ LOGBUFFER_ANSWER int32_t logbuffer_claim_write(const struct logbuffer_record *re
 LOGBUFFER_ANSWER int32_t logbuffer_commit(const struct logbuffer_record *rec, uint8_t *log, size_t log_length, struct logbuffer_claim claim);
 LOGBUFFER_ANSWER int32_t logbuffer_abort(const struct logbuffer_record *rec, uint8_t *log, size_t log_length, struct logbuffer_claim claim);
 
-/* The appenders under offer and claim, on a partition (0 to 2) and a term id of the caller's choice. Each refuses 1, 2, 11, 13. */
+/* The appenders under offer and claim, on a partition (0 to 2) and a term id of the caller's choice, any. A message in fragments has at least 1 byte, and its payload limit
+ * is a positive multiple of 32; a claim's length is 0 or more. They look at no limit, no mark, no closed flag and no message limit. Each refuses 1, 2, 11, 13. */
 LOGBUFFER_ANSWER struct logbuffer_append_reply logbuffer_append_unfragmented_message(struct logbuffer_record *rec, uint8_t *log, size_t log_length,
                                                                     int32_t partition, const uint8_t *message, size_t message_length,
                                                                     int64_t reserved_value, int32_t term_id);
@@ -592,7 +606,7 @@ LOGBUFFER_ANSWER struct logbuffer_header_reply logbuffer_header_fields(const str
 LOGBUFFER_ANSWER struct logbuffer_frame_length_reply logbuffer_frame_length(const struct logbuffer_record *rec, const uint8_t *log, size_t log_length,
                                                            int32_t partition, int32_t offset);
 
-/* Hands out (offset, length) of each body as two numbers in entries, at most fragment_limit of them; entries_length is at least 2 * fragment_limit, and a
+/* Hands out (offset, length) of each body in the term as two numbers in entries, at most fragment_limit of them; entries_length is at least 2 * fragment_limit, and a
  * limit of 0 or less reads nothing. The offset may also be the term length, where nothing is left. Refuses 1, 2, 22, 23. */
 LOGBUFFER_ANSWER struct logbuffer_read_reply logbuffer_read(const struct logbuffer_record *rec, const uint8_t *log, size_t log_length, int32_t partition,
                                            int32_t offset, int32_t fragment_limit, int32_t *entries, size_t entries_length);
@@ -603,8 +617,9 @@ LOGBUFFER_ANSWER struct logbuffer_span_reply logbuffer_view(const struct logbuff
 LOGBUFFER_ANSWER int32_t logbuffer_view_number(const struct logbuffer_record *rec, const uint8_t *log, size_t log_length, int32_t partition, int32_t offset,
                               int32_t length);
 
-/* The end of the finished frames up to a limit, of which padding is taken only as the first, and then alone and even where it ends past
- * the limit; the gap in them up to a high mark; the bytes available for sending, and the padding after them. Each refuses 1, 2, 22, 23. */
+/* The end of the finished frames up to a limit, at most the term length, of which padding is taken only as the first, and then alone and even where it ends past
+ * the limit; the gap in them up to a high mark, a multiple of 32 up to the term length, and for the gap's reply a term id, any; the bytes available for sending up to a
+ * maximum, any, which is cut to what is left of the term, and the padding after them. Each refuses 1, 2, 22, 23. */
 LOGBUFFER_ANSWER struct logbuffer_scan_reply logbuffer_scan(const struct logbuffer_record *rec, const uint8_t *log, size_t log_length, int32_t partition,
                                            int32_t offset, int32_t limit);
 LOGBUFFER_ANSWER struct logbuffer_gap_reply logbuffer_scan_for_gap(const struct logbuffer_record *rec, const uint8_t *log, size_t log_length,
@@ -641,12 +656,12 @@ LOGBUFFER_ANSWER struct logbuffer_peek_reply logbuffer_image_controlled_peek(con
                                                             int64_t limit_position, int32_t *entries, size_t entries_length,
                                                             const uint8_t *actions, size_t actions_length);
 
-/* Moves past whole frames of together at most limit bytes and answers where they lie. Padding is taken only as the first frame, and then
+/* Moves past whole frames of together at most limit bytes, any number, and answers where they lie; 0 or less reads nothing. Padding is taken only as the first frame, and then
  * alone and even where it is longer than the limit: a caller who copies blocks into limit bytes has to look at the length first. Refuses 2, 3, 22, 23. */
 LOGBUFFER_ANSWER struct logbuffer_block_reply logbuffer_image_block_poll(struct logbuffer_image *image, const struct logbuffer_record *rec,
                                                         const uint8_t *log, size_t log_length, int32_t limit);
 
-/* Moves within the term. The answer is the number: 0, 2, 3, 15, 16. */
+/* Moves within the term: to a multiple of 32 from the position up to the term's end. The answer is the number: 0, 2, 3, 15, 16. */
 LOGBUFFER_ANSWER int32_t logbuffer_image_set_position(struct logbuffer_image *image, const struct logbuffer_record *rec, const uint8_t *log,
                                      size_t log_length, int64_t new_position);
 
@@ -664,9 +679,9 @@ LOGBUFFER_ANSWER int32_t logbuffer_image_close(struct logbuffer_image *image, co
  * that comes in fragments. It holds the fragments met so far, so hand the same buffer to each call and leave it alone in between. */
 void logbuffer_assembler_new(struct logbuffer_assembler *assembler);
 
-/* Takes the frame at an offset of a partition. An unfragmented message lies in the log, one put together lies in the buffer, until the
- * next call. Refuses 1, 2, 22, 23, 18. After 18 for fragments longer than their part that session stays entered, emptied, and the rest of the
- * message is ignored; 18 for a 17th session changes nothing. */
+/* Takes the frame at an offset of a partition: 0 to 2, and a multiple of 32 below the term length where a frame of positive length lies, else 1. An unfragmented
+ * message lies in the log, one put together lies in the buffer, until the next call. Refuses 1, 2, 22, 23, 18. After 18 for fragments longer than their part that
+ * session stays entered, emptied, and the rest of the message is ignored; 18 for a 17th session changes nothing. */
 LOGBUFFER_ANSWER struct logbuffer_assembly_reply logbuffer_assembler_on_fragment(struct logbuffer_assembler *assembler, const struct logbuffer_record *rec,
                                                                 const uint8_t *log, size_t log_length, int32_t partition,
                                                                 int32_t offset, uint8_t *buffer, size_t buffer_length);
