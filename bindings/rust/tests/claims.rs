@@ -93,3 +93,15 @@ fn a_claim_is_taken_up_in_a_log_made_of_its_parts() {
     assert_eq!(log.commit(open), Ok(32));
     assert_eq!(log.replay().next(), Some(Ok(Vec::new())));
 }
+
+#[test]
+fn a_length_that_no_claim_has_is_refused_and_not_added_up_past_32_bits() {
+    let mut log = log();
+    log.offer(b"coin").unwrap();
+    let (record, mut bytes) = log.into_parts();
+    bytes[..4].copy_from_slice(&(-i32::MAX).to_le_bytes());
+    let mut log = logbuffer::Log::from_parts(record, bytes).unwrap();
+    let open = log.open_claim_at(0).unwrap();
+    assert_eq!(open.position(), 1 << 31);
+    assert_eq!(log.commit(open), Err(Error::ClaimMismatch));
+}
