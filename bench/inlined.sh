@@ -7,8 +7,12 @@ set -eu
 archive=${1:-$(cd "$(dirname "$0")" && pwd)/../target/liblogbuffer.a}
 names=$(nm "$archive" | sed -n 's/^[0-9a-f]* [tT] //p')
 case "$names" in *logbuffer_offer*) ;; *) echo "inlined.sh: no functions in $archive"; exit 1 ;; esac
-for name in publication::offer publication::try_claim logbuffer::term_appender::append_one logbuffer::term_reader::read_on \
-    image::Image::poll replay::frames::next_whole capi::words::position_out capi::words::numbers; do
+for name in publication::fit::offer_fit publication::fit::claim_fit publication::fit::is_open logbuffer::term_appender::append_fit \
+    logbuffer::term_appender::claim_fit logbuffer::term_appender::fits logbuffer::header::write_fragment logbuffer::header::write_claim \
+    logbuffer::buffer_claim::commit logbuffer::log_buffer_descriptor::is_sound logbuffer::log_buffer_descriptor::read_with \
+    image::Image::poll_on image::frames::poll_term logbuffer::term_reader::read_term logbuffer::term_reader::walk_term \
+    logbuffer::frame_descriptor::frame_at logbuffer::frame_descriptor::frame_inside replay::frames::next_whole \
+    capi::words::reading_in capi::words::record_in capi::words::tail_out capi::words::record_numbers capi::words::position_out capi::words::numbers; do
     if echo "$names" | grep -qxF "$name"; then
         echo "inlined.sh: $name stands in the archive, and should be in its caller"
         exit 1

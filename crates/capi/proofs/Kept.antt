@@ -7,13 +7,15 @@ use mathlib.Core.List.{List}
 use native.Mathlib.Omega.{arith}
 use lib.IntN.{ℤ, pos, negsuc}
 use lib.ListN.{set}
-use lib.Seq.{set-getD}
+use lib.Seq.{set-getD, getD-set-other}
 use mir.Syntax.{w32, w64}
 use mir.Val.{Fits, SFits, ofZ, toZ}
 use mir.Facts.{toZ-ofZ, ofZ-toZ}
 use Rattle.model.specs.Bytes.{word, long}
+use Rattle.model.specs.declared.LogRecord.{LogRecord}
+use Rattle.model.specs.LogBufferDescriptor.{changed, tailOf}
 use Rattle.logbuffer.specs.Assembler.{sessionsOf}
-use Rattle.capi.specs.Words.{at, lowOf, highOf, pairOf, flagOf, bitOf, bitNumber, recordIn, marksOut, countOut, shutBits, idsFrom, heldFrom, idsTo, heldTo, assemblerFrom, assemblerTo}
+use Rattle.capi.specs.Words.{at, lowOf, highOf, pairOf, flagOf, bitOf, bitNumber, recordIn, recordOut, tailMoved, marksWord, marksOut, countOut, shutBits, idsFrom, heldFrom, idsTo, heldTo, assemblerFrom, assemblerTo}
 use Rattle.capi.specs.Theorems.{RecordKept, ImageKept, AssemblerKept, ReplayKept}
 
 -- ---- parts of a word
@@ -94,6 +96,44 @@ record-kept w h =
     closed : (b : Bool) → cond b w (cond b (set w 9 (toZ w64 (long (at w 9) + 1))) w) ≡ w
     closed true = refl
     closed false = refl
+
+-- One tail moved in its word is the record with it written out: the other words are those that were there.
+module _ (w : List ℤ) (t : ℤ) (fits : (i : ℕ) → SFits w64 (at w i)) where
+  abbrev moved : ℕ → LogRecord
+  moved k = tailMoved (recordIn w) k t
+
+  -- behind the tails
+  rest : (k : ℕ) {v : List ℤ} → v ≡ set w k t → (k ≡ 3 → ⊥) → (k ≡ 11 → ⊥) → marksOut (set v 3 (pairOf (lowOf (at w 3)) (highOf (at w 3)))) (moved k) ≡ set w k t
+  unfolding changed
+  rest k p three eleven =
+      let u = set w k t in
+      let third : at u 3 ≡ at w 3 = getD-set-other w k 3 t (pos 0) (λ e. three (sym e)) in
+      let last : at u 11 ≡ at w 11 = getD-set-other w k 11 t (pos 0) (λ e. eleven (sym e)) in
+      let q = stored u 3 p (pair-same (at w 3) (fits 3) ∙ sym third) in
+      ap (λ (v : List ℤ). marksOut v (moved k)) q
+      ∙ stored u 11 refl (ap (λ (z : ℤ). marksWord (long z) (moved k)) last ∙ marks-same (at w 11) (fits 11) (long (at w 11)) refl ∙ sym last)
+
+  pub tail-alone : (k : ℕ) → k < 3 → set w k t ≡ recordOut w (moved k)
+  unfolding changed
+  tail-alone zero h =
+      let u = set w 0 t in
+      let one : at w 1 ≡ at u 1 = sym (getD-set-other w 0 1 t (pos 0) (λ e. omega arith)) in
+      let two : at w 2 ≡ at u 2 = sym (getD-set-other w 0 2 t (pos 0) (λ e. omega arith)) in
+      sym (rest 0 (stored u 2 (stored u 1 refl one) two) (λ e. omega arith) (λ e. omega arith))
+  tail-alone (suc zero) h =
+      let u = set w 1 t in
+      let two : at w 2 ≡ at u 2 = sym (getD-set-other w 1 2 t (pos 0) (λ e. omega arith)) in
+      sym (rest 1 (stored u 2 (ap (λ (v : List ℤ). set v 1 t) (stored w 0 refl refl)) two) (λ e. omega arith) (λ e. omega arith))
+  tail-alone (suc (suc zero)) h =
+      sym (rest 2 (ap (λ (v : List ℤ). set v 2 t) (stored w 1 (stored w 0 refl refl) refl)) (λ e. omega arith) (λ e. omega arith))
+  tail-alone (suc (suc (suc k))) h = absurd (omega arith)
+
+-- the active partition's tail, by its word
+pub tail-at : (w : List ℤ) (k : ℕ) → k < 3 → at w k ≡ tailOf (recordIn w) k
+tail-at w zero h = refl
+tail-at w (suc zero) h = refl
+tail-at w (suc (suc zero)) h = refl
+tail-at w (suc (suc (suc k))) h = absurd (omega arith)
 
 pub image-kept : ImageKept
 image-kept w h = (stored w 0 refl refl, closed (flagOf (long (at w 1) / 4294967296)))

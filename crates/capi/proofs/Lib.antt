@@ -2,6 +2,7 @@
 pub mod Promised
 pub mod Halves
 pub mod Kept
+pub mod Fitted
 pub mod Passed
 pub mod Steps
 pub mod Narrow

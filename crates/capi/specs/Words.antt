@@ -28,7 +28,7 @@ use lib.ListN.{getD, set}
 use mir.Syntax.{w64}
 use mir.Val.{toZ}
 use Rattle.model.specs.Bytes.{word, long}
-use Rattle.model.specs.LogBufferDescriptor.{termId}
+use Rattle.model.specs.LogBufferDescriptor.{termId, changed}
 use Rattle.model.specs.declared.LogRecord.{LogRecord}
 use Rattle.model.specs.declared.Claim.{Claim}
 use Rattle.model.specs.declared.Outcome.{Outcome}
@@ -115,6 +115,10 @@ tailsOut w r = set (set (set (set w 0 (at (r .tails) 0)) 1 (at (r .tails) 1)) 2 
 
 abbrev pub recordOut : List ℤ → LogRecord → List ℤ
 recordOut w r = marksOut (tailsOut w r) r
+
+-- a record with one tail moved: what is written out of it after an append that fits
+abbrev pub tailMoved : LogRecord → ℕ → ℤ → LogRecord
+tailMoved r k tail = changed r (set (r .tails) k tail) (r .«active_term_count») (r .«publication_limit») (r .«is_closed»)
 
 -- after a limit change
 abbrev pub limitOut : List ℤ → LogRecord → List ℤ

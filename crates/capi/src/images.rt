@@ -48,11 +48,11 @@ pub extern "C" fn logbuffer_image_poll(
     let r = words::record_in(rec);
     let position = i.position;
     let term_length = r.term_length;
-    let o = i.poll(r, log, entries, fragment_limit);
+    let partition = partition_at(term_length, position);
+    let o = i.poll_on(words::reading_in(rec), log, entries, fragment_limit);
     let next = o.next;
     let answer = o.answer;
     words::image_out(image, next);
-    let partition = partition_at(term_length, position);
     replies::polled(answer, partition)
 }
 

@@ -1,19 +1,21 @@
 // What C keeps and lends by a pointer, as words: specs/Words.antt draws how a record, an image, an assembler and a replay lie. A call reads the words that
 // it needs and writes those that it changes; every index is a constant, so that nothing has to stand in memory besides.
 ghost use mathlib.Core.Path.{_≡_};
-ghost use Prim.Native.Nat.{ℕ};
+ghost use Prim.Native.Nat.{ℕ, _<_};
 ghost use lib.ListN.{set};
 ghost use mir.Syntax.{w64};
 ghost use mir.Val.{SFits};
+ghost use Rattle.model.specs.LogBufferDescriptor.{reading};
 ghost use Rattle.logbuffer.specs.Assembler.{sessionsOf};
 ghost use Rattle.image.specs.Images.{stateOf};
-ghost use Rattle.capi.specs.Words.{at, lowOf, highOf, pairOf, flagOf, bitOf, bitNumber, countOut, recordIn, marksWord, marksOut, slowestOut, recordOut, limitOut, closedOut, recordFilled, imageAt, imageIn, imageOut, shutBits, shutOut, imageFilled, idsFrom, heldFrom, idsTo, heldTo, assemblerIn, assemblerFrom, assemblerTo, assemblerOut, replayIn, claimWords};
+ghost use Rattle.capi.specs.Words.{at, lowOf, highOf, pairOf, flagOf, bitOf, bitNumber, countOut, recordIn, tailMoved, marksWord, marksOut, slowestOut, recordOut, limitOut, closedOut, recordFilled, imageAt, imageIn, imageOut, shutBits, shutOut, imageFilled, idsFrom, heldFrom, idsTo, heldTo, assemblerIn, assemblerFrom, assemblerTo, assemblerOut, replayIn, claimWords};
 use image::Image;
 use logbuffer::cast;
 use logbuffer::fragment_assembler::FragmentAssembler;
 use logbuffer::log_buffer_descriptor;
 use model::Claim;
 use model::LogRecord;
+use model::Reading;
 use replay::Replay;
 
 // ---- parts of a word
@@ -85,6 +87,15 @@ pub(crate) fn record_in(w: &[i64; 14]) -> LogRecord
     }
 }
 
+// The numbers of a record that lies in words, with the one tail that is asked for: the active partition's.
+pub(crate) fn reading_in(w: &[i64; 14]) -> Reading
+    ensures { λ r. ⌜ r ≡ reading (recordIn (now (w .entry))) ⌝ }
+{
+    let rec = record_in(w);
+    let k = cast::word(rec.active_term_count) % 3;
+    log_buffer_descriptor::read_with(rec, w[k])
+}
+
 // The marks in their three bits, beside bits that are kept.
 fn marks_word(bits: usize, next: LogRecord) -> i64
     ensures { λ r. ⌜ r ≡ marksWord bits next ⌝ }
@@ -122,6 +133,20 @@ pub(crate) fn record_out(w: &mut [i64; 14], next: LogRecord)
     w[2] = tails[2];
     w[3] = pair(next.active_term_count, next.initial_term_id);
     marks_out(w, next);
+}
+
+// Nothing is done here. Taken by value, words are known to be numbers of 64 bits, so that what is read of them and written back is what was there.
+fn record_numbers(w: [i64; 14])
+    ensures { λ _. ⌜ ((i : ℕ) → SFits w64 (at w i)) ⌝ }
+{}
+
+// After an append that moves one tail: its word alone. Count, marks and the other tails stay, which is to write back what is read there.
+pub(crate) fn tail_out(w: &mut [i64; 14], k: usize, tail: i64)
+    requires { ⌜ k < 3 ⌝ }
+    ensures { λ _. ⌜ now (w .exit) ≡ recordOut (now (w .entry)) (tailMoved (recordIn (now (w .entry))) k tail) ⌝ }
+{
+    record_numbers(*w);
+    w[k] = tail;
 }
 
 // After a limit change.

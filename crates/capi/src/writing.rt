@@ -17,12 +17,14 @@ use crate::replies::PositionReply;
 use crate::replies::SpanReply;
 use crate::words;
 use logbuffer::buffer_claim;
+use logbuffer::cast;
 use logbuffer::errors;
 use logbuffer::log_buffer_descriptor;
 use logbuffer::term_appender;
 use model::Claim;
 use model::Outcome;
 use publication::clearing;
+use publication::fit;
 use publication::opening;
 use publication::positions;
 
@@ -146,8 +148,8 @@ pub extern "C" fn logbuffer_available_window(rec: &[i64; 14]) -> PositionReply
     replies::positioned(positions::available_window(words::record_in(rec)))
 }
 
-#[no_mangle]
-pub extern "C" fn logbuffer_offer(
+// An offer by the whole record: all but those of one frame that nothing refuses and that fits.
+fn offer_by_all(
     rec: &mut [i64; 14],
     log: &mut [u8],
     message: &[u8],
@@ -165,12 +167,38 @@ pub extern "C" fn logbuffer_offer(
     replies::offered(answer, rule)
 }
 
+// An offer of one frame that fits moves one tail and no other word. All else, from two places so that it stays a call of its own, is left to
+// `offer_by_all`.
 #[no_mangle]
-pub extern "C" fn logbuffer_try_claim(
+pub extern "C" fn logbuffer_offer(
     rec: &mut [i64; 14],
     log: &mut [u8],
-    length: i32,
-) -> ClaimReply
+    message: &[u8],
+    reserved_value: i64,
+) -> OfferReply
+    ensures { λ r. ⌜ r ≡ offerReply (offerOf (recordIn (now (rec .entry))) (now (log .entry)) (now (message .entry)) .answer) (offerOf (recordIn (now (rec .entry))) (now (log .entry)) (now (message .entry)) .rule) ⌝ }
+    ensures { λ _. ⌜ now (rec .exit) ≡ recordOut (now (rec .entry)) (offerOf (recordIn (now (rec .entry))) (now (log .entry)) (now (message .entry)) .next) ⌝ }
+    ensures { λ _. ⌜ now (log .exit) ≡ offerBytes (recordIn (now (rec .entry))) (now (log .entry)) (now (message .entry)) «reserved_value» ⌝ }
+{
+    if message.len() > 65472 {
+        return offer_by_all(rec, log, message, reserved_value);
+    }
+    let v = words::reading_in(rec);
+    let fitted = fit::offer_fit(v, log, message, reserved_value);
+    let position = fitted.position;
+    if position == 0 {
+        return offer_by_all(rec, log, message, reserved_value);
+    }
+    words::tail_out(rec, v.count % 3, fitted.tail);
+    OfferReply {
+        code: 0,
+        rule: 15,
+        position: position,
+    }
+}
+
+// A claim by the whole record, in the same way.
+fn claim_by_all(rec: &mut [i64; 14], log: &mut [u8], length: i32) -> ClaimReply
     ensures { λ r. ⌜ r ≡ claimReply (claimOf (recordIn (now (rec .entry))) (now (log .entry)) length .answer) (claimOf (recordIn (now (rec .entry))) (now (log .entry)) length .rule) ⌝ }
     ensures { λ _. ⌜ now (rec .exit) ≡ recordOut (now (rec .entry)) (claimOf (recordIn (now (rec .entry))) (now (log .entry)) length .next) ⌝ }
     ensures { λ _. ⌜ now (log .exit) ≡ claimBytes (recordIn (now (rec .entry))) (now (log .entry)) length ⌝ }
@@ -181,6 +209,36 @@ pub extern "C" fn logbuffer_try_claim(
     let rule = o.rule;
     words::record_out(rec, next);
     replies::claimed(answer, rule)
+}
+
+// A claim that fits moves one tail and no other word.
+#[no_mangle]
+pub extern "C" fn logbuffer_try_claim(
+    rec: &mut [i64; 14],
+    log: &mut [u8],
+    length: i32,
+) -> ClaimReply
+    ensures { λ r. ⌜ r ≡ claimReply (claimOf (recordIn (now (rec .entry))) (now (log .entry)) length .answer) (claimOf (recordIn (now (rec .entry))) (now (log .entry)) length .rule) ⌝ }
+    ensures { λ _. ⌜ now (rec .exit) ≡ recordOut (now (rec .entry)) (claimOf (recordIn (now (rec .entry))) (now (log .entry)) length .next) ⌝ }
+    ensures { λ _. ⌜ now (log .exit) ≡ claimBytes (recordIn (now (rec .entry))) (now (log .entry)) length ⌝ }
+{
+    if length < 0 {
+        return claim_by_all(rec, log, length);
+    }
+    let v = words::reading_in(rec);
+    let fitted = fit::claim_fit(v, log, cast::word(length));
+    let position = fitted.position;
+    if position == 0 {
+        return claim_by_all(rec, log, length);
+    }
+    words::tail_out(rec, v.count % 3, fitted.tail);
+    let claim = fitted.claim;
+    ClaimReply {
+        code: 0,
+        rule: 17,
+        position: position,
+        claim: words::claim_words(claim),
+    }
 }
 
 #[no_mangle]
