@@ -139,28 +139,3 @@ finished-word w n e = go (eqb w 0) (ltb w 2147483648) refl e
     go true b2 e2 q = never Free refl q
     go false false e2 q = never (Writing (4294967296 - w)) refl q
     go false true e2 q = let k : w ≡ n = ap finishedLength q in (sym k, omega (arith, ltb-true w 2147483648 e2))
-
--- ---- the frame, by its length
-
-pub frame-absent : (s : List ℕ) (room : ℕ) (x : FrameLength) → frameLength (u32 s) ≡ x → isFinished x ≡ false → Absent ≡ frameAt s room
-unfolding frameAt
-frame-absent s room Free e h = sym (ap (frameBy (u16 (drop 6 s)) room) e)
-frame-absent s room (Writing n) e h = sym (ap (frameBy (u16 (drop 6 s)) room) e)
-frame-absent s room (Finished n) e h = absurd (let t : true ≡ false = h in let z : _≡_ {A = ℕ} 0 1 = cc in omega arith)
-
-module _ (s : List ℕ) (room n : ℕ) (e : frameLength (u32 s) ≡ Finished n) where
-  by-length : frameAt s room ≡ cond (ltb n 32 || ltb room (align n)) (Unsound n) (cond (eqb (u16 (drop 6 s)) 0) (Padding n) (Data n))
-  unfolding frameAt
-  by-length = ap (frameBy (u16 (drop 6 s)) room) e
-
-  pub frame-short : n < 32 → Unsound n ≡ frameAt s room
-  frame-short h = sym (by-length ∙ rw (lt-ltb n 32 h))
-
-  pub frame-long : 32 ≤ n → room < align n → Unsound n ≡ frameAt s room
-  frame-long h l = sym (by-length ∙ rw (le-ltb n 32 h, lt-ltb room (align n) l))
-
-  pub frame-padding : 32 ≤ n → align n ≤ room → u16 (drop 6 s) ≡ 0 → Padding n ≡ frameAt s room
-  frame-padding h l t = sym (by-length ∙ rw (le-ltb n 32 h, le-ltb room (align n) l, eq-eqb (u16 (drop 6 s)) 0 t))
-
-  pub frame-data : 32 ≤ n → align n ≤ room → (u16 (drop 6 s) ≡ 0 → ⊥) → Data n ≡ frameAt s room
-  frame-data h l t = sym (by-length ∙ rw (le-ltb n 32 h, le-ltb room (align n) l, ne-eqb (u16 (drop 6 s)) 0 t))
