@@ -1,25 +1,21 @@
 -- One step of the walk: what is known of a frame that it passes, and of a walk with any fuel.
-use mathlib.Core.Path.{_≡_, refl, sym, ap, _∙_}
+use mathlib.Core.Path.{_≡_, refl, sym, ap, ap₂, _∙_}
 use mathlib.Core.Bool.{Bool, true, false, cond, _&&_, _||_}
 use mathlib.Core.List.{List, [], _∷_}
 use Prim.Native.Nat.{ℕ, zero, suc, _+_, _-_, _%_, _≤_, _<_}
 use native.Mathlib.Omega.{arith}
-use borrow.Author.Tests.{leb-true, ltb-true, le-leb, lt-leb, lt-ltb, le-ltb, eqb-true, eqb-false, eq-eqb, ne-eqb}
+use borrow.Author.Tests.{leb-true, leb-false, ltb-true, le-leb, lt-leb, lt-ltb, le-ltb, eqb-true, eqb-false, eq-eqb, ne-eqb}
 use lib.Dec.{eqb, leb, ltb}
 use Rattle.model.specs.declared.Frame.{Frame}
 use Rattle.model.specs.declared.Frame.the-variants.{Absent, Unsound, Padding, Data}
 use Rattle.model.specs.FrameDescriptor.{align, isUnsound}
 use Rattle.model.proofs.FrameLaws.{Lies, lies, isFrame, lengthOf}
 use Rattle.model.proofs.Both.{and-true, both-true, test}
-use Rattle.tally.specs.Walk.{Stream, frameIn, seen, ownId, size, met, Passed, walked}
+use Rattle.tally.specs.declared.step.Met.{Met}
+use Rattle.tally.specs.Walk.{Stream, frameIn, seen, ownId, size, met, metOf, Passed, walked}
+use Rattle.tally.specs.Within.{metBy}
 
--- a frame that is passed is a padding or a data frame
-pub is-frame : (x : Frame) → (size x ≡ 0 → ⊥) → isFrame x ≡ true
-is-frame Absent h = absurd (h refl)
-is-frame (Unsound n) h = absurd (h refl)
-is-frame (Padding n) h = refl
-is-frame (Data n) h = refl
-
+-- what a padding or a data frame takes
 pub size-is : (x : Frame) → isFrame x ≡ true → size x ≡ align (lengthOf x)
 size-is Absent h = refl
 size-is (Unsound n) h = refl
@@ -52,14 +48,6 @@ kept-none Absent l false e f = rw e
 kept-none (Unsound n) l b e f = rw e
 kept-none (Padding n) l b e f = absurd (let z : _≡_ {A = ℕ} 0 1 = cc in omega arith)
 kept-none (Data n) l b e f = absurd (let z : _≡_ {A = ℕ} 0 1 = cc in omega arith)
-
-kept-not : (x : Frame) (l b : Bool) → b ≡ false → isFrame x ≡ true → Absent ≡ kept x l b
-kept-not Absent l b e f = absurd (let z : _≡_ {A = ℕ} 0 1 = cc in omega arith)
-kept-not (Unsound n) l b e f = absurd (let z : _≡_ {A = ℕ} 0 1 = cc in omega arith)
-kept-not (Padding n) true b e f = rw e
-kept-not (Padding n) false b e f = refl
-kept-not (Data n) true b e f = rw e
-kept-not (Data n) false b e f = refl
 
 kept-unsound : (x : Frame) (l b : Bool) → isUnsound (kept x l b) ≡ (l && isUnsound x)
 kept-unsound x false b = refl
@@ -137,13 +125,21 @@ module _ (s : Stream) (p : ℕ) where
       kept-none (seen s p) (ltb p to) _ (lt-ltb p to l)
       (test (isFrame (seen s p)) (λ f. absurd (omega (arith, size-is (seen s p) f, seen-lies f .header))) (λ f. f))
 
-  pub met-foreign : (to : ℕ) → isFrame (seen s p) ≡ true → ownId s p ≡ false → Absent ≡ met s to p
+  -- the same by the bytes that are left
+  pub met-left : (to : ℕ) → p < to → (x : Frame) (own : Bool) → x ≡ seen s p → own ≡ ownId s p → metBy x own (to - p) ≡ metOf s to p
   unfolding met
-  met-foreign to f o = kept-not (seen s p) (ltb p to) _ (rw o) f
+  met-left to l x own ex eo =
+      ap₂ (λ (y : Frame) (b : Bool). metBy y b (to - p)) ex eo
+      ∙ ap₂ (λ (t b : Bool). told (cond (t && (isUnsound (seen s p) || (ownId s p && b))) (seen s p) Absent)) (sym (lt-ltb p to l)) (left (size (seen s p)))
+    where
+      told : Frame → Met
+      told y = record { frame = y; size = size y }
 
-  pub met-past : (to : ℕ) → isFrame (seen s p) ≡ true → ownId s p ≡ true → to < p + size (seen s p) → Absent ≡ met s to p
-  unfolding met
-  met-past to f o h = kept-not (seen s p) (ltb p to) _ (rw (o, lt-leb (p + size (seen s p)) to h)) f
+      left : (n : ℕ) → leb n (to - p) ≡ leb (p + n) to
+      left n =
+          test (leb n (to - p))
+          (λ h. let k = leb-true n (to - p) h in h ∙ sym (le-leb (p + n) to (omega arith)))
+          (λ h. let k = leb-false n (to - p) h in h ∙ sym (lt-leb (p + n) to (omega arith)))
 
   -- it meets an unsound frame wherever it looks at one
   pub met-unsound : (to : ℕ) → isUnsound (met s to p) ≡ (ltb p to && isUnsound (seen s p))

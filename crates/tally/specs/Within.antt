@@ -1,17 +1,30 @@
 -- What the functions inside this crate answer each other.
 use Prim.Native.Nat.{ℕ, _-_, _/_, _%_, _≤_}
+use mathlib.Core.Bool.{Bool, cond, _&&_, _||_}
+use lib.Dec.{leb}
+use Rattle.model.specs.declared.Frame.{Frame}
+use Rattle.model.specs.declared.Frame.the-variants.{Absent}
+use Rattle.model.specs.FrameDescriptor.{isUnsound}
+use Rattle.tally.specs.declared.step.Met.{Met}
 use Rattle.tally.specs.declared.step.Spot.{Spot}
 use Rattle.tally.specs.declared.walk.Walked.{Walked}
 use Rattle.tally.specs.declared.partition.Part.{Part}
 use Rattle.tally.specs.declared.partition.Parts.{Parts}
 use Rattle.tally.specs.declared.partition.Parted.{Parted}
-use Rattle.tally.specs.Walk.{Stream, placeAt, between, endOf, why}
+use Rattle.tally.specs.Walk.{Stream, placeAt, size, between, endOf, why}
 use Rattle.tally.specs.Tally.{sumsOf}
 use Rattle.tally.specs.Partitions.{termIn, part, reaches, allReach, byParts, partitioned, partitionedEnd}
 
 -- where a position lies: its term's count, its offset there, its index in the log, and the bytes to its term's end
 abbrev pub spotOf : ℕ → ℕ → Spot
 spotOf term p = record { count = p / term; offset = p % term; index = placeAt term p; room = term - p % term }
+
+-- what is met of a frame that is seen, by whether it has its own id and by the bytes left to the walk's end
+abbrev pub keptBy : Frame → Bool → ℕ → Frame
+keptBy x own left = cond (isUnsound x || (own && leb (size x) left)) x Absent
+
+abbrev pub metBy : Frame → Bool → ℕ → Met
+metBy x own left = record { frame = keptBy x own left; size = size (keptBy x own left) }
 
 -- a walk by its numbers
 abbrev pub walkOf : Stream → ℕ → ℕ → Walked

@@ -9,7 +9,7 @@ ghost use Rattle.model.specs.DataFrameHeader.{headerAt};
 ghost use Rattle.model.proofs.FrameLaws.{lengthOf};
 ghost use Rattle.tally.specs.Walk.{streamBy, size as sizeOf, metOf, why as whyOf};
 ghost use Rattle.tally.specs.Span.{firstFrame};
-ghost use Rattle.tally.specs.Within.{spotOf};
+ghost use Rattle.tally.specs.Within.{spotOf, metBy};
 use logbuffer::cast;
 use logbuffer::frame_descriptor;
 use logbuffer::frame_descriptor::ALIGNMENT_MASK;
@@ -102,43 +102,62 @@ fn is_own(log: &[u8], index: usize, initial: i32, count: usize) -> bool
     frame_descriptor::term_id_at(log, index) == id
 }
 
-// What a walk up to `to` meets at p, which lies at a spot.
-pub(crate) fn meet_at(bits: u32, initial: i32, log: &[u8], to: usize, p: usize, at: Spot) -> Met
-    requires { ⌜ at ≡ spotOf (2 ^ min bits 30) p ⌝ }
-    ensures { λ r. ⌜ r ≡ metOf (streamBy bits (word initial) (now (log .entry))) to p ⌝ }
+// What is met of a frame that is seen, with so many bytes left to the walk's end: an unsound one, and any other that has its own id and does not pass the end.
+fn met_by(frame: Frame, is_own: bool, left: usize) -> Met
+    requires { ⌜ lengthOf frame < 2147483648 ⌝ }
+    ensures { λ r. ⌜ r ≡ metBy frame «is_own» left ⌝ }
 {
-    let nothing = Met {
-        frame: Frame::Absent,
-        size: 0,
-    };
-    if p >= to {
-        return nothing;
-    }
-    let frame = frame_descriptor::frame_at(log, at.index, at.room);
     let n = size(frame);
-    if n == 0 {
+    if let Frame::Unsound(_) = frame {
         return Met {
             frame: frame,
             size: 0,
         };
     }
-    if !is_own(log, at.index, initial, at.count) {
-        return nothing;
-    }
-    if n > to - p {
-        return nothing;
+    if is_own {
+        if n <= left {
+            return Met {
+                frame: frame,
+                size: n,
+            };
+        }
     }
     Met {
-        frame: frame,
-        size: n,
+        frame: Frame::Absent,
+        size: 0,
     }
 }
 
-// What a walk up to `to` meets at p.
+// What a walk up to `to` meets at p, which lies at a spot.
+pub(crate) fn meet_at(bits: u32, initial: i32, log: &[u8], to: usize, p: usize, at: Spot) -> Met
+    requires { ⌜ at ≡ spotOf (2 ^ min bits 30) p ⌝ }
+    ensures { λ r. ⌜ r ≡ metOf (streamBy bits (word initial) (now (log .entry))) to p ⌝ }
+{
+    if p >= to {
+        return Met {
+            frame: Frame::Absent,
+            size: 0,
+        };
+    }
+    let frame = frame_descriptor::frame_at(log, at.index, at.room);
+    let own = is_own(log, at.index, initial, at.count);
+    met_by(frame, own, to - p)
+}
+
+// What a walk up to `to` meets at p. It is not said by `meet_at`, so that each has one caller and is built into its loop.
 pub fn meet(bits: u32, initial: i32, log: &[u8], to: usize, p: usize) -> Met
     ensures { λ r. ⌜ r ≡ metOf (streamBy bits (word initial) (now (log .entry))) to p ⌝ }
 {
-    meet_at(bits, initial, log, to, p, locate(bits, p))
+    if p >= to {
+        return Met {
+            frame: Frame::Absent,
+            size: 0,
+        };
+    }
+    let at = locate(bits, p);
+    let frame = frame_descriptor::frame_at(log, at.index, at.room);
+    let own = is_own(log, at.index, initial, at.count);
+    met_by(frame, own, to - p)
 }
 
 // Rows 22 and 23, of the first frame of a walk.
