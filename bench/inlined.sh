@@ -12,7 +12,7 @@ for name in publication::fit::offer_fit publication::fit::claim_fit publication:
     logbuffer::buffer_claim::commit logbuffer::log_buffer_descriptor::is_sound logbuffer::log_buffer_descriptor::read_with \
     image::Image::poll_on image::frames::poll_term logbuffer::term_reader::read_term logbuffer::term_reader::walk_term \
     logbuffer::frame_descriptor::frame_at logbuffer::frame_descriptor::frame_inside replay::frames::next_whole \
-    capi::words::reading_in capi::words::record_in capi::words::tail_out capi::words::record_numbers capi::words::position_out capi::words::numbers; do
+    tally::step::meet_at tally::step::meet tally::step::met_by capi::words::reading_in capi::words::record_in capi::words::tail_out capi::words::record_numbers capi::words::position_out capi::words::numbers; do
     if echo "$names" | grep -qxF "$name"; then
         echo "inlined.sh: $name stands in the archive, and should be in its caller"
         exit 1
