@@ -10,8 +10,9 @@ case "$names" in *logbuffer_offer*) ;; *) echo "inlined.sh: no functions in $arc
 for name in publication::fit::offer_fit publication::fit::claim_fit publication::fit::is_open logbuffer::term_appender::append_fit \
     logbuffer::term_appender::claim_fit logbuffer::term_appender::fits logbuffer::header::write_fragment logbuffer::header::write_claim \
     logbuffer::buffer_claim::commit logbuffer::log_buffer_descriptor::is_sound logbuffer::log_buffer_descriptor::read_with \
-    image::Image::poll_on image::frames::poll_term logbuffer::term_reader::read_term logbuffer::term_reader::walk_term \
-    logbuffer::frame_descriptor::frame_at logbuffer::frame_descriptor::frame_inside replay::frames::next_whole \
+    image::Image::poll_on image::frames::poll_term logbuffer::term_reader::read_on logbuffer::term_reader::walk_term \
+    logbuffer::frame_descriptor::frame_at logbuffer::frame_descriptor::frame_inside logbuffer::frame_descriptor::whole_length \
+    replay::frames::next_whole replay::frames::whole_from replay::frames::base_at \
     tally::step::meet_at tally::step::meet tally::step::met_by capi::words::reading_in capi::words::record_in capi::words::tail_out capi::words::record_numbers capi::words::position_out capi::words::numbers; do
     if echo "$names" | grep -qxF "$name"; then
         echo "inlined.sh: $name stands in the archive, and should be in its caller"

@@ -1,6 +1,6 @@
 #!/bin/sh
 # Builds the given Rust and the driver as release builds, links the port's archive, and prints the table. The ratio under lto=fat is that of a
-# second run, of the driver built with link-time optimization over the Rust and it. The instructions are callgrind's, of one more run of the first
+# second run, of the driver built with link-time optimization over the Rust and it. The instructions are callgrind's, of one more run of each
 # driver, where valgrind is at hand; the driver's own are among them, on both sides.
 #
 #   run.sh [FOLDER [ARCHIVE]]   FOLDER holds the given sources, as for oracle/build.sh; ARCHIVE is the port for C.
@@ -26,25 +26,30 @@ rustc $bin -C lto=fat -C link-arg="$archive" "$here/src/main.rs" -o "$out/bench-
 "$out/bench-lto" >"$out/bench-lto.txt"
 
 # Each side of each row is one call of `measured`, and one part of callgrind's output, in order.
-rm -f "$out"/callgrind.*
-: >"$out/instructions.txt"
-if command -v valgrind >/dev/null; then
+counted() { # DRIVER
+    rm -f "$out"/callgrind.*
     valgrind --tool=callgrind --toggle-collect='bench::measured' --dump-after='bench::measured' --callgrind-out-file="$out/callgrind" \
-        "$out/bench" --instructions >"$out/units.txt" 2>"$out/callgrind.log"
+        "$out/$1" --instructions >"$out/units.txt" 2>"$out/callgrind.log"
     part=0
     while IFS='|' read -r name units; do
         for side in rust port; do
             part=$((part + 1))
-            echo "$name|$side|$(sed -n 's/^totals: //p' "$out/callgrind.$part")|$units"
+            echo "$name|$1 $side|$(sed -n 's/^totals: //p' "$out/callgrind.$part")|$units"
         done
-    done <"$out/units.txt" >"$out/instructions.txt"
+    done <"$out/units.txt"
+}
+: >"$out/instructions.txt"
+if command -v valgrind >/dev/null; then
+    for driver in bench bench-lto; do
+        counted "$driver"
+    done >"$out/instructions.txt"
 fi
 
 awk -F'|' '
     FILENAME ~ /instructions/ { count[$1 $2] = sprintf("%.0f", $3 / $4); next }
     FILENAME ~ /lto/ { lto[$2] = $5; next }
-    { name = substr($2, 2, length($2) - 2); print $0 lto[$2] "| " count[name "rust"] " | " count[name "port"] " |" }
+    { name = substr($2, 2, length($2) - 2); print $0 lto[$2] "| " count[name "bench rust"] " | " count[name "bench-lto rust"] " | " count[name "bench port"] " |" }
     BEGIN {
-        print "| Row | the Rust, ns | the port, ns | ratio | ratio, lto=fat | the Rust, instructions | the port, instructions |"
-        print "|---|---|---|---|---|---|---|"
+        print "| Row | the Rust, ns | the port, ns | ratio | ratio, lto=fat | the Rust, instructions | the same, lto=fat | the port, instructions |"
+        print "|---|---|---|---|---|---|---|---|"
     }' "$out/instructions.txt" "$out/bench-lto.txt" "$out/bench.txt"

@@ -183,10 +183,11 @@ fn scans(count: usize) {
 
 /// The Rust has no opening; its side is `fill(0)`, a call of memset, over as much memory.
 fn opening() {
-    let mut memory = vec![1u8; 3 * TERM as usize];
+    let mut memory = port::Memory::zeroed(3 * TERM as usize);
+    memory.fill(1);
     let mut ours = port::Log::open(TERM, MTU);
     let fill = || {
-        black_box(&mut memory).fill(0);
+        black_box(&mut *memory).fill(0);
     };
     row("opening, beside memset, a KiB", 3 * TERM as usize / 1024, fill, || ours.reopen(TERM, MTU));
 }

@@ -18,6 +18,8 @@ use Rattle.model.specs.TermReader.{natural, goodEntries, goodActions, goodContr
 use Rattle.model.specs.Image.{Image as State, refuseIf, readable, endOffset, walkAt, pollVerdict, polledBy, pollOf, boundedPollOf, controlledPollOf, peekWalk, peekVerdict, peekedBy, peekOf, blockVerdict, blockLength, blockBy, blockPollOf}
 use Rattle.model.proofs.Sound.{sound-true}
 use Rattle.logbuffer.proofs.Shifts.{partition-by}
+use Rattle.image.specs.Images.{shiftedIn}
+use Rattle.image.proofs.Places.{shift-in}
 use Rattle.capi.specs.declared.replies.PollReply.{PollReply}
 use Rattle.capi.specs.declared.replies.PeekReply.{PeekReply}
 use Rattle.capi.specs.declared.replies.BlockReply.{BlockReply}
@@ -43,12 +45,16 @@ module _ (r : LogRecord) (log : List ℕ) where
   unfolding readingOf
   sound-shift p h = let s = sound-true (reading r) (length log) h in ap pos (partition-by (reading r .term) (s .term-high) (s .one-bit) (long p))
 
+  -- and as a poll has worked it out
+  abbrev pub shifted-on : ℤ → ℤ
+  shifted-on p = pos (shiftedIn (reading r .term) (long p))
+
   module _ (i : State) (slots : List ℤ) where
-    pub poll-in : (limit : ℤ) → pollReply (shifted (i .position)) (pollOf r log i slots limit .answer) ≡ pollReply (partitionAt r (i .position)) (pollOf r log i slots limit .answer)
+    pub poll-in : (limit : ℤ) → pollReply (shifted-on (i .position)) (pollOf r log i slots limit .answer) ≡ pollReply (partitionAt r (i .position)) (pollOf r log i slots limit .answer)
     unfolding pollOf pollVerdict readable
     poll-in limit =
         one-reply (λ x k. pollReply k (polledBy (walkAt (reading r) log (long (i .position)) (reading r .term) (natural limit) []) x)) _ _ (λ e. refl)
-        (goodEntries (length slots) (natural limit)) (sound (reading r) (length log)) _ (sound-shift (i .position))
+        (goodEntries (length slots) (natural limit)) (sound (reading r) (length log)) _ (λ h. ap pos (shift-in (reading r) (length log) (long (i .position)) h))
 
     pub bounded-in : (bound limit : ℤ)
         → pollReply (shifted (i .position)) (boundedPollOf r log i slots bound limit .answer) ≡ pollReply (partitionAt r (i .position)) (boundedPollOf r log i slots bound limit .answer)

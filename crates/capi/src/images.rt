@@ -45,15 +45,12 @@ pub extern "C" fn logbuffer_image_poll(
     ensures { λ _. ⌜ now (entries .exit) ≡ pollOf (recordIn (now (rec .entry))) (now (log .entry)) (stateOf (imageIn (now (image .entry)))) (now (entries .entry)) «fragment_limit» .slots ⌝ }
 {
     let i = words::image_in(image);
-    let r = words::record_in(rec);
-    let position = i.position;
-    let term_length = r.term_length;
-    let partition = partition_at(term_length, position);
     let o = i.poll_on(words::reading_in(rec), log, entries, fragment_limit);
-    let next = o.next;
-    let answer = o.answer;
+    let reply = o.reply;
+    let next = reply.next;
+    let answer = reply.answer;
     words::image_out(image, next);
-    replies::polled(answer, partition)
+    replies::polled(answer, o.partition as i32)
 }
 
 #[no_mangle]

@@ -211,7 +211,8 @@ fn claim_by_all(rec: &mut [i64; 14], log: &mut [u8], length: i32) -> ClaimReply
     replies::claimed(answer, rule)
 }
 
-// A claim that fits moves one tail and no other word.
+// A claim that fits moves one tail and no other word. What `claim_by_all` answers is a value of its own first, so that the reply of a claim that fits is
+// stored once, where the caller wants it.
 #[no_mangle]
 pub extern "C" fn logbuffer_try_claim(
     rec: &mut [i64; 14],
@@ -223,13 +224,15 @@ pub extern "C" fn logbuffer_try_claim(
     ensures { λ _. ⌜ now (log .exit) ≡ claimBytes (recordIn (now (rec .entry))) (now (log .entry)) length ⌝ }
 {
     if length < 0 {
-        return claim_by_all(rec, log, length);
+        let all = claim_by_all(rec, log, length);
+        return all;
     }
     let v = words::reading_in(rec);
     let fitted = fit::claim_fit(v, log, cast::word(length));
     let position = fitted.position;
     if position == 0 {
-        return claim_by_all(rec, log, length);
+        let all = claim_by_all(rec, log, length);
+        return all;
     }
     words::tail_out(rec, v.count % 3, fitted.tail);
     let claim = fitted.claim;

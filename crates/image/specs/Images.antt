@@ -1,9 +1,10 @@
 -- An image of the code and the image of the definitions hold the same; and so do their replies.
 use mathlib.Core.Path.{_≡_}
 use Prim.Native.Nat.{ℕ, _≤_, _<_}
-use mathlib.Core.Bool.{Bool}
+use mathlib.Core.Bool.{Bool, cond}
 use mathlib.Core.List.{List, []}
 use lib.Count.{ones}
+use lib.Dec.{leb}
 use lib.IntN.{ℤ}
 use lib.ListN.{length}
 use Rattle.model.specs.declared.Reading.{Reading}
@@ -11,6 +12,7 @@ use Rattle.model.specs.declared.ReadVerdict.{ReadVerdict}
 use Rattle.model.specs.declared.ReadVerdict.the-variants.{Read}
 use Rattle.model.specs.declared.Peeked.{Peeked}
 use Rattle.model.specs.Bytes.{long}
+use Rattle.model.specs.LogBufferDescriptor.{indexByPosition, bitsToShift}
 use Rattle.model.specs.TermReader.{natural, goodEntries}
 use Rattle.model.specs.Image.{Image as State, PollReply as PollSaid, BlockReply as BlockSaid, ImageReply as ImageSaid, refuseIf, unsoundAt, unsoundFrameOf, blockEnd, blockLength, blockBy, imageBy, walkAt, endOffset, pollReply, pollVerdict}
 use Rattle.image.specs.declared.Image.{Image}
@@ -67,6 +69,10 @@ pub record TermLength (term : ℕ) : Type 0 where
   pub some : 0 < term
   pub high : term ≤ 1073741824
   pub one-bit : ones term ≡ 1
+
+-- the partition of a position by the bits to shift, of any number as a term length; of a sound record's it is `partitionOf` (`shift-in` of proofs/Places.antt)
+abbrev pub shiftedIn : ℕ → ℕ → ℕ
+shiftedIn term p = cond (leb term 4294967295) (indexByPosition p (bitsToShift term)) 0
 
 -- a block poll by its verdict, and once only the first frame is left to judge
 abbrev pub blockSaid : Reading → List ℕ → State → ℕ → ReadVerdict → BlockSaid

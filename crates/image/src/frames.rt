@@ -5,10 +5,11 @@ ghost use mathlib.Core.List.{[]};
 ghost use Prim.Native.Nat.{_%_, _≤_};
 ghost use lib.ListN.{length};
 ghost use Rattle.model.specs.declared.Verdict.the-variants.{Pass, Refuse};
-ghost use Rattle.model.specs.LogBufferDescriptor.{sound};
+ghost use Rattle.model.specs.Bytes.{long};
+ghost use Rattle.model.specs.LogBufferDescriptor.{sound, partitionOf};
 ghost use Rattle.model.specs.TermReader.{goodEntries, goodHandler, framesBy, entriesBy, readFrom};
 ghost use Rattle.model.specs.Image.{walkAt, unsoundAt, unsoundFrameOf};
-ghost use Rattle.image.specs.Images.{stateOf, polledTo, pollUpTo, pollToTerm};
+ghost use Rattle.image.specs.Images.{stateOf, shiftedIn, polledTo, pollUpTo, pollToTerm};
 use crate::Image;
 use crate::ladder;
 use crate::limits;
@@ -53,24 +54,23 @@ pub(crate) fn frames_at(
     )
 }
 
-// The same walk to the term's end, with no handler.
-fn frames_on(v: Reading, log: &[u8], entries: &mut [i32], p: usize, limit: usize) -> TermRead
-    requires { ⌜ (sound v (length (now log)) ≡ true) × ((p % 32 ≡ 0) × (goodEntries (length (now entries)) limit ≡ true)) ⌝ }
+// The same walk to the term's end, with no handler, in the partition that the position has.
+fn frames_on(
+    v: Reading,
+    log: &[u8],
+    entries: &mut [i32],
+    k: usize,
+    p: usize,
+    limit: usize,
+) -> TermRead
+    requires { ⌜ (sound v (length (now log)) ≡ true) × ((p % 32 ≡ 0) × ((goodEntries (length (now entries)) limit ≡ true) × (k ≡ partitionOf p (v .term)))) ⌝ }
     ensures { λ r. ⌜ r ≡ readFrom (p % v .term) (framesBy (walkAt v (now (log .entry)) p (v .term) limit []) (cond (unsoundAt v (now (log .entry)) p (v .term) limit) (Refuse (unsoundFrameOf v (now (log .entry)) p)) Pass)) ⌝ }
     ensures { λ _. ⌜ now (entries .exit) ≡ entriesBy (now (entries .entry)) (walkAt v (now (log .entry)) p (v .term) limit []) (cond (unsoundAt v (now (log .entry)) p (v .term) limit) (Refuse (unsoundFrameOf v (now (log .entry)) p)) Pass) ⌝ }
 {
-    let term = v.term;
-    term_reader::read_term(
-        log,
-        limits::partition_of(term, p) * term,
-        term,
-        limits::offset_of(term, p),
-        limit,
-        entries,
-    )
+    term_reader::read_on(v, log, k, limits::offset_of(v.term, p), limit, entries)
 }
 
-// A poll with no limit position and no handler, on a path of its own: the call that is made most.
+// A poll with no limit position and no handler, on a path of its own: the call that is made most. The partition of its position is worked out by the caller.
 pub(crate) fn poll_term(
     image: Image,
     v: Reading,
@@ -78,8 +78,9 @@ pub(crate) fn poll_term(
     entries: &mut [i32],
     good: bool,
     limit: usize,
+    k: usize,
 ) -> PolledTo
-    requires { ⌜ (good ≡ true → goodEntries (length (now entries)) limit ≡ true) ⌝ }
+    requires { ⌜ (good ≡ true → goodEntries (length (now entries)) limit ≡ true) × (k ≡ shiftedIn (v .term) (long (image .position))) ⌝ }
     ensures { λ r. ⌜ r ≡ polledTo (pollToTerm v (now (log .entry)) (stateOf image) (now (entries .entry)) good limit) ⌝ }
     ensures { λ _. ⌜ now (entries .exit) ≡ pollToTerm v (now (log .entry)) (stateOf image) (now (entries .entry)) good limit .slots ⌝ }
 {
@@ -94,7 +95,7 @@ pub(crate) fn poll_term(
         },
         ReadVerdict::Read => {
             let p = cast::long(image.position);
-            let read = frames_on(v, log, entries, p, limit);
+            let read = frames_on(v, log, entries, k, p, limit);
             let TermRead::Outcome(end, fragments) = read else {
                 return PolledTo {
                     position: image.position,

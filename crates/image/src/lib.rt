@@ -1,10 +1,12 @@
 // An image: a reader's place in a log that is lent. A call takes the image by value, and hands the next one back beside its answer.
 ghost use mathlib.Core.Path.{_≡_};
+ghost use Prim.Native.Nat.{_≤_};
 ghost use lib.IntN.{pos};
 ghost use lib.ListN.{getD};
 ghost use Rattle.model.specs.Image.{newImage, pollOf, boundedPollOf, controlledPollOf, setPositionOf, endOfStreamOf, closeImageOf, peekOf, peekSlots, blockPollOf};
+ghost use Rattle.model.specs.Bytes.{long};
 ghost use Rattle.model.specs.Replay.{pollOne};
-ghost use Rattle.image.specs.Images.{stateOf, imageOf, pollBy, pollReplyOf, peekReplyOf, blockReplyOf, imageReplyOf};
+ghost use Rattle.image.specs.Images.{stateOf, imageOf, shiftedIn, pollBy, pollReplyOf, peekReplyOf, blockReplyOf, imageReplyOf};
 use logbuffer::argument;
 use logbuffer::cast;
 use logbuffer::log_buffer_descriptor;
@@ -36,6 +38,12 @@ pub struct Image {
 pub struct PollReply {
     pub next: Image,
     pub answer: Polled,
+}
+
+// A poll by the record's numbers, and the partition of the position that it read from.
+pub struct PolledOn {
+    pub reply: PollReply,
+    pub partition: usize,
 }
 
 // A poll of one fragment, and the offset of its body.
@@ -82,34 +90,41 @@ impl Image {
         ensures { λ r. ⌜ r ≡ pollReplyOf (pollOf rec (now (log .entry)) (stateOf self) (now (entries .entry)) «fragment_limit») ⌝ }
         ensures { λ _. ⌜ now (entries .exit) ≡ pollOf rec (now (log .entry)) (stateOf self) (now (entries .entry)) «fragment_limit» .slots ⌝ }
     {
-        self.poll_on(
+        let polled = self.poll_on(
             log_buffer_descriptor::read_active(rec),
             log,
             entries,
             fragment_limit,
-        )
+        );
+        let reply = polled.reply;
+        reply
     }
 
-    // The same, for a caller who has read the record's numbers.
+    // The same, for a caller who has read the record's numbers; and the partition in which it reads, which the poll has worked out anyway.
     pub fn poll_on(
         mut self,
         numbers: Reading,
         log: &[u8],
         entries: &mut [i32],
         fragment_limit: i32,
-    ) -> PollReply
-        ensures { λ r. ⌜ r ≡ pollReplyOf (pollBy numbers (now (log .entry)) (stateOf self) (now (entries .entry)) «fragment_limit») ⌝ }
+    ) -> PolledOn
+        ensures { λ r. ⌜ r .reply ≡ pollReplyOf (pollBy numbers (now (log .entry)) (stateOf self) (now (entries .entry)) «fragment_limit») ⌝ }
+        ensures { λ r. ⌜ (r .partition ≡ shiftedIn (numbers .term) (long (self .position))) × (r .partition ≤ 2) ⌝ }
         ensures { λ _. ⌜ now (entries .exit) ≡ pollBy numbers (now (log .entry)) (stateOf self) (now (entries .entry)) «fragment_limit» .slots ⌝ }
     {
         let limit = argument::natural(fragment_limit);
         let good = ladder::good_entries(entries.len(), limit);
-        let to = frames::poll_term(self, numbers, log, entries, good, limit);
+        let k = limits::shifted_in(numbers.term, cast::long(self.position));
+        let to = frames::poll_term(self, numbers, log, entries, good, limit, k);
         let position = to.position;
         let answer = to.answer;
         self.position = position;
-        PollReply {
-            next: self,
-            answer: answer,
+        PolledOn {
+            reply: PollReply {
+                next: self,
+                answer: answer,
+            },
+            partition: k,
         }
     }
 

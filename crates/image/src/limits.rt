@@ -3,7 +3,7 @@ ghost use mathlib.Core.Path.{_≡_};
 ghost use Prim.Native.Nat.{_+_, _-_, _%_, _≤_, min};
 ghost use Rattle.model.specs.LogBufferDescriptor.{partitionOf};
 ghost use Rattle.model.specs.TermReader.{natural};
-ghost use Rattle.image.specs.Images.{TermLength};
+ghost use Rattle.image.specs.Images.{TermLength, shiftedIn};
 use logbuffer::cast;
 use logbuffer::log_buffer_descriptor;
 
@@ -31,6 +31,17 @@ pub(crate) fn partition_of(term: usize, p: usize) -> usize
     requires { ⌜ TermLength term ⌝ }
     ensures { λ r. ⌜ (r ≡ partitionOf p term) × (r ≤ 2) ⌝ }
 {
+    let bits = log_buffer_descriptor::position_bits_to_shift(term as u32);
+    log_buffer_descriptor::index_by_position(p as u64, bits)
+}
+
+// The same for any number as a term length, so that it can be asked before the record is judged.
+pub(crate) fn shifted_in(term: usize, p: usize) -> usize
+    ensures { λ r. ⌜ (r ≡ shiftedIn term p) × (r ≤ 2) ⌝ }
+{
+    if term > 4294967295 {
+        return 0;
+    }
     let bits = log_buffer_descriptor::position_bits_to_shift(term as u32);
     log_buffer_descriptor::index_by_position(p as u64, bits)
 }

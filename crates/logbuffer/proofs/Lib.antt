@@ -19,3 +19,5 @@ pub mod Claims
 pub mod Sessions
 pub mod TermWalk
 pub mod Ways
+pub mod ReadOn
+pub mod Whole

@@ -3,3 +3,4 @@ pub mod Lent
 pub mod Assembler
 pub mod Ways
 pub mod Reads
+pub mod Whole

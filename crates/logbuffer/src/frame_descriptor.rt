@@ -9,6 +9,7 @@ ghost use lib.Dec.{eqb};
 ghost use Rattle.model.specs.FrameDescriptor.{frameLength, isFinished, isWriting, lengthAt, frameBy, frameAt, unsoundFrame, flagsAt, ends};
 ghost use Rattle.model.specs.DataFrameHeader.{headerAt};
 ghost use Rattle.model.specs.TermReader.{lengthCall};
+ghost use Rattle.logbuffer.specs.Whole.{wholeFrame};
 use crate::argument;
 use crate::cast;
 use crate::data_frame_header::FLAGS_FIELD_OFFSET;
@@ -201,6 +202,27 @@ pub(crate) fn frame_inside(log: &[u8], at: usize, room: usize) -> Frame
         field::half(log, at + TYPE_FIELD_OFFSET),
         room,
     )
+}
+
+// The length of the frame at an index if it holds a whole message, which its type and both flags say; else 0, and where no header has room before
+// the log's end.
+pub fn whole_length(log: &[u8], at: usize, room: usize) -> usize
+    ensures { λ r. ⌜ r ≡ wholeFrame (now (log .entry)) at room ⌝ }
+{
+    let size = log.len();
+    if size < HEADER_LENGTH {
+        return 0;
+    }
+    if at > size - HEADER_LENGTH {
+        return 0;
+    }
+    let Frame::Data(n) = frame_inside(log, at, room) else {
+        return 0;
+    };
+    if field::byte(log, at + FLAGS_FIELD_OFFSET) / END_FRAG % 4 != 3 {
+        return 0;
+    }
+    n
 }
 
 // The refusal of an unsound frame, by its length and its offset in its term: too short for a header, or past the term's end.

@@ -9,9 +9,9 @@ ghost use Rattle.logbuffer.specs.Lent.{startOf};
 ghost use Rattle.model.specs.declared.Verdict.the-variants.{Pass, Refuse};
 ghost use Rattle.model.specs.FrameDescriptor.{unsoundFrameAt};
 ghost use Rattle.model.specs.LogBufferDescriptor.{goodPartition};
-ghost use Rattle.model.specs.TermReader.{nextAction, walk, firstUnsound, goodWalk, goodHandler, goodEntries, goodStart, entriesBy, framesBy, framesRefusal, readFrom, framesOf, framesEntries, readOf, readEntries, goodView, viewOf};
+ghost use Rattle.model.specs.TermReader.{nextAction, walk, firstUnsound, goodWalk, goodHandler, goodEntries, goodStart, entriesBy, framesBy, framesRefusal, readFrom, readWalk, framesOf, framesEntries, readOf, readEntries, goodView, viewOf};
 ghost use Rattle.model.specs.Parts.{partOf, locatedNumber};
-ghost use Rattle.logbuffer.specs.Reads.{readRefusal};
+ghost use Rattle.logbuffer.specs.Reads.{goodReadOn, readOnVerdict, readRefusal};
 use crate::argument;
 use crate::cast;
 use crate::data_frame_header::HEADER_LENGTH;
@@ -19,12 +19,14 @@ use crate::errors;
 use crate::frame_descriptor;
 use crate::frame_descriptor::ALIGNMENT_MASK;
 use crate::frame_descriptor::FRAME_ALIGNMENT;
+use crate::log_buffer_descriptor;
 use model::Error;
 use model::Frame;
 use model::FramesRead;
 use model::Located;
 use model::LogRecord;
 use model::Place;
+use model::Reading;
 use model::TermRead;
 use model::Verdict;
 use model::Walk;
@@ -258,30 +260,51 @@ fn walk_term(
     TermRead::Outcome(offset, count)
 }
 
-// `read_frames` with no handler, up to the term's end: the offset that it came to, and the fragments.
-pub fn read_term(
+// What a read of a partition asks: sound numbers, a partition, an offset that is a multiple of 32, room for the entries. What its caller has asked before it
+// by the same functions costs nothing again.
+fn good_read_on(v: Reading, n: usize, k: usize, at: usize, limit: usize, slots: usize) -> bool
+    ensures { λ r. ⌜ r ≡ goodReadOn v n k at limit slots ⌝ }
+{
+    if !log_buffer_descriptor::is_sound(v, n) {
+        return false;
+    }
+    if k > 2 {
+        return false;
+    }
+    if at % FRAME_ALIGNMENT != 0 {
+        return false;
+    }
+    if slots > 2147483647 {
+        return false;
+    }
+    limit <= slots / 2
+}
+
+// A partition read from an offset to its term's end, for a caller who has read the record's numbers: the offset that it came to, and the fragments. 1 where
+// the numbers do not fit each other, 22 or 23 where the first frame is unsound.
+pub fn read_on(
+    numbers: Reading,
     log: &[u8],
-    base: usize,
-    term: usize,
-    at: usize,
+    partition: usize,
+    offset: usize,
     fragment_limit: usize,
     entries: &mut [i32],
 ) -> TermRead
-    ensures { λ r. ⌜ r ≡ readFrom at (framesOf (now (log .entry)) base term term at «fragment_limit» [] (now (entries .entry))) ⌝ }
-    ensures { λ _. ⌜ now (entries .exit) ≡ framesEntries (now (log .entry)) base term term at «fragment_limit» [] (now (entries .entry)) ⌝ }
+    ensures { λ r. ⌜ r ≡ readFrom offset (framesBy (readWalk numbers (now (log .entry)) partition offset «fragment_limit») (readOnVerdict numbers (now (log .entry)) partition offset «fragment_limit» (length (now (entries .entry))))) ⌝ }
+    ensures { λ _. ⌜ now (entries .exit) ≡ entriesBy (now (entries .entry)) (readWalk numbers (now (log .entry)) partition offset «fragment_limit») (readOnVerdict numbers (now (log .entry)) partition offset «fragment_limit» (length (now (entries .entry)))) ⌝ }
 {
-    if !good_walk(
+    if !good_read_on(
+        numbers,
         log.len(),
-        base,
-        term,
-        term,
-        at,
+        partition,
+        offset,
         fragment_limit,
         entries.len(),
     ) {
         return TermRead::Refused(Error::IllegalArgument);
     }
-    walk_term(log, base, term, at, fragment_limit, entries)
+    let term = numbers.term;
+    walk_term(log, partition * term, term, offset, fragment_limit, entries)
 }
 
 // The refusal of a read, where a caller takes it apart by `let .. else`. A read that was not refused has none, and 1 stands for it.

@@ -3,7 +3,7 @@ use Prim.Native.Nat.{ℕ, zero, suc, _+_, _-_, _*_, _/_, _%_, _≤_, _<_, min}
 use mathlib.Core.Path.{_≡_, refl, sym, ap, ap₂, _∙_, subst}
 use mathlib.Core.Bool.{Bool, true, false, cond, _&&_, not}
 use mathlib.Core.List.{List, [], _∷_}
-use native.Mathlib.Nat.{mod-lt, mul-le-mul-right}
+use native.Mathlib.Nat.{mod-lt, mul-le-mul-right, mod-mod-of-dvd, dvd-of-mod-eq-zero}
 use mathlib.Core.Logic.{⊎-elim}
 use native.Mathlib.Omega.{arith}
 use types.Run.{OneOf}
@@ -11,6 +11,8 @@ use denote.Enum.Declared.{tagOf}
 use Rattle.model.proofs.Frame.{the-type}
 use Rattle.model.proofs.Assembled.{the-type as assembled-type}
 use Rattle.logbuffer.specs.Assembler.{joinOf}
+use Rattle.logbuffer.specs.Whole.{dataLength, wholeFrame}
+use Rattle.logbuffer.proofs.Whole.{whole-as}
 use Rattle.logbuffer.proofs.Assembly.{join-yes}
 use borrow.Author.Tests.{ne-eqb, le-leb, lt-leb, lt-ltb, le-ltb, eq-eqb, ltb-true, ltb-false, eqb-true, leb-true}
 use lib.Dec.{eqb, leb, ltb}
@@ -50,10 +52,10 @@ use Rattle.model.proofs.Both.{and-true, and-false, both-true}
 use Rattle.model.proofs.Choice.{cond-true, cond-false, cond-case, split, same?, eq-yes, eq-no}
 use Rattle.model.proofs.FrameLaws.{Lies, lies, finished-word}
 use Rattle.model.proofs.WalkLaws.{walk-turn, walk-full}
-use Rattle.model.proofs.Sound.{sound-true, id-small, initial-small}
+use Rattle.model.proofs.Sound.{sound-true, term-32, id-small, initial-small}
 use Rattle.image.proofs.Rungs.{position-by, in-range, poll-by}
 use Rattle.image.proofs.Places.{at-place}
-use Rattle.replay.specs.InPlace.{TermOrNone, dataLength, stopAt, indexAt, dataAt, wholeAt, openTerm, wholeOf, wholeWith, overBy, keptAs, repliedBy, isRefused}
+use Rattle.replay.specs.InPlace.{TermOrNone, TermsOf, stopAt, indexAt, dataAt, wholeAt, openTerm, wholeOf, wholeWith, overBy, keptAs, repliedBy, isRefused}
 use Rattle.replay.specs.declared.frames.Whole.{Whole}
 use Rattle.replay.proofs.Turns.{next-stops, next-from, refused-keeps}
 use Rattle.replay.specs.Replays.{elsewhereOn, Turned, stops, goesOn, fragmentTurn, turnSaid, turnOf}
@@ -82,12 +84,6 @@ data-found log term stop p n e h =
     (λ t q. absurd (omega arith)) e
 
 -- by the tests of the code
-pub no-data : (x : Frame) → OneOf (0 ∷ 1 ∷ 2 ∷ []) (tagOf the-type x) → dataLength x ≡ 0
-no-data Absent h = refl
-no-data (Unsound m) h = refl
-no-data (Padding m) h = refl
-no-data (Data m) h = absurd (⊎-elim (λ e. omega arith) (⊎-elim (λ e. omega arith) (λ e. omega arith)) h)
-
 module _ (log : List ℕ) (term stop p : ℕ) where
   abbrev length· : ℕ
   length· = dataLength (frameAt (drop (indexAt term p) log) (term - p % term))
@@ -113,10 +109,6 @@ module _ (log : List ℕ) (term stop p : ℕ) where
   unfolding dataAt
   data-by h k e = sym (cond-true (ltb p stop && (ltb 0 term && eqb (p % 32) 0)) _ 0 (both-true (lt-ltb p stop h) (both-true (lt-ltb 0 term k) (eq-eqb (p % 32) 0 e))))
 
-  -- the two flags stand side by side
-  both-bits : (x : ℕ) → x % 2 ≡ 1 → x / 2 % 2 ≡ 1 → x % 4 ≡ 3
-  both-bits x a b = omega arith
-
   abbrev frame· : List ℕ
   frame· = drop (indexAt term p) log
 
@@ -129,23 +121,18 @@ module _ (log : List ℕ) (term stop p : ℕ) where
       either true = refl
       either false = refl
 
-  pub not-whole : (f : ℕ) → f ≡ flagsAt frame· → ¬ (f / 64 % 4 ≡ 3) → 0 ≡ wholeAt log term stop p
-  unfolding wholeAt
-  not-whole f e h = sym (ap (λ (x : ℕ). cond (begins x && ends x) (dataAt log term stop p) 0) (sym e) ∙ cond-false (begins f && ends f) (dataAt log term stop p) 0 (go (begins f) (ends f) refl refl))
-    where
-      halves : f / 64 / 2 ≡ f / 128
-      halves = omega arith
+  -- a header has room at the place of a frame
+  inside : TermsOf (length log) term → 0 < term → p % 32 ≡ 0 → indexAt term p + 32 ≤ length log
+  inside t h e =
+      let u : p % term % 32 ≡ 0 = mod-mod-of-dvd 32 p (dvd-of-mod-eq-zero 32 (t .term-32)) ∙ e in
+      let k : p / term % 3 ≤ 2 = omega arith in
+      let m : p / term % 3 * term ≤ 2 * term = mul-le-mul-right term k in
+      omega (arith, mod-lt p h, t .term-32, t .three h)
 
-      go : (a b : Bool) → begins f ≡ a → ends f ≡ b → (a && b) ≡ false
-      go true true ea eb = absurd (h (both-bits (f / 64) (eqb-true (f / 64 % 2) 1 eb) (ap (λ (x : ℕ). x % 2) halves ∙ eqb-true (f / 128 % 2) 1 ea)))
-      go true false ea eb = refl
-      go false b ea eb = refl
-
-  pub whole-by : (f : ℕ) → f ≡ flagsAt frame· → f / 64 % 4 ≡ 3 → dataAt log term stop p ≡ wholeAt log term stop p
+  pub whole-in : TermsOf (length log) term → p < stop → 0 < term → p % 32 ≡ 0 → wholeFrame log (indexAt term p) (term - p % term) ≡ wholeAt log term stop p
   unfolding wholeAt
-  whole-by f e h =
-      sym (ap (λ (x : ℕ). cond (begins x && ends x) (dataAt log term stop p) 0) (sym e)
-      ∙ cond-true (begins f && ends f) (dataAt log term stop p) 0 (both-true (eq-eqb (f / 128 % 2) 1 (omega arith)) (eq-eqb (f / 64 % 2) 1 (omega arith))))
+  whole-in t l h e =
+      sym (whole-as log (indexAt term p) (term - p % term) (inside t h e)) ∙ ap (λ (n : ℕ). cond (begins (flagsAt frame·) && ends (flagsAt frame·)) n 0) (data-by l h e)
 
 pub record WholeAt (log : List ℕ) (term stop p n : ℕ) : Type 0 where
   pub found : DataAt log term stop p n
@@ -480,13 +467,16 @@ open-moved i z v n lent = refl
 
 -- ---- what the inner functions ask
 
-pub open-fits : (i : Image) (v : Reading) (n lent : ℕ) → TermOrNone (openTerm i v n lent)
+pub open-terms : (i : Image) (v : Reading) (n lent : ℕ) → TermsOf n (openTerm i v n lent)
 unfolding openTerm
-open-fits i v n lent =
-    cond-case TermOrNone (leb lent 2147483647 && (not (i .closed) && sound v n)) (v .term) 0
+open-terms i v n lent =
+    cond-case (TermsOf n) (leb lent 2147483647 && (not (i .closed) && sound v n)) (v .term) 0
     (λ t. let k = sound-true v n (and-true (not (i .closed)) (sound v n) (and-true (leb lent 2147483647) _ t .1) .1) in
-    record { high = k .term-high; one-bit = λ _. k .one-bit })
-    (λ t. record { high = omega arith; one-bit = λ h. absurd (omega arith) })
+    record { fits = record { high = k .term-high; one-bit = λ _. k .one-bit }; term-32 = term-32 v n k; three = λ _. omega (arith, k .three) })
+    (λ t. record { fits = record { high = omega arith; one-bit = λ h. absurd (omega arith) }; term-32 = refl; three = λ h. absurd (omega arith) })
+
+pub open-fits : (i : Image) (v : Reading) (n lent : ℕ) → TermOrNone (openTerm i v n lent)
+open-fits i v n lent = open-terms i v n lent .fits
 
 -- ---- by the tests of the code
 

@@ -9,8 +9,6 @@ use lib.Dec.{eqb, leb, ltb}
 use lib.ListN.{length, drop}
 use Rattle.model.specs.declared.LogRecord.{LogRecord}
 use Rattle.model.specs.declared.Reading.{Reading}
-use Rattle.model.specs.declared.Frame.{Frame}
-use Rattle.model.specs.declared.Frame.the-variants.{Absent, Unsound, Padding, Data}
 use Rattle.model.specs.declared.Assembled.{Assembled}
 use Rattle.model.specs.declared.Assembled.the-variants.{Nothing, Fragment, Message, Refused as AssemblyRefused}
 use Rattle.model.specs.declared.Replayed.{Replayed}
@@ -19,20 +17,22 @@ use Rattle.model.specs.Bytes.{long}
 use Rattle.model.specs.FrameDescriptor.{frameAt, flagsAt, begins, ends}
 use Rattle.model.specs.LogBufferDescriptor.{reading, partitionOf, publisherPosition, goodPosition, sound}
 use Rattle.model.specs.TermReader.{natural}
+use Rattle.logbuffer.specs.Whole.{dataLength}
 use Rattle.model.specs.Image.{Image}
 use Rattle.replay.specs.declared.frames.Whole.{Whole}
+use Rattle.replay.specs.declared.frames.Found.{Found}
 use Rattle.model.specs.FragmentAssembler.{Sessions, Assembly}
-
-abbrev pub dataLength : Frame → ℕ
-dataLength Absent = 0
-dataLength (Unsound n) = 0
-dataLength (Padding n) = 0
-dataLength (Data n) = n
 
 -- what the inner functions ask of a term length: one bit, or 0 where there is no term
 pub record TermOrNone (term : ℕ) : Type 0 where
   pub high : term ≤ 1073741824
   pub one-bit : 0 < term → ones term ≡ 1
+
+-- and where they look for a whole message, of the log too: three such terms, each a number of frames' boundaries
+pub record TermsOf (n term : ℕ) : Type 0 where
+  pub fits : TermOrNone term
+  pub term-32 : term % 32 ≡ 0
+  pub three : 0 < term → 3 * term ≤ n
 
 -- the publisher's position, where a replay stops; 0 where ids that no log has put it below
 abbrev pub stopAt : Reading → ℕ
@@ -52,6 +52,10 @@ unfoldable pub wholeAt : List ℕ → ℕ → ℕ → ℕ → ℕ
 wholeAt log term stop p =
     let frame = drop (indexAt term p) log in
     cond (begins (flagsAt frame) && ends (flagsAt frame)) (dataAt log term stop p) 0
+
+-- no message, as a walk over whole messages has it
+abbrev pub foundNone : ℕ → ℕ → Found
+foundNone number base = record { number = number; base = base; index = 0; length = 0 }
 
 -- the term length where nothing is refused before a frame is looked at, and the image is open; else 0
 unfoldable pub openTerm : Image → Reading → ℕ → ℕ → ℕ

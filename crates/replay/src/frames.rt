@@ -1,20 +1,21 @@
 // Data frames as they lie in a log: where the record is sound and the image open, a replay finds them without a poll, and hands a whole
 // message out without the assembler. Read lib next.
 ghost use mathlib.Core.Path.{_≡_};
-ghost use Prim.Native.Nat.{_≤_, _<_};
+ghost use Prim.Native.Nat.{_*_, _/_, _%_, _≤_, _<_};
 ghost use lib.ListN.{length};
+ghost use Rattle.model.specs.LogBufferDescriptor.{partitionOf};
 ghost use Rattle.image.specs.Images.{stateOf as imageState};
 ghost use Rattle.logbuffer.specs.Assembler.{sessionsAs, joinOf};
-ghost use Rattle.replay.specs.InPlace.{TermOrNone, stopAt, indexAt, dataAt, wholeAt, openTerm, wholeIn, overBy, keptBy, repliedBy, isRefused};
+ghost use Rattle.replay.specs.InPlace.{TermOrNone, TermsOf, stopAt, indexAt, dataAt, wholeAt, foundNone, openTerm, wholeIn, overBy, keptBy, repliedBy, isRefused};
 ghost use Rattle.replay.specs.Replays.{elsewhereOn};
 use image::Image;
 use logbuffer::cast;
 use logbuffer::data_frame_header::HEADER_LENGTH;
 use logbuffer::fragment_assembler;
 use logbuffer::frame_descriptor;
-use logbuffer::frame_descriptor::END_FRAG;
 use logbuffer::frame_descriptor::FRAME_ALIGNMENT;
 use logbuffer::log_buffer_descriptor;
+use logbuffer::log_buffer_descriptor::PARTITION_COUNT;
 use model::Assembled;
 use model::Frame;
 use model::LogRecord;
@@ -58,19 +59,72 @@ pub(crate) fn data_at(log: &[u8], term: usize, stop: usize, p: usize) -> usize
     n
 }
 
-// The same, and 0 unless the frame is a whole message, which both flags say.
-pub(crate) fn whole_at(log: &[u8], term: usize, stop: usize, p: usize) -> usize
-    requires { ⌜ TermOrNone term ⌝ }
-    ensures { λ r. ⌜ r ≡ wholeAt (now (log .entry)) term stop p ⌝ }
+// ---- one whole message after another
+
+// A whole message as a walk finds it: the index of its frame, and the frame's length, 0 where there is none; and for the next step the count of a term and
+// where the partition of that term begins.
+pub(crate) struct Found {
+    pub number: usize,
+    pub base: usize,
+    pub index: usize,
+    pub length: usize,
+}
+
+// None.
+fn none(number: usize, base: usize) -> Found
+    ensures { λ r. ⌜ r ≡ foundNone number base ⌝ }
 {
-    let n = data_at(log, term, stop, p);
-    if n == 0 {
-        return 0;
+    Found {
+        number: number,
+        base: base,
+        index: 0,
+        length: 0,
     }
-    if frame_descriptor::flags_at(log, index_at(term, p)) / END_FRAG % 4 != 3 {
-        return 0;
+}
+
+// Where the partition of a position begins, for a caller who has it of some term: it is worked out anew where another term begins, so that in one term no
+// step has to wait for a remainder by 3.
+fn base_at(number: usize, base: usize, term: usize, p: usize, count: usize) -> usize
+    requires { ⌜ (term ≤ 1073741824) × ((base ≡ number % 3 * term) × (count ≡ p / term)) ⌝ }
+    ensures { λ r. ⌜ (r ≡ partitionOf p term * term) × (r ≤ 2147483648) ⌝ }
+{
+    if count == number {
+        return base;
     }
-    n
+    count % PARTITION_COUNT * term
+}
+
+// The whole message at a position below a stop, which both flags say, of a log of three such terms. The count of a term and where its partition begins are
+// handed on from step to step; those of the first term, 0 both, are good to begin with.
+pub(crate) fn whole_from(
+    log: &[u8],
+    number: usize,
+    base: usize,
+    term: usize,
+    stop: usize,
+    p: usize,
+) -> Found
+    requires { ⌜ TermsOf (length (now log)) term × (base ≡ number % 3 * term) ⌝ }
+    ensures { λ r. ⌜ (r .length ≡ wholeAt (now (log .entry)) term stop p) × ((r .base ≡ r .number % 3 * term) × (0 < r .length → r .index ≡ indexAt term p)) ⌝ }
+{
+    if p >= stop {
+        return none(number, base);
+    }
+    if term == 0 {
+        return none(number, base);
+    }
+    if p % FRAME_ALIGNMENT != 0 {
+        return none(number, base);
+    }
+    let count = p >> log_buffer_descriptor::position_bits_to_shift(term as u32);
+    let begin = base_at(number, base, term, p, count);
+    let offset = p & (term - 1);
+    Found {
+        number: count,
+        base: begin,
+        index: begin + offset,
+        length: frame_descriptor::whole_length(log, begin + offset, term - offset),
+    }
 }
 
 // The publisher's position, where a replay stops; 0 where it is below.
@@ -132,7 +186,8 @@ pub fn next_whole(image: Image, rec: LogRecord, log: &[u8], lent: usize) -> Whol
     let v = log_buffer_descriptor::read_active(rec);
     let term = open_term(image, v, log.len(), lent);
     let p = cast::long(image.position);
-    let n = whole_at(log, term, stop_at(v), p);
+    let found = whole_from(log, 0, 0, term, stop_at(v), p);
+    let n = found.length;
     if n == 0 {
         return Whole {
             index: 0,
@@ -140,7 +195,7 @@ pub fn next_whole(image: Image, rec: LogRecord, log: &[u8], lent: usize) -> Whol
         };
     }
     Whole {
-        index: index_at(term, p),
+        index: found.index,
         length: n,
     }
 }

@@ -345,13 +345,18 @@ impl Replay {
         let mut assembler = self.assembler;
         let stop = frames::stop_at(v);
         let mut term = frames::open_term(image, v, log.len(), buffer.len());
+        let mut number: usize = 0;
+        let mut base: usize = 0;
         let mut laid: usize = 0;
         while laid < most {
             let p = cast::long(image.position);
-            let n = frames::whole_at(log, term, stop, p);
+            let found = frames::whole_from(log, number, base, term, stop, p);
+            number = found.number;
+            base = found.base;
+            let n = found.length;
             if n != 0 {
                 let end = p + (n + ALIGNMENT_MASK) / FRAME_ALIGNMENT * FRAME_ALIGNMENT;
-                let from = frames::index_at(term, p) + HEADER_LENGTH;
+                let from = found.index + HEADER_LENGTH;
                 laying::lay(numbers, laid, 1, from, n - HEADER_LENGTH, end);
                 image.position = end as i64;
                 laid = laid + 1;
@@ -374,6 +379,8 @@ impl Replay {
             assembler = next.assembler;
             laying::lay(numbers, laid, 1, from, length, cast::long(image.position));
             term = frames::open_term(image, v, log.len(), buffer.len());
+            number = 0;
+            base = 0;
             laid = laid + 1;
         }
         batch_reply(
@@ -448,12 +455,17 @@ pub fn count(
     let mut image = Image::new(position, session_id);
     let mut assembler = FragmentAssembler::new();
     let mut term = frames::open_term(image, v, log.len(), buffer.len());
+    let mut number: usize = 0;
+    let mut base: usize = 0;
     let mut messages: usize = 0;
     let mut bytes: usize = 0;
     let most = 3 * cast::word(rec.term_length) + 1;
     while messages < most {
         let p = cast::long(image.position);
-        let n = frames::whole_at(log, term, stop, p);
+        let found = frames::whole_from(log, number, base, term, stop, p);
+        number = found.number;
+        base = found.base;
+        let n = found.length;
         if n != 0 {
             image.position = (p + (n + ALIGNMENT_MASK) / FRAME_ALIGNMENT * FRAME_ALIGNMENT) as i64;
             bytes = added(bytes, n - HEADER_LENGTH);
@@ -473,6 +485,8 @@ pub fn count(
         image = next.image;
         assembler = next.assembler;
         term = frames::open_term(image, v, log.len(), buffer.len());
+        number = 0;
+        base = 0;
         bytes = added(bytes, length_of(answer));
         messages = messages + 1;
     }

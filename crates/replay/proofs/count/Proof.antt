@@ -1,6 +1,6 @@
 -- The replies left, and what is counted so far, give the count that was asked for. A whole message is the reply of `next` there.
 use mathlib.Core.Path.{_≡_, refl, sym, ap, ap₂, subst, _∙_}
-use Prim.Native.Nat.{ℕ, _+_, _-_, _*_, _/_, _≤_, _<_}
+use Prim.Native.Nat.{ℕ, _+_, _-_, _*_, _/_, _%_, _≤_, _<_}
 use mathlib.Core.List.{List}
 use native.Mathlib.Omega.{arith}
 use borrow.Author.Needs.{needs}
@@ -22,9 +22,9 @@ use Rattle.logbuffer.specs.declared.fragment_assembler.FragmentAssembler.{Fragm
 use Rattle.logbuffer.specs.Assembler.{sessionsOf}
 use Rattle.logbuffer.proofs.Signed.{word-by, long-by}
 use Rattle.replay.specs.declared.Replay.{Replay}
-use Rattle.replay.specs.InPlace.{TermOrNone, stopAt, wholeAt, openTerm, wholeOf}
+use Rattle.replay.specs.InPlace.{TermsOf, stopAt, wholeAt, openTerm, wholeOf}
 use Rattle.replay.specs.Replays.{Tally, stateOf, nextReplyOf, addedTo, countFrom, countOf}
-use Rattle.replay.proofs.InPlace.{readings, open-fits, open-moved, whole-near, whole-says, wholeReply}
+use Rattle.replay.proofs.InPlace.{readings, open-terms, open-moved, whole-near, whole-says, wholeReply}
 use Rattle.replay.proofs.Turns.{count-none, count-stops, count-goes, count-starts}
 use Rattle.replay.proofs.count.Statement.{statement}
 use Rattle.replay.proofs.count.Tie as tie
@@ -33,12 +33,13 @@ abbrev at : Image → FragmentAssembler → List ℕ → ReplayState
 at image assembler buffer = stateOf (record { image = image; assembler = assembler }) buffer
 
 abbrev Inv-loop : tie.InvT-loop
-Inv-loop rec log buffer₀ position session-id v stop image₀ assembler₀ term₀ messages₀ bytes₀ most buffer image assembler term messages bytes =
+Inv-loop rec log buffer₀ position session-id v stop image₀ assembler₀ term₀ number₀ base₀ messages₀ bytes₀ most buffer image assembler term number base messages bytes =
     (length buffer ≡ length buffer₀) × ((messages ≤ most) × ((most < 18446744073709551615) × ((term ≡ openTerm (imageState image) (reading rec) (length log) (length buffer))
-    × (countFrom (most - messages) rec log (at image assembler buffer) messages bytes ≡ countFrom (most - 0) rec log (at image₀ assembler₀ buffer₀) 0 0))))
+    × (countFrom (most - messages) rec log (at image assembler buffer) messages bytes ≡ countFrom (most - 0) rec log (at image₀ assembler₀ buffer₀) 0 0
+    × (base ≡ number % 3 * term)))))
 
 abbrev μ-loop : tie.MeasureT-loop
-μ-loop rec log buffer₀ position session-id v stop image₀ assembler₀ term₀ messages₀ bytes₀ most buffer image assembler term messages bytes = most - messages
+μ-loop rec log buffer₀ position session-id v stop image₀ assembler₀ term₀ number₀ base₀ messages₀ bytes₀ most buffer image assembler term number base messages bytes = most - messages
 
 abbrev st : tie.At-loop Inv-loop μ-loop → tie.Start Inv-loop μ-loop
 st l = l .before .before .before .before .before .before .before .before .before .before
@@ -62,7 +63,7 @@ term-first c =
     c .before .before .open-term .ensures ∙ ap (λ (v : Reading). openTerm (imageState (c .before .before .before .before .new .result)) v (length (s .args .log .now)) (length (s .args .buffer .now))) (c .before .before .before .before .before .before .read-active .ensures)
 
 loop-holds : tie.Need-loop-holds Inv-loop μ-loop
-loop-holds c = (refl, (omega arith, (omega (arith, c .word .ensures .1), (term-first c, refl))))
+loop-holds c = (refl, (omega arith, (omega (arith, c .word .ensures .1), (term-first c, (refl, omega arith)))))
 
 -- what it is to come to
 goal : (l : tie.At-loop Inv-loop μ-loop) → countFrom (most l - l .loop .messages) (st l .args .rec) (st l .args .log .now) (S l) (l .loop .messages) (l .loop .bytes)
@@ -71,7 +72,7 @@ goal l =
     let a = st l .args in
     let w = l .before .word in
     let z = toZ-ofZ (st l .fits .session-id) in
-    l .loop .inv .1 .1 .1 .1
+    l .loop .inv .1 .1 .1 .1 .0
     ∙ count-starts (a .rec) (a .log .now) (record { image = l .before .before .before .before .before .new .result; assembler = l .before .before .before .before .new2 .result }) (toZ w64 (ofZ w64 (a .position))) (toZ w32 (ofZ w32 (a .session-id))) (a .buffer .now) (w .result)
     (ap imageState (l .before .before .before .before .before .new .ensures)) (l .before .before .before .before .new2 .ensures) (word-by (a .rec .«term_length») (w .ensures .0) (search needs))
     ∙ ap₂ (λ (x y : ℤ). countOf (a .rec) (a .log .now) x y (a .buffer .now)) (toZ-ofZ (st l .fits .position)) z
@@ -82,24 +83,24 @@ term-fits s = search needs
 stop-at-requires : tie.Need-stop-at-requires Inv-loop μ-loop
 stop-at-requires c κs = let s = c .before .before .before in readings (s .args .rec) _ (c .read-active .ensures) (term-fits s)
 
-whole-at-requires : tie.Need-whole-at-requires Inv-loop μ-loop
-whole-at-requires c κs = subst TermOrNone (sym (c .before .before .before .loop .inv .1 .1 .1 .0)) (open-fits _ _ _ _)
+whole-from-requires : tie.Need-whole-from-requires Inv-loop μ-loop
+whole-from-requires c κs = let q = c .before .before .before .loop .inv .1 .1 .1 in (subst (TermsOf _) (sym (q .0)) (open-terms _ _ _ _), q .1 .1)
 
 -- ---- a whole message
 
-module _ (c : tie.After-whole-at Inv-loop μ-loop) where
+module _ (c : tie.After-whole-from Inv-loop μ-loop) where
   abbrev l : tie.At-loop Inv-loop μ-loop
   l = c .before .before .before .before
 
   abbrev n : ℕ
-  n = c .whole-at .result
+  n = c .whole-from .result .length
 
   p-is : c .before .long .result ≡ long (l .loop .image .position)
   p-is = long-by (l .loop .image .position) (c .before .long .ensures .0) (search needs)
 
   whole-is : wholeOf (st l .args .rec) (st l .args .log .now) (imageState (l .loop .image)) (length (l .loop .buffer)) ≡ n
   whole-is =
-      sym (c .whole-at .ensures ∙ ap (λ (x : ℕ). wholeAt (st l .args .log .now) (l .loop .term) x (c .before .long .result)) (l .before .before .before .before .before .before .stop-at .ensures ∙ ap stopAt (l .before .before .before .before .before .before .before .read-active .ensures))
+      sym (c .whole-from .ensures .0 ∙ ap (λ (x : ℕ). wholeAt (st l .args .log .now) (l .loop .term) x (c .before .long .result)) (l .before .before .before .before .before .before .stop-at .ensures ∙ ap stopAt (l .before .before .before .before .before .before .before .read-active .ensures))
       ∙ ap₂ (λ (t p : ℕ). wholeAt (st l .args .log .now) t (stopAt (reading (st l .args .rec))) p) (l .loop .inv .1 .1 .1 .0) p-is)
 
   module _ (some : 0 < n) where
@@ -133,9 +134,12 @@ loop-again c =
           q .loop .inv .1 .1 .0,
           (
             stays,
-            ap₂ (λ (i j : ℕ). countFrom i (a .rec) (a .log .now) (record { image = movedTo (imageState (q .loop .image)) (toZ w64 (f .before .long .result + (n f + 31) / 32 * 32)); sessions = sessionsOf (q .loop .assembler); buffer = q .loop .buffer }) (q .loop .messages + 1) j) m (c .added .ensures)
-                ∙ ap (λ (y : ℤ). countFrom (most q - q .loop .messages - 1) (a .rec) (a .log .now) (record { image = movedTo (imageState (q .loop .image)) y; sessions = sessionsOf (q .loop .assembler); buffer = q .loop .buffer }) (q .loop .messages + 1) (addedTo (q .loop .bytes) (n f - 32))) z
-                ∙ g ∙ q .loop .inv .1 .1 .1 .1,
+            (
+              ap₂ (λ (i j : ℕ). countFrom i (a .rec) (a .log .now) (record { image = movedTo (imageState (q .loop .image)) (toZ w64 (f .before .long .result + (n f + 31) / 32 * 32)); sessions = sessionsOf (q .loop .assembler); buffer = q .loop .buffer }) (q .loop .messages + 1) j) m (c .added .ensures)
+                  ∙ ap (λ (y : ℤ). countFrom (most q - q .loop .messages - 1) (a .rec) (a .log .now) (record { image = movedTo (imageState (q .loop .image)) y; sessions = sessionsOf (q .loop .assembler); buffer = q .loop .buffer }) (q .loop .messages + 1) (addedTo (q .loop .bytes) (n f - 32))) z
+                  ∙ g ∙ q .loop .inv .1 .1 .1 .1 .0,
+              f .whole-from .ensures .1 .0,
+            ),
           ),
         ),
       ),
@@ -172,7 +176,10 @@ loop-again-2 c =
           q .loop .inv .1 .1 .0,
           (
             t,
-            ap₂ (λ (i j : ℕ). countFrom i (a .rec) (a .log .now) (stateOf (f .next-by-turns .result .next) w) (q .loop .messages + 1) j) m e ∙ g ∙ q .loop .inv .1 .1 .1 .1,
+            (
+              ap₂ (λ (i j : ℕ). countFrom i (a .rec) (a .log .now) (stateOf (f .next-by-turns .result .next) w) (q .loop .messages + 1) j) m e ∙ g ∙ q .loop .inv .1 .1 .1 .1 .0,
+              omega arith,
+            ),
           ),
         ),
       ),
@@ -201,7 +208,7 @@ count-spec =
     add-most
     loop-holds
     (search needs)
-    whole-at-requires
+    whole-from-requires
     (λ c. omega (arith, near (c .before) (omega (arith, c .if1 .taken))))
     (λ c. omega (arith, near (c .before) (omega (arith, c .if1 .taken))))
     (λ c. omega (arith, near (c .before) (omega (arith, c .if1 .taken))))

@@ -15,6 +15,7 @@ use Rattle.model.specs.declared.Error.{Error}
 use Rattle.model.specs.declared.ReadVerdict.{ReadVerdict}
 use Rattle.model.specs.declared.ReadVerdict.the-variants.{Read}
 use Rattle.model.specs.Bytes.{long}
+use Rattle.model.specs.LogBufferDescriptor.{partitionOf}
 use Rattle.model.specs.Image.{readable, walkAt, pollReply, pollVerdict, slotsBy}
 use Rattle.model.proofs.Sound.{sound-true}
 use Rattle.logbuffer.proofs.Signed.{long-by}
@@ -23,7 +24,7 @@ use Rattle.image.specs.declared.frames.PolledTo.{PolledTo}
 use Rattle.logbuffer.specs.Reads.{readRefusal}
 use native.Mathlib.Nat.{mod-le}
 use Rattle.image.specs.Images.{stateOf, polledTo}
-use Rattle.image.proofs.Places.{term-length}
+use Rattle.image.proofs.Places.{term-length, shift-in}
 use Rattle.image.proofs.Rungs.{Readable, readable-read, poll-after, poll-by}
 use Rattle.image.proofs.Polls.{Read-to, on-unsound, on-walked}
 use borrow.Author.Needs.{needs}
@@ -68,7 +69,9 @@ frames-on-requires : tie.Need-frames-on-requires
 frames-on-requires c κs =
     let q = c .before in
     let k = passed q in
-    (k .sound, (ap (λ (x : ℕ). x % 32) (p-is q) ∙ k .p-32, st q .pre (k .good)))
+    let a = st q .args in
+    let e : a .k ≡ partitionOf (q .long .result) (a .v .term) = st q .pre .1 ∙ shift-in (a .v) _ _ (k .sound) ∙ ap (λ (x : ℕ). partitionOf x (a .v .term)) (sym (p-is q)) in
+    (k .sound, (ap (λ (x : ℕ). x % 32) (p-is q) ∙ k .p-32, (st q .pre .0 (k .good), e)))
 
 returns : tie.Need-returns
 returns c =
@@ -108,8 +111,8 @@ high c = omega (arith, low c, c .offset-of .ensures, came c .in-term, p-high (q�
 offset-of-requires : tie.Need-offset-of-requires
 offset-of-requires c κs = term-length _ _ (passed (c .before .before .before .before .before .before) .sound)
 
-cast-t24 : tie.Need-cast-t24
-cast-t24 c = record { sfits = omega (arith, high c) }
+cast-t25 : tie.Need-cast-t25
+cast-t25 c = record { sfits = omega (arith, high c) }
 
 returns-2 : tie.Need-returns-2
 returns-2 c =
@@ -156,7 +159,7 @@ poll-term-spec =
     offset-of-requires
     (λ c. omega (arith, low c))
     (λ c. omega (arith, high c))
-    cast-t24
+    cast-t25
     returns-2
     returns-3
     (search needs)

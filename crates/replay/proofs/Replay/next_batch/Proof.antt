@@ -1,6 +1,6 @@
 -- The replies left, and what is laid so far, give the batch that was asked for. A whole message is the reply of `next` there.
 use mathlib.Core.Path.{_≡_, refl, sym, ap, ap₂, subst, _∙_}
-use Prim.Native.Nat.{ℕ, _+_, _-_, _*_, _/_, _≤_, _<_}
+use Prim.Native.Nat.{ℕ, _+_, _-_, _*_, _/_, _%_, _≤_, _<_}
 use mathlib.Core.List.{List}
 use native.Mathlib.Omega.{arith}
 use borrow.Author.Needs.{needs}
@@ -22,13 +22,13 @@ use Rattle.logbuffer.specs.declared.fragment_assembler.FragmentAssembler.{Fragm
 use Rattle.logbuffer.specs.Assembler.{sessionsOf}
 use Rattle.logbuffer.proofs.Signed.{word-by, long-by}
 use Rattle.replay.specs.declared.Replay.{Replay}
-use Rattle.replay.specs.InPlace.{TermOrNone, stopAt, indexAt, wholeAt, openTerm, wholeOf}
+use Rattle.replay.specs.InPlace.{TermsOf, stopAt, indexAt, wholeAt, openTerm, wholeOf}
 use Rattle.model.specs.declared.Replayed.{Replayed}
 use Rattle.replay.specs.declared.Batched.{Batched}
 use Rattle.replay.specs.declared.Batched.the-variants.{Laid}
 use Rattle.replay.specs.Batches.{Batch, laidAt, ending, lastBy, lastNumbers, batchFrom, batchOf}
 use Rattle.replay.specs.Replays.{stateOf, nextReplyOf}
-use Rattle.replay.proofs.InPlace.{Near, readings, open-fits, open-moved, whole-near, whole-says, wholeReply}
+use Rattle.replay.proofs.InPlace.{Near, readings, open-terms, open-moved, whole-near, whole-says, wholeReply}
 use Rattle.replay.proofs.Batching.{batch-buffer, batch-numbers, batch-starts, batch-none, batch-goes, batch-ends}
 use Rattle.replay.proofs.Replay.next_batch.Statement.{statement}
 use Rattle.replay.proofs.Replay.next_batch.Tie as tie
@@ -37,12 +37,13 @@ abbrev at : Image → FragmentAssembler → List ℕ → ReplayState
 at image assembler buffer = stateOf (record { image = image; assembler = assembler }) buffer
 
 abbrev Inv-loop : tie.InvT-loop
-Inv-loop rec log buffer₀ numbers₀ v most image₀ assembler₀ stop term₀ laid₀ buffer numbers image assembler term laid =
+Inv-loop rec log buffer₀ numbers₀ v most image₀ assembler₀ stop term₀ number₀ base₀ laid₀ buffer numbers image assembler term number base laid =
     (length buffer ≡ length buffer₀) × ((length numbers ≡ length numbers₀) × ((laid ≤ most) × ((term ≡ openTerm (imageState image) (reading rec) (length log) (length buffer))
-    × (batchFrom (most - laid) rec log (at image assembler buffer) numbers laid ≡ batchFrom (most - 0) rec log (at image₀ assembler₀ buffer₀) numbers₀ 0))))
+    × (batchFrom (most - laid) rec log (at image assembler buffer) numbers laid ≡ batchFrom (most - 0) rec log (at image₀ assembler₀ buffer₀) numbers₀ 0
+    × (base ≡ number % 3 * term)))))
 
 abbrev μ-loop : tie.MeasureT-loop
-μ-loop rec log buffer₀ numbers₀ v most image₀ assembler₀ stop term₀ laid₀ buffer numbers image assembler term laid = most - laid
+μ-loop rec log buffer₀ numbers₀ v most image₀ assembler₀ stop term₀ number₀ base₀ laid₀ buffer numbers image assembler term number base laid = most - laid
 
 abbrev st : tie.At-loop Inv-loop μ-loop → tie.Start Inv-loop μ-loop
 st l = l .before .before .before .before .before .before .before .before .before .before .before
@@ -69,7 +70,7 @@ loop-holds : tie.Need-loop-holds Inv-loop μ-loop
 loop-holds c =
     let s = c .before .before .before .before .before .before .before .before .before .before in
     let t = c .open-term .ensures ∙ ap (λ (v : Reading). openTerm (imageState (s .args .self .image)) v (length (s .args .log .now)) (length (s .args .buffer .now))) (c .before .before .before .before .read-active .ensures) in
-    (refl, (refl, (omega arith, (t, refl))))
+    (refl, (refl, (omega arith, (t, (refl, omega arith)))))
 
 -- what it is to come to
 goal : (l : tie.At-loop Inv-loop μ-loop) → batchFrom (most l - l .loop .laid) (st l .args .rec) (st l .args .log .now) (S l) (l .loop .numbers) (l .loop .laid)
@@ -77,31 +78,31 @@ goal : (l : tie.At-loop Inv-loop μ-loop) → batchFrom (most l - l .loop .laid)
 goal l =
     let a = st l .args in
     let z : most l - 0 ≡ most l = omega arith in
-    l .loop .inv .1 .1 .1 .1 ∙ ap (λ (n : ℕ). batchFrom n (a .rec) (a .log .now) (stateOf (a .self) (a .buffer .now)) (a .numbers .now) 0) z
+    l .loop .inv .1 .1 .1 .1 .0 ∙ ap (λ (n : ℕ). batchFrom n (a .rec) (a .log .now) (stateOf (a .self) (a .buffer .now)) (a .numbers .now) 0) z
     ∙ batch-starts (a .rec) (a .log .now) (stateOf (a .self) (a .buffer .now)) (a .numbers .now) (omega (arith, l .before .before .before .before .before .before .before .if1)) (omega (arith, l .before .before .before .before .before .before .if2))
 
 -- there is room for the next
 room : (l : tie.In-loop Inv-loop μ-loop) → let q = l .before in (4 * q .loop .laid + 4 ≤ length (q .loop .numbers)) × ((q .loop .laid < 2147483648) × (q .loop .laid < most q))
 room l = let q = l .before in let u : q .loop .laid < most q = omega (arith, l .loop-test) in (omega (arith, q .loop .inv .1 .0), (omega (arith, q .before .before .before .before .before .before .if2), u))
 
-whole-at-requires : tie.Need-whole-at-requires Inv-loop μ-loop
-whole-at-requires c κs = subst TermOrNone (sym (c .before .before .before .loop .inv .1 .1 .1 .0)) (open-fits _ _ _ _)
+whole-from-requires : tie.Need-whole-from-requires Inv-loop μ-loop
+whole-from-requires c κs = let q = c .before .before .before .loop .inv .1 .1 .1 in (subst (TermsOf _) (sym (q .0)) (open-terms _ _ _ _), q .1 .1)
 
 -- ---- a whole message
 
-module _ (c : tie.After-whole-at Inv-loop μ-loop) where
+module _ (c : tie.After-whole-from Inv-loop μ-loop) where
   abbrev l : tie.At-loop Inv-loop μ-loop
   l = c .before .before .before .before
 
   abbrev n : ℕ
-  n = c .whole-at .result
+  n = c .whole-from .result .length
 
   p-is : c .before .long .result ≡ long (l .loop .image .position)
   p-is = long-by (l .loop .image .position) (c .before .long .ensures .0) (search needs)
 
   whole-is : wholeOf (st l .args .rec) (st l .args .log .now) (imageState (l .loop .image)) (length (l .loop .buffer)) ≡ n
   whole-is =
-      sym (c .whole-at .ensures ∙ ap (λ (x : ℕ). wholeAt (st l .args .log .now) (l .loop .term) x (c .before .long .result)) (l .before .before .stop-at .ensures ∙ ap stopAt (l .before .before .before .before .before .read-active .ensures))
+      sym (c .whole-from .ensures .0 ∙ ap (λ (x : ℕ). wholeAt (st l .args .log .now) (l .loop .term) x (c .before .long .result)) (l .before .before .stop-at .ensures ∙ ap stopAt (l .before .before .before .before .before .read-active .ensures))
       ∙ ap₂ (λ (t p : ℕ). wholeAt (st l .args .log .now) t (stopAt (reading (st l .args .rec))) p) (l .loop .inv .1 .1 .1 .0) p-is)
 
   module _ (some : 0 < n) where
@@ -123,7 +124,7 @@ module _ (c : tie.After-whole-at Inv-loop μ-loop) where
     moved : toZ w64 (c .before .long .result + (n + 31) / 32 * 32) ≡ pos (long (l .loop .image .position) + align n)
     moved = toZ-pos w64 (omega (arith, near)) ∙ ap (λ (x : ℕ). pos (x + align n)) p-is
 
-abbrev w : tie.Then3 Inv-loop μ-loop → tie.After-whole-at Inv-loop μ-loop
+abbrev w : tie.Then3 Inv-loop μ-loop → tie.After-whole-from Inv-loop μ-loop
 w c = c .before
 
 some : (c : tie.Then3 Inv-loop μ-loop) → 0 < n (w c)
@@ -131,11 +132,6 @@ some c = omega (arith, c .if3 .taken)
 
 cast-image : tie.Need-cast-image Inv-loop μ-loop
 cast-image c = let f = c .before .before .before .before .before in record { sfits = omega (arith, near (w f) (some f)) }
-
-index-at-requires : tie.Need-index-at-requires Inv-loop μ-loop
-index-at-requires c κs =
-    let q = l (w c) in
-    (omega (arith, q .loop .inv .1 .1 .1 .0, close (w c) (some c) .term-some), subst TermOrNone (sym (q .loop .inv .1 .1 .1 .0)) (open-fits _ _ _ _))
 
 term-fits : (s : tie.Start Inv-loop μ-loop) → SFits w32 (s .args .rec .«term_length»)
 term-fits s = search needs
@@ -161,7 +157,7 @@ loop-again c =
     let stays = q .loop .inv .1 .1 .1 .0 ∙ sym (open-moved (imageState (q .loop .image)) (pos (long (q .loop .image .position) + align (n g))) (reading (a .rec)) (length (a .log .now)) (length (q .loop .buffer)))
     ∙ ap (λ (x : ℤ). openTerm (movedTo (imageState (q .loop .image)) x) (reading (a .rec)) (length (a .log .now)) (length (q .loop .buffer))) (sym z) in
     let out : c .before .before .lay .last .0 ≡ laidAt (q .loop .numbers) (q .loop .laid) 1 (X g (some f) + 32) (n g - 32) (long (q .loop .image .position) + align (n g)) =
-    c .before .before .lay .ensures ∙ ap₂ (λ (i x : ℕ). laidAt (q .loop .numbers) (q .loop .laid) 1 (i + 32) (n g - 32) (x + align (n g))) (c .before .before .before .before .index-at .ensures ∙ index-is g (some f)) (p-is g) in (
+    c .before .before .lay .ensures ∙ ap₂ (λ (i x : ℕ). laidAt (q .loop .numbers) (q .loop .laid) 1 (i + 32) (n g - 32) (x + align (n g))) (g .whole-from .ensures .1 .1 (some f) ∙ index-is g (some f)) (p-is g) in (
       q .loop .inv .0,
       (
         omega (arith, c .before .numbers .given, q .loop .inv .1 .0),
@@ -169,9 +165,12 @@ loop-again c =
           omega (arith, h .1 .1),
           (
             stays,
-            ap₂ (λ (x : ℤ) (o : List ℕ). batchFrom (most q - (q .loop .laid + 1)) (a .rec) (a .log .now) (record { image = movedTo (imageState (q .loop .image)) x; sessions = sessionsOf (q .loop .assembler); buffer = q .loop .buffer }) o (q .loop .laid + 1)) z out
-                ∙ ap (λ (k : ℕ). batchFrom k (a .rec) (a .log .now) (y .next) (laidAt (q .loop .numbers) (q .loop .laid) 1 (X g (some f) + 32) (n g - 32) (long (q .loop .image .position) + align (n g))) (q .loop .laid + 1)) e
-                ∙ goes ∙ q .loop .inv .1 .1 .1 .1,
+            (
+              ap₂ (λ (x : ℤ) (o : List ℕ). batchFrom (most q - (q .loop .laid + 1)) (a .rec) (a .log .now) (record { image = movedTo (imageState (q .loop .image)) x; sessions = sessionsOf (q .loop .assembler); buffer = q .loop .buffer }) o (q .loop .laid + 1)) z out
+                  ∙ ap (λ (k : ℕ). batchFrom k (a .rec) (a .log .now) (y .next) (laidAt (q .loop .numbers) (q .loop .laid) 1 (X g (some f) + 32) (n g - 32) (long (q .loop .image .position) + align (n g))) (q .loop .laid + 1)) e
+                  ∙ goes ∙ q .loop .inv .1 .1 .1 .1 .0,
+              g .whole-from .ensures .1 .0,
+            ),
           ),
         ),
       ),
@@ -223,9 +222,12 @@ loop-again-2 c =
           omega (arith, h .1 .1),
           (
             t,
-            ap₂ (λ (k : ℕ) (o : List ℕ). batchFrom k (a .rec) (a .log .now) (stateOf (x .next) b) o (q .loop .laid + 1)) e out
-                ∙ batch-goes (a .rec) (a .log .now) (S q) (q .loop .numbers) (q .loop .laid) left (omega (arith, h .1 .1)) (nextReplyOf x b) (f .next-by-turns .ensures) (m .0 .0) (m .0 .1 .0) (m .1)
-                ∙ q .loop .inv .1 .1 .1 .1,
+            (
+              ap₂ (λ (k : ℕ) (o : List ℕ). batchFrom k (a .rec) (a .log .now) (stateOf (x .next) b) o (q .loop .laid + 1)) e out
+                  ∙ batch-goes (a .rec) (a .log .now) (S q) (q .loop .numbers) (q .loop .laid) left (omega (arith, h .1 .1)) (nextReplyOf x b) (f .next-by-turns .ensures) (m .0 .0) (m .0 .1 .0) (m .1)
+                  ∙ q .loop .inv .1 .1 .1 .1 .0,
+              omega arith,
+            ),
           ),
         ),
       ),
@@ -253,12 +255,11 @@ next-batch-spec =
     (search needs)
     loop-holds
     (search needs)
-    whole-at-requires
+    whole-from-requires
     (λ c. omega (arith, near (w c) (some c)))
     (λ c. omega (arith, near (w c) (some c)))
     (λ c. omega (arith, near (w c) (some c)))
-    index-at-requires
-    (λ c. omega (arith, c .index-at .ensures, index-is (w (c .before)) (some (c .before)), near (w (c .before)) (some (c .before))))
+    (λ c. omega (arith, w (c .before) .whole-from .ensures .1 .1 (some (c .before)), index-is (w (c .before)) (some (c .before)), near (w (c .before)) (some (c .before))))
     (λ c. omega (arith, near (w (c .before .before)) (some (c .before .before))))
     lay-requires
     cast-image

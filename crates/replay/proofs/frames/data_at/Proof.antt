@@ -9,8 +9,10 @@ use lib.Bits.{bitAnd}
 use lib.ListN.{drop}
 use Rattle.model.specs.FrameDescriptor.{frameAt}
 use Rattle.logbuffer.proofs.Shifts.{offset-by}
-use Rattle.replay.specs.InPlace.{dataLength, dataAt}
-use Rattle.replay.proofs.InPlace.{no-data, data-past, data-empty, data-off, data-by}
+use Rattle.logbuffer.specs.Whole.{dataLength}
+use Rattle.logbuffer.proofs.Whole.{no-data}
+use Rattle.replay.specs.InPlace.{dataAt}
+use Rattle.replay.proofs.InPlace.{data-past, data-empty, data-off, data-by}
 use borrow.Author.Needs.{needs}
 use Rattle.replay.proofs.frames.data_at.Statement.{statement}
 use Rattle.replay.proofs.frames.data_at.Tie as tie
