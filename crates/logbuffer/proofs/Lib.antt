@@ -16,6 +16,8 @@ pub mod Assembly
 pub mod Past
 pub mod HeaderLaws
 pub mod Claims
+pub mod Eithers
+pub mod Commits
 pub mod Sessions
 pub mod TermWalk
 pub mod Ways

@@ -4,3 +4,4 @@ pub mod Assembler
 pub mod Ways
 pub mod Reads
 pub mod Whole
+pub mod Commits

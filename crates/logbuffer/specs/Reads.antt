@@ -1,5 +1,5 @@
 -- For a caller who has read the record's numbers: these with a raw tail that he has, and a read of a partition to its term's end; and the refusal of such a read.
-use Prim.Native.Nat.{ℕ, _*_, _%_}
+use Prim.Native.Nat.{ℕ, _*_, _/_, _%_}
 use mathlib.Core.Bool.{Bool, cond, _&&_}
 use mathlib.Core.List.{List}
 use lib.Dec.{eqb}
@@ -15,12 +15,12 @@ use Rattle.model.specs.declared.TermRead.{TermRead}
 use Rattle.model.specs.declared.TermRead.the-variants.{Outcome, Refused}
 use Rattle.model.specs.Bytes.{word, long}
 use Rattle.model.specs.FrameDescriptor.{unsoundFrameAt}
-use Rattle.model.specs.LogBufferDescriptor.{idBits, idOf, offsetOf, sound, goodPartition, frameRow}
+use Rattle.model.specs.LogBufferDescriptor.{idBits, sound, goodPartition, frameRow}
 use Rattle.model.specs.TermReader.{goodEntries, firstUnsound}
 
--- `readingOf` with that tail; `reading-with` (proofs/RawTails.antt) is the law that at a partition's own tail it is the reading there
-unfoldable pub readingWith : LogRecord → ℤ → Reading
-readingWith r raw =
+-- the record's numbers with the bits of a raw tail
+abbrev pub readingBy : LogRecord → ℕ → Reading
+readingBy r bits =
     record {
       term = word (r .«term_length»);
       mtu = word (r .«mtu_length»);
@@ -30,11 +30,15 @@ readingWith r raw =
       stream = word (r .«stream_id»);
       connected = word (r .«is_connected»);
       limit = long (r .«publication_limit»);
-      id = idOf raw;
-      offset = offsetOf raw;
+      id = idBits (bits / 4294967296);
+      offset = bits % 4294967296;
       closed = r .«is_closed»;
       slowest = long (r .«slowest_position»);
     }
+
+-- `readingOf` with that tail; `reading-with` (proofs/RawTails.antt) is the law that at a partition's own tail it is the reading there
+unfoldable pub readingWith : LogRecord → ℤ → Reading
+readingWith r raw = readingBy r (long raw)
 
 -- sound numbers, a partition, an offset that is a multiple of 32, room for the entries
 abbrev pub goodReadOn : Reading → ℕ → ℕ → ℕ → ℕ → ℕ → Bool

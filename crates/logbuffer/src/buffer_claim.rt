@@ -7,6 +7,7 @@ ghost use Rattle.model.specs.Bytes.{word};
 ghost use Rattle.model.specs.Parts.{partOf, locatedNumber};
 ghost use Rattle.model.specs.BufferClaim.{claimStart, goodClaim, matches, locateOf, writeOf, writeBytes, commitOf, commitBytes, abortBytes};
 ghost use Rattle.logbuffer.specs.Lent.{startOf};
+ghost use Rattle.logbuffer.specs.Commits.{readAll, commitFits, commitFitBytes};
 use crate::bit_utils;
 use crate::cast;
 use crate::copying;
@@ -143,7 +144,47 @@ pub fn commit(rec: LogRecord, log: &mut [u8], claim: Claim) -> Outcome
     Outcome::Done
 }
 
-// The same with type 0: the frame is padding.
+// The record's numbers with the bits of all its tails' offsets and of the claim's for its offset: sound with these, the record is sound with any of its
+// tails, and the claim's offset is a multiple of 32. So no tail is looked for among three.
+fn read_all(rec: LogRecord, claim: Claim) -> Reading
+    ensures { λ r. ⌜ r ≡ readAll rec claim ⌝ }
+{
+    let first = cast::long(log_buffer_descriptor::tail(rec, 0));
+    let second = cast::long(log_buffer_descriptor::tail(rec, 1));
+    let third = cast::long(log_buffer_descriptor::tail(rec, 2));
+    let bits = first | second | third | cast::word(claim.offset);
+    log_buffer_descriptor::read_with(rec, cast::to_i64(bits))
+}
+
+// A commit that nothing refuses, and whether it was done; where it was not, the log is as it was. It is for a caller who has another path for all else.
+pub fn commit_fit(rec: LogRecord, log: &mut [u8], claim: Claim) -> bool
+    ensures { λ r. ⌜ r ≡ commitFits rec (now (log .entry)) claim ⌝ }
+    ensures { λ _. ⌜ now (log .exit) ≡ commitFitBytes rec (now (log .entry)) claim ⌝ }
+{
+    let offset = cast::word(claim.offset);
+    let length = cast::word(claim.length);
+    if cast::word(claim.partition) > 2 {
+        return false;
+    }
+    if length < HEADER_LENGTH {
+        return false;
+    }
+    let v = read_all(rec, claim);
+    if !log_buffer_descriptor::is_sound(v, log.len()) {
+        return false;
+    }
+    if offset + (length + ALIGNMENT_MASK) / FRAME_ALIGNMENT * FRAME_ALIGNMENT > v.term {
+        return false;
+    }
+    let at = start(v, claim);
+    if !shows(log, at, claim) {
+        return false;
+    }
+    field::put4(log, at, length);
+    true
+}
+
+// A commit with type 0 beside it: the frame is padding.
 pub fn abort(rec: LogRecord, log: &mut [u8], claim: Claim) -> Outcome
     ensures { λ r. ⌜ r ≡ commitOf rec (now (log .entry)) claim ⌝ }
     ensures { λ _. ⌜ now (log .exit) ≡ abortBytes rec (now (log .entry)) claim ⌝ }

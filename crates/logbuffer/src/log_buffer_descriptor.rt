@@ -108,7 +108,7 @@ pub fn compute_position(term_id: i32, offset: u32, bits: u32, initial: i32) -> P
 // ---- the record, read
 
 // The raw tail of a partition; 0 where there is none. Every index is a constant, so that the tails need not stand in memory.
-fn tail(rec: LogRecord, partition: usize) -> i64
+pub(crate) fn tail(rec: LogRecord, partition: usize) -> i64
     ensures { λ r. ⌜ r ≡ tailOf rec partition ⌝ }
 {
     if partition == 0 {
@@ -161,10 +161,23 @@ pub fn read_active(rec: LogRecord) -> Reading
 
 // ---- row 2
 
-// The record's own ranges.
+// The record's own ranges. Multiples and greatest values are asked of two numbers at once, by the bits that either has, and in an order that the
+// compiler makes the shortest code of: every call asks this (docs/SPEED.md).
 pub fn is_sound_record(numbers: Reading) -> bool
     ensures { λ r. ⌜ r ≡ soundRecord numbers ⌝ }
 {
+    if (numbers.count | numbers.offset) > 2147483647 {
+        return false;
+    }
+    if numbers.limit > 4611686018427387904 {
+        return false;
+    }
+    if numbers.mtu < 64 {
+        return false;
+    }
+    if numbers.mtu > 65504 {
+        return false;
+    }
     if numbers.term < TERM_MIN_LENGTH {
         return false;
     }
@@ -174,31 +187,13 @@ pub fn is_sound_record(numbers: Reading) -> bool
     if usize::count_ones(numbers.term) != 1 {
         return false;
     }
-    if numbers.mtu < 64 {
-        return false;
-    }
-    if numbers.mtu > 65504 {
-        return false;
-    }
-    if numbers.mtu % FRAME_ALIGNMENT != 0 {
-        return false;
-    }
-    if numbers.count > 2147483647 {
-        return false;
-    }
-    if numbers.limit > 4611686018427387904 {
-        return false;
-    }
-    if numbers.slowest > numbers.term * 2147483648 {
-        return false;
-    }
-    if numbers.slowest % FRAME_ALIGNMENT != 0 {
+    if (numbers.mtu | numbers.slowest) % FRAME_ALIGNMENT != 0 {
         return false;
     }
     if numbers.offset % FRAME_ALIGNMENT != 0 {
         return false;
     }
-    numbers.offset <= 2147483647
+    numbers.slowest <= numbers.term * 2147483648
 }
 
 // And those of a lent log of n bytes.
