@@ -55,19 +55,19 @@ pub open-true : (v : Reading) (n m : ℕ) → isOpen v n m ≡ true → Open v n
 unfolding isOpen inStep
 open-true v n m h =
     let a = and-true (sound v n) _ h in
-    let b = and-true (not (v .closed)) _ (a .1) in
-    let d = and-true (inStep v) _ (b .1) in
+    let d = and-true (inStep v) _ (a .1) in
     let e = and-true (ltb (place v) (v .limit)) _ (d .1) in
+    let b = and-true (leb m (payloadLimit v)) _ (e .1) in
     let i = and-true (ltb (v .id) 4294967296) _ (d .0) in
     let j = and-true (ltb (v .initial) 4294967296) _ (i .1) in
     record {
       is-so = a .0;
       so = sound-true v n (a .0);
-      not-closed = not-true _ (b .0);
+      not-closed = not-true _ (b .1);
       id-in = ltb-true _ _ (i .0);
       step = eqb-true _ _ (j .1);
       below = ltb-true _ _ (e .0);
-      short = leb-true _ _ (e .1);
+      short = leb-true _ _ (b .0);
     }
 
 -- ---- the answer and the log by what the appender gives

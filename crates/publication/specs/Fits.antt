@@ -21,7 +21,7 @@ inStep v = ltb (v .id) 4294967296 && (ltb (v .initial) 4294967296 && eqb (idMinu
 
 -- a message or a claim of m bytes that one frame holds, and that nothing refuses in a log of n bytes
 unfoldable pub isOpen : Reading → ℕ → ℕ → Bool
-isOpen v n m = sound v n && (not (v .closed) && (inStep v && (ltb (place v) (v .limit) && leb m (payloadLimit v))))
+isOpen v n m = sound v n && (inStep v && (ltb (place v) (v .limit) && (leb m (payloadLimit v) && not (v .closed))))
 
 -- and that fits at the active partition's tail
 abbrev pub isFit : Reading → ℕ → ℕ → Bool

@@ -1,13 +1,11 @@
 // Offers and claims of one frame that nothing refuses and that fits: the shorter path of a caller who keeps the record as numbers of his own, changes
 // one tail by himself, and leaves all else to `offer` and `try_claim`. Read lib next.
 ghost use mathlib.Core.Path.{_≡_};
-ghost use Prim.Native.Nat.{_≤_, _<_};
-ghost use lib.Count.{ones};
+ghost use Prim.Native.Nat.{_*_, _≤_, _<_};
 ghost use lib.ListN.{length as lengthOf};
 ghost use Rattle.model.specs.Bytes.{long};
 ghost use Rattle.model.proofs.Sound.{Bounds};
 ghost use Rattle.publication.specs.Fits.{inStep, isOpen, afterEnd, fitted, noClaim, fittedClaim, offerFitBytes, claimFitBytes};
-use crate::judge;
 use logbuffer::cast;
 use logbuffer::data_frame_header::HEADER_LENGTH;
 use logbuffer::log_buffer_descriptor;
@@ -30,6 +28,14 @@ fn in_step(v: Reading) -> bool
     log_buffer_descriptor::id_minus(id as u32, initial as u32) as usize == v.count
 }
 
+// The position at which the active term begins, by a product: here it is shorter than the bits to shift.
+fn begin(v: Reading) -> usize
+    requires { ⌜ Bounds v ⌝ }
+    ensures { λ r. ⌜ r ≡ v .count * v .term ⌝ }
+{
+    v.count * v.term
+}
+
 // Whether a message or a claim of m bytes is one frame that nothing refuses, in a log of n bytes.
 fn is_open(v: Reading, n: usize, m: usize) -> bool
     ensures { λ r. ⌜ r ≡ isOpen v n m ⌝ }
@@ -37,17 +43,16 @@ fn is_open(v: Reading, n: usize, m: usize) -> bool
     if !log_buffer_descriptor::is_sound(v, n) {
         return false;
     }
-    if v.closed {
-        return false;
-    }
     if !in_step(v) {
         return false;
     }
-    let begin = judge::begin_position(v);
-    if v.limit <= begin + v.offset {
+    if v.limit <= begin(v) + v.offset {
         return false;
     }
-    m <= v.mtu - HEADER_LENGTH
+    if m > v.mtu - HEADER_LENGTH {
+        return false;
+    }
+    !v.closed
 }
 
 // The raw tail and the position after a frame; 0 both for none.
@@ -65,7 +70,7 @@ pub struct FittedClaim {
 
 // By the offset after a frame at the tail; 0 for none.
 fn after(v: Reading, end: usize) -> Fitted
-    requires { ⌜ Bounds v × ((ones (v .term) ≡ 1) × ((v .id < 4294967296) × (end ≤ v .term))) ⌝ }
+    requires { ⌜ Bounds v × ((v .id < 4294967296) × (end ≤ v .term)) ⌝ }
     ensures { λ r. ⌜ r ≡ afterEnd v end ⌝ }
 {
     if end == 0 {
@@ -74,10 +79,9 @@ fn after(v: Reading, end: usize) -> Fitted
             position: 0,
         };
     }
-    let begin = judge::begin_position(v);
     Fitted {
         tail: cast::to_i64(v.id * 4294967296 + end),
-        position: (begin + end) as i64,
+        position: (begin(v) + end) as i64,
     }
 }
 
@@ -127,6 +131,7 @@ pub fn claim_fit(numbers: Reading, log: &mut [u8], body_length: usize) -> Fitted
         return no_claim();
     }
     let fitted = after(numbers, end);
+    let raw_tail = cast::to_i64(numbers.id * 4294967296 + numbers.offset);
     FittedClaim {
         tail: fitted.tail,
         position: fitted.position,
@@ -134,7 +139,7 @@ pub fn claim_fit(numbers: Reading, log: &mut [u8], body_length: usize) -> Fitted
             partition: k as i32,
             offset: numbers.offset as i32,
             length: (body_length + HEADER_LENGTH) as i32,
-            term_id: log_buffer_descriptor::term_id(fitted.tail),
+            term_id: log_buffer_descriptor::term_id(raw_tail),
         },
     }
 }

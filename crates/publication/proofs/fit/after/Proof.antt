@@ -20,20 +20,19 @@ use Rattle.publication.proofs.fit.after.Tie as tie
 returns : tie.Need-returns
 returns c = sym (cond-true (eqb (c .before .args .end) 0) noneFitted (fittedAt (c .before .args .v) (c .before .args .end)) (eq-eqb _ _ (c .if1 .taken)))
 
-small : (c : tie.After-begin-position) → (let a = c .before .before .args in c .begin-position .result + a .end < 9223372036854775808)
-small c = let s = c .before .before in omega (arith, c .begin-position .ensures, begin-most _ (s .pre .0), s .pre .0 .term-most, s .pre .1 .1 .1)
+small : (c : tie.After-begin) → (let a = c .before .before .before .before .args in c .begin .result + a .end < 9223372036854775808)
+small c = let s = c .before .before .before .before in omega (arith, c .begin .ensures, begin-most _ (s .pre .0), s .pre .0 .term-most, s .pre .1 .1)
 
 cast-t9 : tie.Need-cast-t9
-cast-t9 c = record { sfits = omega (arith, small (c .before .before)) }
+cast-t9 c = record { sfits = omega (arith, small c) }
 
 returns-2 : tie.Need-returns-2
 returns-2 c =
     let s = c .before .before .before .before in
     let a = s .args in
-    let d = c .before .before in
-    let fits : SFits w64 (c .to-i64 .result) = search needs in
-    let tail = raw-is (a .v .id) (a .end) _ (s .pre .1 .1 .0) (toZ-ofZ fits ∙ c .to-i64 .ensures) in
-    let at : toZ w64 (d .begin-position .result + a .end) ≡ pos (a .v .count * a .v .term + a .end) = toZ-pos w64 (omega (arith, small d)) ∙ ap (λ (x : ℕ). pos (x + a .end)) (d .begin-position .ensures) in
+    let fits : SFits w64 (c .before .to-i64 .result) = search needs in
+    let tail = raw-is (a .v .id) (a .end) _ (s .pre .1 .0) (toZ-ofZ fits ∙ c .before .to-i64 .ensures) in
+    let at : toZ w64 (c .begin .result + a .end) ≡ pos (a .v .count * a .v .term + a .end) = toZ-pos w64 (omega (arith, small c)) ∙ ap (λ (x : ℕ). pos (x + a .end)) (c .begin .ensures) in
     ap₂ {C = Fitted} (λ (t z : ℤ). record { tail = t; position = z }) tail at ∙ sym (cond-false (eqb (a .end) 0) noneFitted (fittedAt (a .v) (a .end)) (ne-eqb _ _ (c .before .before .before .if1 .left)))
 
 pub after-spec : {M : Type 1} → statement M
@@ -45,6 +44,6 @@ after-spec =
     (search needs)
     (search needs)
     (search needs)
-    (λ c. omega (arith, small (c .before .before)))
+    (λ c. omega (arith, small c))
     cast-t9
     returns-2)

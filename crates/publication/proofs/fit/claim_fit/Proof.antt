@@ -16,7 +16,7 @@ use Rattle.model.proofs.Choice.{cond-true, cond-false}
 use Rattle.model.proofs.Sound.{bounds}
 use Rattle.publication.specs.declared.fit.Fitted.{Fitted}
 use Rattle.publication.specs.Fits.{isOpen, isFit, noneFitted, fittedAt}
-use Rattle.publication.proofs.Fits.{Open, open-true, not-open, end-in, end-none, end-some, bytes-by, raw-term, claim-answer}
+use Rattle.publication.proofs.Fits.{Open, open-true, not-open, end-in, end-none, end-some, bytes-by, raw-is, raw-term, claim-answer}
 use Rattle.publication.proofs.fit.claim_fit.Statement.{statement}
 use Rattle.publication.proofs.fit.claim_fit.Tie as tie
 
@@ -44,24 +44,25 @@ after-requires c κs =
     let e = c .before .before .before .before .before .before in
     let a = e .before .before .before .args in
     let o = opened e in
-    (bounds _ _ (o .so), (o .so .one-bit, (o .id-in, end-in (a .numbers) (length (a .log .now)) (a .body-length) (is e) _ (c .before .before .before .claim-fit .ensures .0))))
+    (bounds _ _ (o .so), (o .id-in, end-in (a .numbers) (length (a .log .now)) (a .body-length) (is e) _ (c .before .before .before .claim-fit .ensures .0)))
 
 returns-3 : tie.Need-returns-3
 returns-3 c =
-    let e = c .before .before .before .before .before .before .before .before .before .before .before in
+    let e = c .before .before .before .before .before .before .before .before .before .before .before .before .before in
     let a = e .before .before .before .args in
-    let d = c .before .before .before .before .before .before .before .before .claim-fit in
-    let x = c .before .before .before .before .after in
+    let d = c .before .before .before .before .before .before .before .before .before .before .claim-fit in
+    let x = c .before .before .before .before .before .before .after in
     let end = d .result in
     let o = opened e in
-    let z : end ≡ 0 → ⊥ = c .before .before .before .before .before .if2 .left in
+    let z : end ≡ 0 → ⊥ = c .before .before .before .before .before .before .before .if2 .left in
     let some = end-some (a .numbers) (length (a .log .now)) (a .body-length) (is e) end (d .ensures .0) z in
     let at = x .ensures ∙ cond-false (eqb end 0) noneFitted (fittedAt (a .numbers) end) (ne-eqb end 0 z) in
-    let in-term = end-in (a .numbers) (length (a .log .now)) (a .body-length) (is e) end (d .ensures .0) in
     let tail-fits : SFits w64 (x .result .tail) = search needs in
     let position-fits : SFits w64 (x .result .position) = search needs in
     let id-fits : SFits w32 (c .before .term-id .result) = search needs in
-    let id = toZ-ofZ id-fits ∙ c .before .term-id .ensures ∙ ap termId (toZ-ofZ tail-fits ∙ ap (λ (y : Fitted). y .tail) at) ∙ raw-term (a .numbers .id) end (o .id-in) (omega (arith, o .so, in-term)) in (
+    let raw-fits : SFits w64 (c .before .before .before .to-i64 .result) = search needs in
+    let raw = raw-is (a .numbers .id) (a .numbers .offset) _ (o .id-in) (toZ-ofZ raw-fits ∙ c .before .before .before .to-i64 .ensures) in
+    let id = toZ-ofZ id-fits ∙ c .before .term-id .ensures ∙ ap termId raw ∙ raw-term (a .numbers .id) (a .numbers .offset) (o .id-in) (omega (arith, o .so .offset-high)) in (
       claim-answer (a .numbers) (a .body-length) end (x .result) _ _ _ _ _ _ (some .1) at (toZ-ofZ tail-fits) (toZ-ofZ position-fits) (toZ-pos w32 (omega arith)) (toZ-pos w32 (omega (arith, o .so))) (toZ-pos w32 (omega (arith, o .so, o .short))) id
           ∙ sym (cond-true _ _ _ (some .0)),
       bytes-by (a .numbers) (length (a .log .now)) (a .body-length) (is e) (a .log .now) _ _ (d .ensures .1),
@@ -79,10 +80,13 @@ claim-fit-spec =
     (search needs)
     returns-2
     after-requires
+    (λ c. omega (arith, opened (c .before .before .before .before .before .before .before .before) .id-in))
+    (λ c. omega (arith, opened (c .before .before .before .before .before .before .before .before .before) .id-in, opened (c .before .before .before .before .before .before .before .before .before) .so .offset-high))
     (search needs)
-    (λ c. record { sfits = omega (arith, opened (c .before .before .before .before .before .before .before .before) .so) })
-    (λ c. omega (arith, opened (c .before .before .before .before .before .before .before .before) .so, opened (c .before .before .before .before .before .before .before .before) .short))
-    (λ c. record { sfits = omega (arith, opened (c .before .before .before .before .before .before .before .before) .so, opened (c .before .before .before .before .before .before .before .before) .short) })
+    (search needs)
+    (λ c. record { sfits = omega (arith, opened (c .before .before .before .before .before .before .before .before .before .before .before) .so) })
+    (λ c. omega (arith, opened (c .before .before .before .before .before .before .before .before .before .before .before) .so, opened (c .before .before .before .before .before .before .before .before .before .before .before) .short))
+    (λ c. record { sfits = omega (arith, opened (c .before .before .before .before .before .before .before .before .before .before .before) .so, opened (c .before .before .before .before .before .before .before .before .before .before .before) .short) })
     (search needs)
     (search needs)
     returns-3)

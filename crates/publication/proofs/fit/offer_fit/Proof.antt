@@ -31,7 +31,7 @@ after-requires c κs =
     let e = c .before .before .before .before in
     let a = e .before .before .before .before .args in
     let o = open-true _ _ _ (is e) in
-    (bounds _ _ (o .so), (o .so .one-bit, (o .id-in, end-in (a .numbers) (length (a .log .now)) (length (a .message .now)) (is e) _ (c .before .before .append-fit .ensures .0))))
+    (bounds _ _ (o .so), (o .id-in, end-in (a .numbers) (length (a .log .now)) (length (a .message .now)) (is e) _ (c .before .before .append-fit .ensures .0)))
 
 returns-2 : tie.Need-returns-2
 returns-2 c =
