@@ -95,6 +95,17 @@ fn a_claim_is_taken_up_in_a_log_made_of_its_parts() {
 }
 
 #[test]
+fn a_commit_asks_of_the_active_tail_alone() {
+    let mut log = log();
+    let _ = log.try_claim(0).unwrap().into_open();
+    let (mut record, bytes) = log.into_parts();
+    record.tails[2] |= 1; // no multiple of 32, but of a partition that is not active
+    let mut log = logbuffer::Log::from_parts(record, bytes).unwrap();
+    let open = log.open_claim_at(0).unwrap();
+    assert_eq!(log.commit(open), Ok(32));
+}
+
+#[test]
 fn a_length_that_no_claim_has_is_refused_and_not_added_up_past_32_bits() {
     let mut log = log();
     log.offer(b"coin").unwrap();

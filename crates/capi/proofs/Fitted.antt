@@ -1,11 +1,12 @@
--- The shorter path of offers and claims: whether its answer tells a frame, and what then crosses to C.
+-- The shorter path of offers, claims and commits: whether its answer tells that it is done, and what then crosses to C.
 use mathlib.Core.Path.{_≡_, refl, sym, ap, ap₂, _∙_}
-use mathlib.Core.Bool.{true, false}
+use mathlib.Core.Bool.{Bool, true, false}
 use mathlib.Core.List.{List, [], _∷_}
 use Prim.Native.Nat.{ℕ, _+_, _*_, _%_}
 use native.Mathlib.Omega.{arith}
 use lib.IntN.{ℤ, pos, natAbs}
 use lib.ListN.{length}
+use Rattle.model.specs.declared.Claim.{Claim}
 use Rattle.model.specs.declared.Reading.{Reading}
 use Rattle.model.specs.declared.LogRecord.{LogRecord}
 use Rattle.model.specs.declared.OfferReply.{OfferReply}
@@ -14,9 +15,12 @@ use Rattle.model.specs.Bytes.{word, long}
 use Rattle.model.specs.FrameDescriptor.{space}
 use Rattle.model.specs.LogBufferDescriptor.{active, reading, withTail}
 use Rattle.model.specs.TermAppender.{fragment, written, claimed, claimRecord}
+use Rattle.model.specs.BufferClaim.{commitOf, commitBytes}
 use Rattle.model.specs.Publication.{offerOf, offerBytes, claimOf, claimBytes}
 use Rattle.model.proofs.Both.{test}
 use Rattle.model.proofs.Choice.{cond-true, cond-false}
+use Rattle.logbuffer.specs.Commits.{commitFits, commitFitBytes}
+use Rattle.logbuffer.proofs.Commits.{commit-fits}
 use Rattle.publication.specs.declared.fit.Fitted.{Fitted}
 use Rattle.publication.specs.declared.fit.FittedClaim.{FittedClaim}
 use Rattle.publication.specs.Fits.{isFit, noneFitted, fittedAt, fitted, noClaim, claimAt, fittedClaim, offerFitBytes, claimFitBytes}
@@ -24,7 +28,7 @@ use Rattle.publication.proofs.OfferBy.{active-by}
 use Rattle.publication.proofs.Fits.{offer-fits, claim-fits as fits-claim}
 use Rattle.capi.specs.declared.replies.ClaimReply.{ClaimReply as ClaimCrossed}
 use Rattle.capi.specs.Words.{tailMoved, claimWords}
-use Rattle.capi.specs.Replies.{offerReply, claimReply}
+use Rattle.capi.specs.Replies.{outcomeNumber, offerReply, claimReply}
 
 -- the position after a frame is none that stands for none
 after-some : {A : Type 0} (v : Reading) (m : ℕ) → pos (v .count * v .term + (v .offset + space m)) ≡ pos 0 → A
@@ -101,3 +105,12 @@ module _ (r : LogRecord) (log : List ℕ) (len : ℤ) (v : Reading) (ev : v ≡ 
           left-claim ∙ cond-true _ _ _ fits ∙ ap (λ (j : ℕ). claimed (reading r) log (j * reading r .term) (word len)) part ∙ law .1,
         ),
       )
+
+-- ---- a commit
+
+module _ (r : LogRecord) (log : List ℕ) (c : Claim) (b : Bool) (out : List ℕ) (eb : b ≡ commitFits r log c) (eo : out ≡ commitFitBytes r log c) where
+  pub commit-none : b ≡ false → out ≡ log
+  commit-none h = eo ∙ cond-false _ _ _ (sym eb ∙ h)
+
+  pub commit-some : b ≡ true → (pos 0 ≡ outcomeNumber (commitOf r log c)) × (out ≡ commitBytes r log c)
+  commit-some h = let f = commit-fits r log c (sym eb ∙ h) in (ap outcomeNumber (f .0), eo ∙ cond-true _ _ _ (sym eb ∙ h) ∙ f .1)

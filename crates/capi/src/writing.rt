@@ -212,7 +212,8 @@ fn claim_by_all(rec: &mut [i64; 14], log: &mut [u8], length: i32) -> ClaimReply
 }
 
 // A claim that fits moves one tail and no other word. What `claim_by_all` answers is a value of its own first, so that the reply of a claim that fits is
-// stored once, where the caller wants it.
+// stored once, where the caller wants it; and it is called from two places, so that it stays a call of its own. What the first of them asks, the
+// shorter path asks again, and the compiler leaves it out there.
 #[no_mangle]
 pub extern "C" fn logbuffer_try_claim(
     rec: &mut [i64; 14],
@@ -223,11 +224,11 @@ pub extern "C" fn logbuffer_try_claim(
     ensures { λ _. ⌜ now (rec .exit) ≡ recordOut (now (rec .entry)) (claimOf (recordIn (now (rec .entry))) (now (log .entry)) length .next) ⌝ }
     ensures { λ _. ⌜ now (log .exit) ≡ claimBytes (recordIn (now (rec .entry))) (now (log .entry)) length ⌝ }
 {
-    if length < 0 {
+    let v = words::reading_in(rec);
+    if !log_buffer_descriptor::is_sound(v, log.len()) {
         let all = claim_by_all(rec, log, length);
         return all;
     }
-    let v = words::reading_in(rec);
     let fitted = fit::claim_fit(v, log, cast::word(length));
     let position = fitted.position;
     if position == 0 {
@@ -271,12 +272,39 @@ pub extern "C" fn logbuffer_claim_write(
     replies::outcome_code(buffer_claim::write(words::record_in(rec), log, claim, bytes))
 }
 
+// A commit by the whole record: all but those that nothing refuses.
+fn commit_by_all(rec: &[i64; 14], log: &mut [u8], claim: Claim) -> i32
+    ensures { λ r. ⌜ r ≡ outcomeNumber (commitOf (recordIn (now (rec .entry))) (now (log .entry)) claim) ⌝ }
+    ensures { λ _. ⌜ now (log .exit) ≡ commitBytes (recordIn (now (rec .entry))) (now (log .entry)) claim ⌝ }
+{
+    replies::outcome_code(buffer_claim::commit(words::record_in(rec), log, claim))
+}
+
+// A claim once more, number by number: it lies in memory only where it is handed on, so that a commit that is done has it in registers.
+fn again(claim: Claim) -> Claim
+    ensures { λ r. ⌜ r ≡ claim ⌝ }
+{
+    Claim {
+        partition: claim.partition,
+        offset: claim.offset,
+        length: claim.length,
+        term_id: claim.term_id,
+    }
+}
+
+// A commit that nothing refuses stores the length. All else, from two places so that it stays a call of its own, is left to `commit_by_all`.
 #[no_mangle]
 pub extern "C" fn logbuffer_commit(rec: &[i64; 14], log: &mut [u8], claim: Claim) -> i32
     ensures { λ r. ⌜ r ≡ outcomeNumber (commitOf (recordIn (now (rec .entry))) (now (log .entry)) claim) ⌝ }
     ensures { λ _. ⌜ now (log .exit) ≡ commitBytes (recordIn (now (rec .entry))) (now (log .entry)) claim ⌝ }
 {
-    replies::outcome_code(buffer_claim::commit(words::record_in(rec), log, claim))
+    if claim.length < 32 {
+        return commit_by_all(rec, log, again(claim));
+    }
+    if !buffer_claim::commit_fit(words::record_in(rec), log, claim) {
+        return commit_by_all(rec, log, again(claim));
+    }
+    0
 }
 
 #[no_mangle]
