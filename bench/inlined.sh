@@ -9,7 +9,7 @@ names=$(nm "$archive" | sed -n 's/^[0-9a-f]* [tT] //p')
 case "$names" in *logbuffer_offer*) ;; *) echo "inlined.sh: no functions in $archive"; exit 1 ;; esac
 for name in publication::fit::offer_fit publication::fit::claim_fit publication::fit::is_open logbuffer::term_appender::append_fit \
     logbuffer::term_appender::claim_fit logbuffer::term_appender::fits logbuffer::header::write_fragment logbuffer::header::write_claim \
-    logbuffer::buffer_claim::commit logbuffer::log_buffer_descriptor::is_sound logbuffer::log_buffer_descriptor::read_with \
+    logbuffer::buffer_claim::commit_fit logbuffer::buffer_claim::read_all logbuffer::log_buffer_descriptor::is_sound logbuffer::log_buffer_descriptor::read_with \
     image::Image::poll_on image::frames::poll_term logbuffer::term_reader::read_on logbuffer::term_reader::walk_term \
     logbuffer::frame_descriptor::frame_at logbuffer::frame_descriptor::frame_inside logbuffer::frame_descriptor::whole_length \
     replay::frames::next_whole replay::frames::whole_from replay::frames::base_at \

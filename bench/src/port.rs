@@ -157,18 +157,20 @@ pub fn poll_in_turns(logs: &[&Log], entries: &mut [i32], limit: i32) -> usize {
     fragments
 }
 
-/// Zeroed memory, used from the first multiple of 64 on, as the Rust's log is: asked for alike, and copies cross the lines of the cache alike.
+/// Zeroed memory, used from the first multiple of 64 on, as the Rust's log is: asked for alike, and copies cross the lines of the cache alike. Where
+/// it begins is worked out once, so that a call of the port has its pointer at hand as the Rust's buffers have theirs.
 pub struct Memory {
-    bytes: Vec<u8>,
-    start: usize,
+    _held: Vec<u8>,
+    start: *mut u8,
     length: usize,
 }
 
 impl Memory {
     pub fn zeroed(length: usize) -> Self {
-        let bytes = vec![0; length + 64];
-        let start = bytes.as_ptr().align_offset(64);
-        Memory { bytes, start, length }
+        let mut held = vec![0; length + 64];
+        let skipped = held.as_ptr().align_offset(64);
+        let start = held[skipped..skipped + length].as_mut_ptr();
+        Memory { _held: held, start, length }
     }
 }
 
@@ -176,13 +178,13 @@ impl Deref for Memory {
     type Target = [u8];
 
     fn deref(&self) -> &[u8] {
-        &self.bytes[self.start..self.start + self.length]
+        unsafe { std::slice::from_raw_parts(self.start, self.length) }
     }
 }
 
 impl DerefMut for Memory {
     fn deref_mut(&mut self) -> &mut [u8] {
-        &mut self.bytes[self.start..self.start + self.length]
+        unsafe { std::slice::from_raw_parts_mut(self.start, self.length) }
     }
 }
 
@@ -229,9 +231,15 @@ impl Log {
     pub fn claim_and_commit(&mut self, length: i32) -> i32 {
         let (log, n) = (self.bytes.as_mut_ptr(), self.bytes.len());
         let reply = unsafe { logbuffer_try_claim(&mut self.record, log, n, length) };
-        if reply.code == 0 {
-            return unsafe { logbuffer_commit(&self.record, log, n, reply.claim) };
+        if reply.code != 0 {
+            return self.refused(reply);
         }
+        unsafe { logbuffer_commit(&self.record, log, n, reply.claim) }
+    }
+
+    /// Apart, so that a claim that is accepted asks for one number alone, as the Rust's side does.
+    #[cold]
+    fn refused(&mut self, reply: ClaimReply) -> i32 {
         self.mark(reply.code);
         (reply.code as i64 - reply.position) as i32
     }
