@@ -13,6 +13,7 @@ use mir.Syntax.{w32, w64}
 use mir.Val.{Fits, SFits, toZ}
 use mir.Facts.{toZ-ofZ, sfits-toZ}
 use Rattle.model.specs.Bytes.{word, long}
+use Rattle.model.specs.declared.Claim.{Claim}
 use Rattle.model.specs.declared.LogRecord.{LogRecord}
 use Rattle.model.specs.declared.Reading.{Reading}
 use Rattle.model.specs.declared.Verdict.{Verdict}
@@ -30,7 +31,7 @@ use Rattle.model.specs.Corollaries.{RefusalsChangeNothing}
 use Rattle.model.proofs.Sound.{sound-true}
 use Rattle.model.proofs.Corollaries.{refusals-change-nothing}
 use Rattle.image.specs.Images.{stateOf}
-use Rattle.capi.specs.Words.{at, lowOf, highOf, pairOf, flagOf, bitOf, bitNumber, recordIn, recordOut, limitOut, closedOut, slowestOut, marksOut, imageIn, imageOut}
+use Rattle.capi.specs.Words.{at, lowOf, highOf, pairOf, flagOf, bitOf, bitNumber, recordIn, claimIn, recordOut, limitOut, closedOut, slowestOut, marksOut, imageIn, imageOut}
 use Rattle.capi.specs.Theorems.{Words, Moved, RecordBack, world, wordsBy, RefusalsKeep, StepsBack, ImageBack}
 use Rattle.capi.proofs.Kept.{long-bound, word-bound, bits64, bits32, record-kept}
 
@@ -55,6 +56,15 @@ high-of a b f g =
     let x = word-bound a f in
     let e : (word a + word b * 4294967296) / 4294967296 ≡ word b = omega (arith, x) in
     ap (λ (n : ℕ). toZ w32 (n / 4294967296)) (pair-bits a b f g) ∙ ap (toZ w32) e ∙ toZ-ofZ g
+
+-- a claim's two words, read again
+claim-fields : (c : Claim) (a b l i : ℤ) → a ≡ c .partition → b ≡ c .offset → l ≡ c .length → i ≡ c .«term_id» → record { partition = a; offset = b; length = l; «term_id» = i } ≡ c
+claim-fields c a b l i ea eb el ei =
+    ap₂ {C = Claim} (λ (x y : ℤ). record { partition = x; offset = y; length = l; «term_id» = i }) ea eb
+    ∙ ap₂ {C = Claim} (λ (x y : ℤ). record { partition = c .partition; offset = c .offset; length = x; «term_id» = y }) el ei
+
+pub claim-back : (c : Claim) → SFits w32 (c .partition) → SFits w32 (c .offset) → SFits w32 (c .length) → SFits w32 (c .«term_id») → claimIn (pairOf (c .partition) (c .offset)) (pairOf (c .length) (c .«term_id»)) ≡ c
+claim-back c f g h k = claim-fields c _ _ _ _ (low-of (c .partition) (c .offset) f g) (high-of (c .partition) (c .offset) f g) (low-of (c .length) (c .«term_id») h k) (high-of (c .length) (c .«term_id») h k)
 
 high-fits : (w : ℤ) → SFits w64 w → SFits w32 (highOf w)
 high-fits w f =

@@ -258,3 +258,7 @@ replayFilled w s = assemblerTo (imageFilled w (s .image)) 2 (s .sessions)
 
 abbrev pub claimWords : Claim → List ℤ
 claimWords c = pairOf (c .partition) (c .offset) ∷ pairOf (c .length) (c .«term_id») ∷ []
+
+-- and back; `claim-back` (proofs/Steps.antt) is the law that it is the claim
+abbrev pub claimIn : ℤ → ℤ → Claim
+claimIn first second = record { partition = lowOf first; offset = highOf first; length = lowOf second; «term_id» = highOf second }

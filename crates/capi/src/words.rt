@@ -8,7 +8,7 @@ ghost use mir.Val.{SFits};
 ghost use Rattle.model.specs.LogBufferDescriptor.{reading};
 ghost use Rattle.logbuffer.specs.Assembler.{sessionsOf};
 ghost use Rattle.image.specs.Images.{stateOf};
-ghost use Rattle.capi.specs.Words.{at, lowOf, highOf, pairOf, flagOf, bitOf, bitNumber, countOut, recordIn, tailMoved, marksWord, marksOut, slowestOut, recordOut, limitOut, closedOut, recordFilled, imageAt, imageIn, imageOut, shutBits, shutOut, imageFilled, idsFrom, heldFrom, idsTo, heldTo, assemblerIn, assemblerFrom, assemblerTo, assemblerOut, replayIn, claimWords};
+ghost use Rattle.capi.specs.Words.{at, lowOf, highOf, pairOf, flagOf, bitOf, bitNumber, countOut, recordIn, tailMoved, marksWord, marksOut, slowestOut, recordOut, limitOut, closedOut, recordFilled, imageAt, imageIn, imageOut, shutBits, shutOut, imageFilled, idsFrom, heldFrom, idsTo, heldTo, assemblerIn, assemblerFrom, assemblerTo, assemblerOut, replayIn, claimWords, claimIn};
 use image::Image;
 use logbuffer::cast;
 use logbuffer::fragment_assembler::FragmentAssembler;
@@ -32,7 +32,7 @@ fn high(w: i64) -> i32
     log_buffer_descriptor::term_id(w)
 }
 
-fn pair(low: i32, high: i32) -> i64
+pub(crate) fn pair(low: i32, high: i32) -> i64
     ensures { λ r. ⌜ r ≡ pairOf low high ⌝ }
 {
     cast::to_i64(cast::word(low) + cast::word(high) * 4294967296)
@@ -478,4 +478,16 @@ pub(crate) fn claim_words(claim: Claim) -> [i64; 2]
         pair(claim.partition, claim.offset),
         pair(claim.length, claim.term_id),
     ]
+}
+
+// And back.
+pub(crate) fn claim_in(first: i64, second: i64) -> Claim
+    ensures { λ r. ⌜ r ≡ claimIn first second ⌝ }
+{
+    Claim {
+        partition: low(first),
+        offset: high(first),
+        length: low(second),
+        term_id: high(second),
+    }
 }

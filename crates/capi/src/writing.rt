@@ -6,7 +6,7 @@ ghost use Rattle.model.specs.LogBufferDescriptor.{rotateLogOf};
 ghost use Rattle.model.specs.BufferClaim.{locateOf, writeOf, writeBytes, commitOf, commitBytes, abortBytes};
 ghost use Rattle.model.specs.TermAppender.{unfragmentedReply, unfragmentedBytes, fragmentedReply, fragmentedBytes, claimAppendReply, claimAppendBytes};
 ghost use Rattle.model.specs.Publication.{openOf, openBytes, limitOf, closeOf, raiseOf, clearOf, clearBytes, positionCall, limitCall, windowCall, offerOf, offerBytes, claimOf, claimBytes};
-ghost use Rattle.capi.specs.Words.{recordIn, recordOut, limitOut, closedOut, slowestOut, marksOut, openedOut};
+ghost use Rattle.capi.specs.Words.{recordIn, claimIn, recordOut, limitOut, closedOut, slowestOut, marksOut, openedOut};
 ghost use Rattle.capi.specs.Replies.{outcomeNumber, positionReply, offerReply, claimReply, spanReply, appendReply, appendClaimReply};
 use crate::replies;
 use crate::replies::AppendClaimReply;
@@ -272,24 +272,13 @@ pub extern "C" fn logbuffer_claim_write(
     replies::outcome_code(buffer_claim::write(words::record_in(rec), log, claim, bytes))
 }
 
-// A commit by the whole record: all but those that nothing refuses.
-fn commit_by_all(rec: &[i64; 14], log: &mut [u8], claim: Claim) -> i32
-    ensures { λ r. ⌜ r ≡ outcomeNumber (commitOf (recordIn (now (rec .entry))) (now (log .entry)) claim) ⌝ }
-    ensures { λ _. ⌜ now (log .exit) ≡ commitBytes (recordIn (now (rec .entry))) (now (log .entry)) claim ⌝ }
+// A commit by the whole record: all but those that nothing refuses. The claim is handed on in its two words, so that it lies in no memory.
+fn commit_by_all(rec: &[i64; 14], log: &mut [u8], first: i64, second: i64) -> i32
+    ensures { λ r. ⌜ r ≡ outcomeNumber (commitOf (recordIn (now (rec .entry))) (now (log .entry)) (claimIn first second)) ⌝ }
+    ensures { λ _. ⌜ now (log .exit) ≡ commitBytes (recordIn (now (rec .entry))) (now (log .entry)) (claimIn first second) ⌝ }
 {
+    let claim = words::claim_in(first, second);
     replies::outcome_code(buffer_claim::commit(words::record_in(rec), log, claim))
-}
-
-// A claim once more, number by number: it lies in memory only where it is handed on, so that a commit that is done has it in registers.
-fn again(claim: Claim) -> Claim
-    ensures { λ r. ⌜ r ≡ claim ⌝ }
-{
-    Claim {
-        partition: claim.partition,
-        offset: claim.offset,
-        length: claim.length,
-        term_id: claim.term_id,
-    }
 }
 
 // A commit that nothing refuses stores the length. All else, from two places so that it stays a call of its own, is left to `commit_by_all`.
@@ -298,11 +287,13 @@ pub extern "C" fn logbuffer_commit(rec: &[i64; 14], log: &mut [u8], claim: Claim
     ensures { λ r. ⌜ r ≡ outcomeNumber (commitOf (recordIn (now (rec .entry))) (now (log .entry)) claim) ⌝ }
     ensures { λ _. ⌜ now (log .exit) ≡ commitBytes (recordIn (now (rec .entry))) (now (log .entry)) claim ⌝ }
 {
+    let first = words::pair(claim.partition, claim.offset);
+    let second = words::pair(claim.length, claim.term_id);
     if claim.length < 32 {
-        return commit_by_all(rec, log, again(claim));
+        return commit_by_all(rec, log, first, second);
     }
     if !buffer_claim::commit_fit(words::record_in(rec), log, claim) {
-        return commit_by_all(rec, log, again(claim));
+        return commit_by_all(rec, log, first, second);
     }
     0
 }
