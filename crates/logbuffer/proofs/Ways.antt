@@ -34,7 +34,7 @@ use Rattle.model.proofs.Cut.{need-one, cut-one}
 use Rattle.model.proofs.Sound.{id-small}
 use Rattle.model.proofs.Append.{Room, course-room, message-true, base-in, appendReply, appendBytes}
 use Rattle.logbuffer.specs.declared.way.Way.{Way}
-use Rattle.logbuffer.specs.Ways.{noWay, wayTo, wayBy, goodAppend, courseOf, goodClaiming, claimCourse, tailAt, movedWith, replyWith, claimReplyWith, messageReply, messageBytes, fragmentLimit, appendWay, appendWayBytes, oneWayBytes, claimWay, claimBits, frameFits}
+use Rattle.logbuffer.specs.Ways.{noWay, wayTo, wayBy, goodAppend, courseOf, goodClaiming, claimCourse, tailAt, movedWith, replyWith, claimReplyWith, messageReply, messageBytes, fragmentLimit, appendWay, appendWayBytes, oneWayBytes, claimWay, claimBits, hasRoom, frameFits, framesFit}
 
 -- ---- what a caller makes of a way
 
@@ -111,7 +111,20 @@ claiming-true v k m h =
     let b = message-true k m (a .0) in
     (b .0, (ltb-true _ _ (a .1), b .1))
 
--- ---- one frame where it fits
+-- ---- one frame, or all of a message's, where they fit
+
+pub record HasRoom (v : Reading) (n needed : ℕ) : Type 0 where
+  pub term-high : v .term ≤ 1073741824
+  pub room : v .offset + needed ≤ v .term
+  pub three : n ≡ 3 * v .term
+
+pub room-true : (v : Reading) (n needed : ℕ) → hasRoom v n needed ≡ true → HasRoom v n needed
+unfolding hasRoom
+room-true v n needed h =
+    let b = and-true (leb (v .offset) 2147483647) _ h in
+    let d = and-true (leb (v .term) 1073741824) _ (b .1) in
+    let e = and-true (eqb n (3 * v .term)) _ (d .1) in
+    record { term-high = leb-true _ _ (d .0); room = leb-true _ _ (e .1); three = eqb-true n (3 * v .term) (e .0) }
 
 pub record Fits (v : Reading) (n k m : ℕ) : Type 0 where
   pub part : k ≤ 2
@@ -125,11 +138,25 @@ pub fits-true : (v : Reading) (n k m : ℕ) → frameFits v n k m ≡ true → F
 unfolding frameFits
 fits-true v n k m h =
     let a = and-true (goodClaiming v k m) _ h in
-    let b = and-true (leb (v .offset) 2147483647) _ (a .1) in
-    let d = and-true (leb (v .term) 1073741824) _ (b .1) in
-    let e = and-true (eqb n (3 * v .term)) _ (d .1) in
+    let r = room-true v n (space m) (a .1) in
     let g = claiming-true v k m (a .0) in
-    record { part = g .0; id-in = g .1 .0; whole = g .1 .1; term-high = leb-true _ _ (d .0); room = leb-true _ _ (e .1); inside = omega (arith, base-in k (v .term) (g .0), eqb-true n (3 * v .term) (e .0)) }
+    record { part = g .0; id-in = g .1 .0; whole = g .1 .1; term-high = r .term-high; room = r .room; inside = omega (arith, base-in k (v .term) (g .0), r .three) }
+
+-- whether all frames fit, by whether their sum has room
+module _ (v : Reading) (n k p m : ℕ) where
+  pub frames-no : goodAppend v k p m ≡ false → framesFit v n k p m ≡ false
+  unfolding framesFit
+  frames-no h = ap (λ (t : Bool). t && hasRoom v n (need p m)) h
+
+  pub frames-by : goodAppend v k p m ≡ true → (needed : ℕ) (b : Bool) → needed ≡ need p m → b ≡ hasRoom v n needed → framesFit v n k p m ≡ b
+  unfolding framesFit
+  frames-by h needed b e r = ap₂ (λ (t : Bool) (d : ℕ). t && hasRoom v n d) h (sym e) ∙ sym r
+
+pub frames-true : (v : Reading) (n k p m : ℕ) → framesFit v n k p m ≡ true → Goods v k p m × HasRoom v n (need p m)
+unfolding framesFit
+frames-true v n k p m h =
+    let a = and-true (goodAppend v k p m) _ h in
+    (append-true v k p m (a .0), room-true v n (need p m) (a .1))
 
 -- ---- the course by whether they are good
 

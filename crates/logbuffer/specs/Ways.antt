@@ -75,14 +75,21 @@ claimWay v log k n given = wayBy v (space n) (claimCourse v (length log) k n giv
 abbrev pub claimWayBytes : Reading → List ℕ → ℕ → ℕ → ℕ → List ℕ
 claimWayBytes v log k n given = bytesBy v k log (claimed v log (k * v .term) n) (claimCourse v (length log) k n given)
 
--- ---- one frame where it fits: what is answered, 0 for none, and what is left
+-- ---- one frame, or all of a message's, where they fit: what is answered, 0 for none, and what is left
 
--- Whether a frame with a body of m bytes fits at the tail of partition k, in a log of n bytes that are three terms. No more is asked of the record: its
--- other ranges are its caller's to judge.
+-- Whether so many bytes have room at the tail, in a log of n bytes that are three terms. No more is asked of the record: its other ranges are its
+-- caller's to judge.
+unfoldable pub hasRoom : Reading → ℕ → ℕ → Bool
+hasRoom v n needed =
+    leb (v .offset) 2147483647 && (leb (v .term) 1073741824 && (eqb n (3 * v .term) && leb (v .offset + needed) (v .term)))
+
+-- a frame with a body of m bytes, at partition k
 unfoldable pub frameFits : Reading → ℕ → ℕ → ℕ → Bool
-frameFits v n k m =
-    goodClaiming v k m && (leb (v .offset) 2147483647 && (leb (v .term) 1073741824
-    && (eqb n (3 * v .term) && leb (v .offset + space m) (v .term))))
+frameFits v n k m = goodClaiming v k m && hasRoom v n (space m)
+
+-- all frames of a message of m bytes, cut by a payload limit p
+unfoldable pub framesFit : Reading → ℕ → ℕ → ℕ → ℕ → Bool
+framesFit v n k p m = goodAppend v k p m && hasRoom v n (need p m)
 
 abbrev pub fitEnd : Reading → List ℕ → ℕ → ℕ → ℕ
 fitEnd v log k m = cond (frameFits v (length log) k m) (v .offset + space m) 0
@@ -90,6 +97,13 @@ fitEnd v log k m = cond (frameFits v (length log) k m) (v .offset + space m) 0
 abbrev pub messageFitBytes : Reading → List ℕ → ℕ → List ℕ → ℕ → List ℕ
 messageFitBytes v log k m reserved =
     cond (frameFits v (length log) k (length m)) (written v log (k * v .term) (v .offset) (fragment 192 reserved m ∷ [])) log
+
+abbrev pub fragmentedEnd : Reading → List ℕ → ℕ → ℕ → ℕ → ℕ
+fragmentedEnd v log k p m = cond (framesFit v (length log) k p m) (v .offset + need p m) 0
+
+abbrev pub fragmentedFitBytes : Reading → List ℕ → ℕ → ℕ → List ℕ → ℕ → List ℕ
+fragmentedFitBytes v log k p m reserved =
+    cond (framesFit v (length log) k p (length m)) (written v log (k * v .term) (v .offset) (cut p reserved m)) log
 
 abbrev pub claimFitBytes : Reading → List ℕ → ℕ → ℕ → List ℕ
 claimFitBytes v log k n = cond (frameFits v (length log) k n) (claimed v log (k * v .term) n) log

@@ -6,7 +6,7 @@ ghost use lib.ListN.{length};
 ghost use Rattle.model.specs.Bytes.{word, long};
 ghost use Rattle.model.specs.FrameDescriptor.{space};
 ghost use Rattle.model.specs.TermAppender.{cut, need, fragment, written, claimed, course, bytesBy, goodMessage, unfragmentedReply, unfragmentedBytes, fragmentedReply, fragmentedBytes, claimAppendReply, claimAppendBytes};
-ghost use Rattle.logbuffer.specs.Ways.{goodAppend, goodClaiming, messageReply, messageBytes, fragmentLimit, claimBits, appendWay, appendWayBytes, oneWayBytes, claimWay, claimWayBytes, frameFits, fitEnd, messageFitBytes, claimFitBytes};
+ghost use Rattle.logbuffer.specs.Ways.{goodAppend, goodClaiming, messageReply, messageBytes, fragmentLimit, claimBits, appendWay, appendWayBytes, oneWayBytes, claimWay, claimWayBytes, hasRoom, frameFits, framesFit, fitEnd, messageFitBytes, fragmentedEnd, fragmentedFitBytes, claimFitBytes};
 use crate::cast;
 use crate::data_frame_header::HEADER_LENGTH;
 use crate::frame_descriptor::ALIGNMENT_MASK;
@@ -278,13 +278,11 @@ pub fn append_one(
     )
 }
 
-// Whether a frame with a body of m bytes fits at the tail of partition k, in a log of n bytes.
-fn fits(v: Reading, n: usize, k: usize, m: usize) -> bool
-    ensures { λ r. ⌜ r ≡ frameFits v n k m ⌝ }
+// Whether so many bytes have room at the tail, in a log of n bytes.
+fn has_room(v: Reading, n: usize, needed: usize) -> bool
+    requires { ⌜ needed < 9223372036854775808 ⌝ }
+    ensures { λ r. ⌜ r ≡ hasRoom v n needed ⌝ }
 {
-    if !good_claiming(v, k, m) {
-        return false;
-    }
     if v.offset > 2147483647 {
         return false;
     }
@@ -294,7 +292,21 @@ fn fits(v: Reading, n: usize, k: usize, m: usize) -> bool
     if n != PARTITION_COUNT * v.term {
         return false;
     }
-    v.offset + (m + HEADER_LENGTH + ALIGNMENT_MASK) / FRAME_ALIGNMENT * FRAME_ALIGNMENT <= v.term
+    v.offset + needed <= v.term
+}
+
+// Whether a frame with a body of m bytes fits at the tail of partition k.
+fn fits(v: Reading, n: usize, k: usize, m: usize) -> bool
+    ensures { λ r. ⌜ r ≡ frameFits v n k m ⌝ }
+{
+    if !good_claiming(v, k, m) {
+        return false;
+    }
+    has_room(
+        v,
+        n,
+        (m + HEADER_LENGTH + ALIGNMENT_MASK) / FRAME_ALIGNMENT * FRAME_ALIGNMENT,
+    )
 }
 
 // A message as one frame at partition k where it fits, and the offset after it; 0, and the log left as it was, where it does not. It is for a
@@ -324,6 +336,32 @@ pub fn append_fit(
         message,
     );
     offset + (message.len() + HEADER_LENGTH + ALIGNMENT_MASK) / FRAME_ALIGNMENT * FRAME_ALIGNMENT
+}
+
+// The same for a message in fragments: where all its frames fit, and the offset after the last of them.
+pub fn append_fragmented_fit(
+    numbers: Reading,
+    log: &mut [u8],
+    partition: usize,
+    payload_limit: usize,
+    message: &[u8],
+    reserved_value: i64,
+) -> usize
+    ensures { λ r. ⌜ r ≡ fragmentedEnd numbers (now (log .entry)) partition «payload_limit» (length (now (message .entry))) ⌝ }
+    ensures { λ _. ⌜ now (log .exit) ≡ fragmentedFitBytes numbers (now (log .entry)) partition «payload_limit» (now (message .entry)) (long «reserved_value») ⌝ }
+{
+    if !good_append(numbers, partition, payload_limit, message.len()) {
+        return 0;
+    }
+    let needed = need_of(payload_limit, message.len());
+    if !has_room(numbers, log.len(), needed) {
+        return 0;
+    }
+    let term = numbers.term;
+    let offset = numbers.offset;
+    let bits = cast::long(reserved_value);
+    write_fragments(log, partition * term, numbers, payload_limit, bits, message);
+    offset + needed
 }
 
 // The same for the frame of a claim of so many bytes.
