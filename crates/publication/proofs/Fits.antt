@@ -4,7 +4,7 @@ use mathlib.Core.Bool.{Bool, true, false, cond, not, _&&_}
 use mathlib.Core.List.{List, [], _∷_}
 use Prim.Native.Nat.{ℕ, _+_, _*_, _/_, _%_, _≤_, _<_}
 use native.Mathlib.Omega.{arith}
-use borrow.Author.Tests.{not-true, leb-true, ltb-true, eqb-true, le-leb, le-ltb, eq-eqb, ne-eqb}
+use borrow.Author.Tests.{not-true, leb-true, ltb-true, eqb-true, le-leb, lt-leb, lt-ltb, le-ltb, eq-eqb, ne-eqb}
 use lib.Dec.{eqb, leb, ltb}
 use lib.IntN.{ℤ, pos}
 use lib.ListN.{length}
@@ -26,92 +26,98 @@ use Rattle.model.specs.Bytes.{word, long}
 use Rattle.model.specs.FrameDescriptor.{space}
 use Rattle.model.specs.LogBufferDescriptor.{idMinus, readingOf, reading, active, payloadLimit, messageLimit, sound, Sound, withTail, isReady, rawOf, termId}
 use Rattle.model.specs.TermAppender.{need, cut, fragment, written, claimed, course, bytesBy, replyBy, claimRecord, claimAppendedBy}
-use Rattle.model.specs.Publication.{place, tooLong, afterClosed, beforeAppend, claimVerdict, offerOf, offerBytes, claimOf, claimBytes}
+use Rattle.model.specs.Publication.{place, tooLong, needOf, afterClosed, beforeAppend, claimVerdict, offerOf, offerBytes, claimOf, claimBytes}
 use Rattle.model.proofs.Both.{and-true, test}
 use Rattle.model.proofs.Choice.{cond-true, cond-false}
 use Rattle.model.proofs.Sound.{sound-true}
 use Rattle.model.proofs.Cut.{need-one, cut-one}
 use Rattle.model.proofs.OfferLaws.{closed-last, rung-10, after, offer-is}
-use Rattle.logbuffer.specs.Ways.{frameFits}
-use Rattle.logbuffer.proofs.Ways.{fits-true}
+use Rattle.logbuffer.proofs.Ways.{fits-true, frames-true}
 use Rattle.publication.specs.declared.fit.Fitted.{Fitted}
 use Rattle.publication.specs.declared.fit.FittedClaim.{FittedClaim}
-use Rattle.publication.specs.Fits.{inStep, isOpen, isFit, noneFitted, fittedAt, afterEnd, fitted, claimAt}
+use Rattle.publication.specs.Fits.{inStep, unpressed, isOpen, isFit, isLong, isLongFit, noneFitted, fittedAt, afterEnd, claimAt}
 use Rattle.publication.proofs.OfferBy.{active-by}
 use Rattle.publication.proofs.ClaimLaws as claims
 
 -- ---- what the tests say
 
-pub record Open (v : Reading) (n m : ℕ) : Type 0 where
+pub record Unpressed (v : Reading) (n : ℕ) : Type 0 where
   pub is-so : sound v n ≡ true
   pub so : Sound v n
-  pub not-closed : v .closed ≡ false
   pub id-in : v .id < 4294967296
   pub step : idMinus (v .id) (v .initial) ≡ v .count
   pub below : place v < v .limit
-  pub short : m ≤ payloadLimit v
 
-pub open-true : (v : Reading) (n m : ℕ) → isOpen v n m ≡ true → Open v n m
-unfolding isOpen inStep
-open-true v n m h =
+pub unpressed-true : (v : Reading) (n : ℕ) → unpressed v n ≡ true → Unpressed v n
+unfolding unpressed inStep
+unpressed-true v n h =
     let a = and-true (sound v n) _ h in
     let d = and-true (inStep v) _ (a .1) in
-    let e = and-true (ltb (place v) (v .limit)) _ (d .1) in
-    let b = and-true (leb m (payloadLimit v)) _ (e .1) in
     let i = and-true (ltb (v .id) 4294967296) _ (d .0) in
     let j = and-true (ltb (v .initial) 4294967296) _ (i .1) in
-    record {
-      is-so = a .0;
-      so = sound-true v n (a .0);
-      not-closed = not-true _ (b .1);
-      id-in = ltb-true _ _ (i .0);
-      step = eqb-true _ _ (j .1);
-      below = ltb-true _ _ (e .0);
-      short = leb-true _ _ (b .0);
-    }
+    record { is-so = a .0; so = sound-true v n (a .0); id-in = ltb-true _ _ (i .0); step = eqb-true _ _ (j .1); below = ltb-true _ _ (d .1) }
+
+pub open-true : (v : Reading) (n m : ℕ) → isOpen v n m ≡ true → Unpressed v n × ((v .closed ≡ false) × (m ≤ payloadLimit v))
+unfolding isOpen
+open-true v n m h =
+    let a = and-true (unpressed v n) _ h in
+    let b = and-true (leb m (payloadLimit v)) _ (a .1) in
+    (unpressed-true v n (a .0), (not-true _ (b .1), leb-true _ _ (b .0)))
+
+pub long-true : (v : Reading) (n m : ℕ) → isLong v n m ≡ true → Unpressed v n × ((v .closed ≡ false) × ((payloadLimit v < m) × (tooLong v m ≡ false)))
+unfolding isLong
+long-true v n m h =
+    let a = and-true (unpressed v n) _ h in
+    let b = and-true (ltb (payloadLimit v) m) _ (a .1) in
+    let d = and-true (not (tooLong v m)) _ (b .1) in
+    (unpressed-true v n (a .0), (not-true _ (d .1), (ltb-true _ _ (b .0), not-true _ (d .0))))
+
+pub long-is : (v : Reading) (n m : ℕ) → unpressed v n ≡ true → payloadLimit v < m → (b : Bool) → b ≡ tooLong v m → (not b && not (v .closed)) ≡ isLong v n m
+unfolding isLong
+long-is v n m u h b e =
+    let rest = not (tooLong v m) && not (v .closed) in
+    ap (λ (t : Bool). not t && not (v .closed)) e ∙ sym (ap₂ (λ (x y : Bool). x && (y && rest)) u (lt-ltb _ _ h))
 
 -- ---- the answer and the log by what the appender gives
 
-module _ (v : Reading) (n m : ℕ) where
-  pub not-open : isOpen v n m ≡ false → isFit v n m ≡ false
-  not-open h = ap (λ (b : Bool). b && frameFits v n (v .count % 3) m) h
+-- nothing refuses, or not, and what is needed fits, or not
+module _ (opened fits : Bool) where
+  pub not-open : opened ≡ false → (opened && fits) ≡ false
+  not-open h = ap (λ (b : Bool). b && fits) h
 
-  module _ (h : isOpen v n m ≡ true) where
-    pub fit-is : isFit v n m ≡ frameFits v n (v .count % 3) m
-    fit-is = ap (λ (b : Bool). b && frameFits v n (v .count % 3) m) h
+  fit-is : opened ≡ true → (opened && fits) ≡ fits
+  fit-is h = ap (λ (b : Bool). b && fits) h
 
-    pub fitted-by : (end : ℕ) → end ≡ cond (frameFits v n (v .count % 3) m) (v .offset + space m) 0 → afterEnd v end ≡ fitted v n m
-    fitted-by end e =
-        test (frameFits v n (v .count % 3) m)
-        (λ f.
-        let q : end ≡ v .offset + space m = e ∙ cond-true _ _ _ f in
-        let z : end ≡ 0 → ⊥ = λ (y : end ≡ 0). omega arith in
-        cond-false (eqb end 0) noneFitted (fittedAt v end) (ne-eqb end 0 z) ∙ ap (fittedAt v) q ∙ sym (cond-true _ _ _ (fit-is ∙ f)))
-        (λ f.
-        let q : end ≡ 0 = e ∙ cond-false _ _ _ f in
-        cond-true (eqb end 0) noneFitted (fittedAt v end) (eq-eqb end 0 q) ∙ sym (cond-false _ _ _ (fit-is ∙ f)))
+  pub bytes-by : opened ≡ true → (log new out : List ℕ) → out ≡ cond fits new log → out ≡ cond (opened && fits) new log
+  bytes-by h log new out e = e ∙ ap (λ (t : Bool). cond t new log) (sym (fit-is h))
 
-    pub end-none : (end : ℕ) → end ≡ cond (frameFits v n (v .count % 3) m) (v .offset + space m) 0 → end ≡ 0 → isFit v n m ≡ false
-    end-none end e z =
-        test (frameFits v n (v .count % 3) m)
-        (λ f. let q : end ≡ v .offset + space m = e ∙ cond-true _ _ _ f in absurd (omega arith))
-        (λ f. fit-is ∙ f)
+module _ (v : Reading) (opened fits : Bool) (needed : ℕ) (h : opened ≡ true) (end : ℕ) (e : end ≡ cond fits (v .offset + needed) 0) where
+  pub fitted-by : 32 ≤ needed → afterEnd v end ≡ cond (opened && fits) (fittedAt v (v .offset + needed)) noneFitted
+  fitted-by some =
+      test fits
+      (λ f.
+      let q : end ≡ v .offset + needed = e ∙ cond-true _ _ _ f in
+      let z : end ≡ 0 → ⊥ = λ (y : end ≡ 0). omega arith in
+      cond-false (eqb end 0) noneFitted (fittedAt v end) (ne-eqb end 0 z) ∙ ap (fittedAt v) q ∙ sym (cond-true _ _ _ (fit-is opened fits h ∙ f)))
+      (λ f.
+      let q : end ≡ 0 = e ∙ cond-false _ _ _ f in
+      cond-true (eqb end 0) noneFitted (fittedAt v end) (eq-eqb end 0 q) ∙ sym (cond-false _ _ _ (fit-is opened fits h ∙ f)))
 
-    pub end-some : (end : ℕ) → end ≡ cond (frameFits v n (v .count % 3) m) (v .offset + space m) 0 → (end ≡ 0 → ⊥) → (isFit v n m ≡ true) × (end ≡ v .offset + space m)
-    end-some end e z =
-        test (frameFits v n (v .count % 3) m) (λ f. (fit-is ∙ f, e ∙ cond-true _ _ _ f))
-        (λ f. absurd (z (e ∙ cond-false _ _ _ f)))
+  pub end-none : 32 ≤ needed → end ≡ 0 → (opened && fits) ≡ false
+  end-none some z =
+      test fits
+      (λ f. let q : end ≡ v .offset + needed = e ∙ cond-true _ _ _ f in absurd (omega arith))
+      (λ f. fit-is opened fits h ∙ f)
 
-    -- an end is in its term
-    pub end-in : (end : ℕ) → end ≡ cond (frameFits v n (v .count % 3) m) (v .offset + space m) 0 → end ≤ v .term
-    end-in end e =
-        test (frameFits v n (v .count % 3) m)
-        (λ f. let q : end ≡ v .offset + space m = e ∙ cond-true _ _ _ f in omega (arith, fits-true v n (v .count % 3) m f .room))
-        (λ f. let q : end ≡ 0 = e ∙ cond-false _ _ _ f in omega arith)
+  pub end-some : (end ≡ 0 → ⊥) → ((opened && fits) ≡ true) × (end ≡ v .offset + needed)
+  end-some z = test fits (λ f. (fit-is opened fits h ∙ f, e ∙ cond-true _ _ _ f)) (λ f. absurd (z (e ∙ cond-false _ _ _ f)))
 
-    -- and the log is changed where the frame fits
-    pub bytes-by : (log new out : List ℕ) → out ≡ cond (frameFits v n (v .count % 3) m) new log → out ≡ cond (isFit v n m) new log
-    bytes-by log new out e = e ∙ ap (λ (t : Bool). cond t new log) (sym fit-is)
+  -- an end is in its term
+  pub end-in : (fits ≡ true → v .offset + needed ≤ v .term) → end ≤ v .term
+  end-in room =
+      test fits
+      (λ f. let q : end ≡ v .offset + needed = e ∙ cond-true _ _ _ f in omega (arith, room f))
+      (λ f. let q : end ≡ 0 = e ∙ cond-false _ _ _ f in omega arith)
 
 -- a raw tail put together from numbers, and its term id
 pub raw-is : (id end : ℕ) (t : ℤ) → id < 4294967296 → t ≡ toZ w64 (id * 4294967296 + end) → t ≡ rawOf id end
@@ -149,6 +155,21 @@ module _ (r : LogRecord) (log : List ℕ) where
   part : v· .count % 3 ≡ active r
   part = active-by r v· refl
 
+  -- an offer that nothing refuses and that has room, of one frame or of several
+  offer-done : (m : List ℕ) (z : ℤ) → (let p = payloadLimit v· in Unpressed v· n· → v· .closed ≡ false → length m ≤ 2147483647 → tooLong v· (length m) ≡ false
+      → v· .offset + need p (length m) ≤ v· .term
+      → (record { next = withTail r (active r) (v· .id) (v· .offset + need p (length m)); answer = Position (pos (v· .count * v· .term + (v· .offset + need p (length m)))); rule = cond (leb (length m) p) Unfragmented Fragmented } ≡ offerOf r log m)
+      × (written v· log (active r * v· .term) (v· .offset) (cut p (long z) m) ≡ offerBytes r log m z))
+  offer-done m z u closed whole long-no room =
+      let p = payloadLimit v· in
+      let last = closed-last v· (length m) (u .step) (u .below) in
+      let pass = sym (rung-10 v· n· (length m) whole (u .is-so) closed false (sym last) long-no) in
+      let law = offer-is r log m z pass in
+      let fit : course v· n· (need p (length m)) (v· .id) ≡ Fit = course-fits v· n· (need p (length m)) (u .is-so) room (u .so .term-high) in (
+        sym (ap (λ (x : Course). after v· (isReady r) (length m) (replyBy r v· (active r) (need p (length m)) x)) fit) ∙ law .0,
+        sym (ap (bytesBy v· (active r) log (written v· log (active r * v· .term) (v· .offset) (cut p (long z) m))) fit) ∙ law .1,
+      )
+
   pub offer-fits : (m : List ℕ) (z : ℤ) → isFit v· n· (length m) ≡ true
       → (record { next = withTail r (active r) (v· .id) (v· .offset + space (length m)); answer = Position (pos (v· .count * v· .term + (v· .offset + space (length m)))); rule = Unfragmented } ≡ offerOf r log m)
       × (written v· log (active r * v· .term) (v· .offset) (fragment 192 (long z) m ∷ []) ≡ offerBytes r log m z)
@@ -157,15 +178,22 @@ module _ (r : LogRecord) (log : List ℕ) where
       let o = open-true v· n· (length m) (a .0) in
       let f = fits-true v· n· (v· .count % 3) (length m) (a .1) in
       let p = payloadLimit v· in
-      let last = closed-last v· (length m) (o .step) (o .below) in
-      let pass = sym (rung-10 v· n· (length m) (f .whole) (o .is-so) (o .not-closed) false (sym last) (ap (λ (b : Bool). b && ltb (messageLimit v·) (length m)) (le-ltb _ _ (o .short)))) in
-      let law = offer-is r log m z pass in
-      let one = need-one p (length m) (o .short) in
-      let fit : course v· n· (need p (length m)) (v· .id) ≡ Fit = ap (λ (d : ℕ). course v· n· d (v· .id)) one ∙ course-fits v· n· (space (length m)) (o .is-so) (f .room) (f .term-high) in (
-        ap (λ (x : Rule). record { next = withTail r (active r) (v· .id) (v· .offset + space (length m)); answer = Position (pos (v· .count * v· .term + (v· .offset + space (length m)))); rule = x }) (sym (cond-true (leb (length m) p) Unfragmented Fragmented (le-leb _ _ (o .short))))
-            ∙ sym (ap₂ (λ (d : ℕ) (x : Course). after v· (isReady r) (length m) (replyBy r v· (active r) d x)) one fit) ∙ law .0,
-        ap (λ (l : List _). written v· log (active r * v· .term) (v· .offset) l) (sym (cut-one p (long z) m (o .short)))
-            ∙ sym (ap (bytesBy v· (active r) log (written v· log (active r * v· .term) (v· .offset) (cut p (long z) m))) fit) ∙ law .1,
+      let one = need-one p (length m) (o .1 .1) in
+      let law = offer-done m z (o .0) (o .1 .0) (f .whole) (ap (λ (b : Bool). b && ltb (messageLimit v·) (length m)) (le-ltb _ _ (o .1 .1))) (omega (arith, one, f .room)) in (
+        ap₂ (λ (d : ℕ) (x : Rule). record { next = withTail r (active r) (v· .id) (v· .offset + d); answer = Position (pos (v· .count * v· .term + (v· .offset + d))); rule = x }) (sym one) (sym (cond-true (leb (length m) p) Unfragmented Fragmented (le-leb _ _ (o .1 .1)))) ∙ law .0,
+        ap (λ (l : List _). written v· log (active r * v· .term) (v· .offset) l) (sym (cut-one p (long z) m (o .1 .1))) ∙ law .1,
+      )
+
+  pub fragmented-fits : (m : List ℕ) (z : ℤ) → isLongFit v· n· (length m) ≡ true
+      → (record { next = withTail r (active r) (v· .id) (v· .offset + needOf v· (length m)); answer = Position (pos (v· .count * v· .term + (v· .offset + needOf v· (length m)))); rule = Fragmented } ≡ offerOf r log m)
+      × (written v· log (active r * v· .term) (v· .offset) (cut (payloadLimit v·) (long z) m) ≡ offerBytes r log m z)
+  fragmented-fits m z h =
+      let a = and-true (isLong v· n· (length m)) _ h in
+      let o = long-true v· n· (length m) (a .0) in
+      let f = frames-true v· n· (v· .count % 3) (payloadLimit v·) (length m) (a .1) in
+      let law = offer-done m z (o .0) (o .1 .0) (f .0 .whole) (o .1 .1 .1) (f .1 .room) in (
+        ap (λ (x : Rule). record { next = withTail r (active r) (v· .id) (v· .offset + needOf v· (length m)); answer = Position (pos (v· .count * v· .term + (v· .offset + needOf v· (length m)))); rule = x }) (sym (cond-false (leb (length m) (payloadLimit v·)) Unfragmented Fragmented (lt-leb _ _ (o .1 .1 .0)))) ∙ law .0,
+        law .1,
       )
 
   pub claim-fits : (len : ℤ) → isFit v· n· (word len) ≡ true
@@ -176,11 +204,11 @@ module _ (r : LogRecord) (log : List ℕ) where
       let a = and-true (isOpen v· n· m) _ h in
       let o = open-true v· n· m (a .0) in
       let f = fits-true v· n· (v· .count % 3) m (a .1) in
-      let last = closed-last v· m (o .step) (o .below) in
+      let last = closed-last v· m (o .0 .step) (o .0 .below) in
       let room : v· .offset + space m ≤ 2147483647 = omega (arith, f .room, f .term-high) in
-      let pass = sym (claims.claim-11 v· n· m (f .whole) (o .is-so) (o .not-closed) (o .short) false (sym last) (le-ltb _ _ room)) in
+      let pass = sym (claims.claim-11 v· n· m (f .whole) (o .0 .is-so) (o .1 .0) (o .1 .1) false (sym last) (le-ltb _ _ room)) in
       let law = claims.claim-is r log len pass in
-      let fit : course v· n· (space m) (v· .id) ≡ Fit = course-fits v· n· (space m) (o .is-so) (f .room) (f .term-high) in (
+      let fit : course v· n· (space m) (v· .id) ≡ Fit = course-fits v· n· (space m) (o .0 .is-so) (f .room) (f .term-high) in (
         sym (ap (λ (x : Course). claims.after v· (isReady r) (claimAppendedBy r v· (active r) m x)) fit) ∙ law .0,
         sym (ap (bytesBy v· (active r) log (claimed v· log (active r * v· .term) m)) fit) ∙ law .1,
       )

@@ -1,5 +1,5 @@
--- What is asked of an offer or a claim of one frame on the shorter path, and what it answers and leaves. `offer-fits` and `claim-fits` (proofs/Fits.antt)
--- are the laws that the calls of `model` answer the same.
+-- What is asked of an offer or a claim on the shorter path, and what it answers and leaves. `offer-fits`, `fragmented-fits` and `claim-fits`
+-- (proofs/Fits.antt) are the laws that the calls of `model` answer the same.
 use Prim.Native.Nat.{ℕ, _+_, _*_, _%_}
 use mathlib.Core.Bool.{Bool, cond, not, _&&_}
 use mathlib.Core.List.{List, [], _∷_}
@@ -9,9 +9,9 @@ use lib.ListN.{length}
 use Rattle.model.specs.declared.Reading.{Reading}
 use Rattle.model.specs.FrameDescriptor.{space}
 use Rattle.model.specs.LogBufferDescriptor.{idMinus, rawOf, payloadLimit, sound}
-use Rattle.model.specs.TermAppender.{fragment, written, claimed, claimRecord}
-use Rattle.model.specs.Publication.{place}
-use Rattle.logbuffer.specs.Ways.{frameFits}
+use Rattle.model.specs.TermAppender.{cut, fragment, written, claimed, claimRecord}
+use Rattle.model.specs.Publication.{place, tooLong, needOf}
+use Rattle.logbuffer.specs.Ways.{frameFits, framesFit}
 use Rattle.publication.specs.declared.fit.Fitted.{Fitted}
 use Rattle.publication.specs.declared.fit.FittedClaim.{FittedClaim}
 
@@ -19,13 +19,24 @@ use Rattle.publication.specs.declared.fit.FittedClaim.{FittedClaim}
 unfoldable pub inStep : Reading → Bool
 inStep v = ltb (v .id) 4294967296 && (ltb (v .initial) 4294967296 && eqb (idMinus (v .id) (v .initial)) (v .count))
 
+-- a record that is sound for a log of n bytes, in step, and below its limit
+unfoldable pub unpressed : Reading → ℕ → Bool
+unpressed v n = sound v n && (inStep v && ltb (place v) (v .limit))
+
 -- a message or a claim of m bytes that one frame holds, and that nothing refuses in a log of n bytes
 unfoldable pub isOpen : Reading → ℕ → ℕ → Bool
-isOpen v n m = sound v n && (inStep v && (ltb (place v) (v .limit) && (leb m (payloadLimit v) && not (v .closed))))
+isOpen v n m = unpressed v n && (leb m (payloadLimit v) && not (v .closed))
 
 -- and that fits at the active partition's tail
 abbrev pub isFit : Reading → ℕ → ℕ → Bool
 isFit v n m = isOpen v n m && frameFits v n (v .count % 3) m
+
+-- the same of a message that takes several frames
+unfoldable pub isLong : Reading → ℕ → ℕ → Bool
+isLong v n m = unpressed v n && (ltb (payloadLimit v) m && (not (tooLong v m) && not (v .closed)))
+
+abbrev pub isLongFit : Reading → ℕ → ℕ → Bool
+isLongFit v n m = isLong v n m && framesFit v n (v .count % 3) (payloadLimit v) m
 
 -- ---- the answer: the raw tail and the position after the frame
 
@@ -40,6 +51,9 @@ afterEnd v end = cond (eqb end 0) noneFitted (fittedAt v end)
 
 abbrev pub fitted : Reading → ℕ → ℕ → Fitted
 fitted v n m = cond (isFit v n m) (fittedAt v (v .offset + space m)) noneFitted
+
+abbrev pub fittedLong : Reading → ℕ → ℕ → Fitted
+fittedLong v n m = cond (isLongFit v n m) (fittedAt v (v .offset + needOf v m)) noneFitted
 
 abbrev pub noClaim : FittedClaim
 noClaim = record { tail = pos 0; position = pos 0; claim = record { partition = pos 0; offset = pos 0; length = pos 0; «term_id» = pos 0 } }
@@ -56,6 +70,10 @@ fittedClaim v n m = cond (isFit v n m) (claimAt v m) noClaim
 abbrev pub offerFitBytes : Reading → List ℕ → List ℕ → ℕ → List ℕ
 offerFitBytes v log m reserved =
     cond (isFit v (length log) (length m)) (written v log (v .count % 3 * v .term) (v .offset) (fragment 192 reserved m ∷ [])) log
+
+abbrev pub fragmentedFitBytes : Reading → List ℕ → List ℕ → ℕ → List ℕ
+fragmentedFitBytes v log m reserved =
+    cond (isLongFit v (length log) (length m)) (written v log (v .count % 3 * v .term) (v .offset) (cut (payloadLimit v) reserved m)) log
 
 abbrev pub claimFitBytes : Reading → List ℕ → ℕ → List ℕ
 claimFitBytes v log m = cond (isFit v (length log) m) (claimed v log (v .count % 3 * v .term) m) log

@@ -1,11 +1,13 @@
-// Offers and claims of one frame that nothing refuses and that fits: the shorter path of a caller who keeps the record as numbers of his own, changes
-// one tail by himself, and leaves all else to `offer` and `try_claim`. Read lib next.
+// Offers and claims that nothing refuses and that fit: the shorter path of a caller who keeps the record as numbers of his own, changes one tail by
+// himself, and leaves all else to `offer` and `try_claim`. Read lib next.
 ghost use mathlib.Core.Path.{_≡_};
-ghost use Prim.Native.Nat.{_*_, _≤_, _<_};
+ghost use Prim.Native.Nat.{_≤_, _<_};
+ghost use lib.Count.{ones};
 ghost use lib.ListN.{length as lengthOf};
 ghost use Rattle.model.specs.Bytes.{long};
 ghost use Rattle.model.proofs.Sound.{Bounds};
-ghost use Rattle.publication.specs.Fits.{inStep, isOpen, afterEnd, fitted, noClaim, fittedClaim, offerFitBytes, claimFitBytes};
+ghost use Rattle.publication.specs.Fits.{inStep, unpressed, isOpen, isLong, afterEnd, fitted, fittedLong, noClaim, fittedClaim, offerFitBytes, fragmentedFitBytes, claimFitBytes};
+use crate::judge;
 use logbuffer::cast;
 use logbuffer::data_frame_header::HEADER_LENGTH;
 use logbuffer::log_buffer_descriptor;
@@ -28,17 +30,9 @@ fn in_step(v: Reading) -> bool
     log_buffer_descriptor::id_minus(id as u32, initial as u32) as usize == v.count
 }
 
-// The position at which the active term begins, by a product: here it is shorter than the bits to shift.
-fn begin(v: Reading) -> usize
-    requires { ⌜ Bounds v ⌝ }
-    ensures { λ r. ⌜ r ≡ v .count * v .term ⌝ }
-{
-    v.count * v.term
-}
-
-// Whether a message or a claim of m bytes is one frame that nothing refuses, in a log of n bytes.
-fn is_open(v: Reading, n: usize, m: usize) -> bool
-    ensures { λ r. ⌜ r ≡ isOpen v n m ⌝ }
+// Whether the record is sound for a log of n bytes, in step, and below its limit.
+fn is_unpressed(v: Reading, n: usize) -> bool
+    ensures { λ r. ⌜ r ≡ unpressed v n ⌝ }
 {
     if !log_buffer_descriptor::is_sound(v, n) {
         return false;
@@ -46,7 +40,18 @@ fn is_open(v: Reading, n: usize, m: usize) -> bool
     if !in_step(v) {
         return false;
     }
-    if v.limit <= begin(v) + v.offset {
+    if v.limit <= judge::begin_position(v) + v.offset {
+        return false;
+    }
+    true
+}
+
+// Whether a message or a claim of m bytes is one frame that nothing refuses, in a log of n bytes. Whether the publication is closed is asked last, which
+// makes the shortest code.
+fn is_open(v: Reading, n: usize, m: usize) -> bool
+    ensures { λ r. ⌜ r ≡ isOpen v n m ⌝ }
+{
+    if !is_unpressed(v, n) {
         return false;
     }
     if m > v.mtu - HEADER_LENGTH {
@@ -55,7 +60,23 @@ fn is_open(v: Reading, n: usize, m: usize) -> bool
     !v.closed
 }
 
-// The raw tail and the position after a frame; 0 both for none.
+// The same of a message that takes several frames.
+fn is_long(v: Reading, n: usize, m: usize) -> bool
+    ensures { λ r. ⌜ r ≡ isLong v n m ⌝ }
+{
+    if !is_unpressed(v, n) {
+        return false;
+    }
+    if m <= v.mtu - HEADER_LENGTH {
+        return false;
+    }
+    if judge::too_long(v, m) {
+        return false;
+    }
+    !v.closed
+}
+
+// The raw tail and the position after a frame, or after the last of several; 0 both for none.
 pub struct Fitted {
     pub tail: i64,
     pub position: i64,
@@ -68,9 +89,9 @@ pub struct FittedClaim {
     pub claim: Claim,
 }
 
-// By the offset after a frame at the tail; 0 for none.
+// By the offset after what was written at the tail; 0 for none.
 fn after(v: Reading, end: usize) -> Fitted
-    requires { ⌜ Bounds v × ((v .id < 4294967296) × (end ≤ v .term)) ⌝ }
+    requires { ⌜ Bounds v × ((ones (v .term) ≡ 1) × ((v .id < 4294967296) × (end ≤ v .term))) ⌝ }
     ensures { λ r. ⌜ r ≡ afterEnd v end ⌝ }
 {
     if end == 0 {
@@ -81,11 +102,11 @@ fn after(v: Reading, end: usize) -> Fitted
     }
     Fitted {
         tail: cast::to_i64(v.id * 4294967296 + end),
-        position: (begin(v) + end) as i64,
+        position: (judge::begin_position(v) + end) as i64,
     }
 }
 
-// An offer. Where none is told the log is as it was.
+// An offer of one frame. Where none is told the log is as it was.
 pub fn offer_fit(numbers: Reading, log: &mut [u8], message: &[u8], reserved_value: i64) -> Fitted
     ensures { λ r. ⌜ r ≡ fitted numbers (lengthOf (now (log .entry))) (lengthOf (now (message .entry))) ⌝ }
     ensures { λ _. ⌜ now (log .exit) ≡ offerFitBytes numbers (now (log .entry)) (now (message .entry)) (long «reserved_value») ⌝ }
@@ -98,6 +119,35 @@ pub fn offer_fit(numbers: Reading, log: &mut [u8], message: &[u8], reserved_valu
     }
     let count = numbers.count;
     let end = term_appender::append_fit(numbers, log, count % 3, message, reserved_value);
+    after(numbers, end)
+}
+
+// An offer in fragments, in the same way.
+pub fn offer_fragmented_fit(
+    numbers: Reading,
+    log: &mut [u8],
+    message: &[u8],
+    reserved_value: i64,
+) -> Fitted
+    ensures { λ r. ⌜ r ≡ fittedLong numbers (lengthOf (now (log .entry))) (lengthOf (now (message .entry))) ⌝ }
+    ensures { λ _. ⌜ now (log .exit) ≡ fragmentedFitBytes numbers (now (log .entry)) (now (message .entry)) (long «reserved_value») ⌝ }
+{
+    if !is_long(numbers, log.len(), message.len()) {
+        return Fitted {
+            tail: 0,
+            position: 0,
+        };
+    }
+    let count = numbers.count;
+    let payload_limit = numbers.mtu - HEADER_LENGTH;
+    let end = term_appender::append_fragmented_fit(
+        numbers,
+        log,
+        count % 3,
+        payload_limit,
+        message,
+        reserved_value,
+    );
     after(numbers, end)
 }
 

@@ -13,7 +13,7 @@ use model::Reading;
 use model::Verdict;
 
 // Over both the payload limit and the message limit.
-fn too_long(v: Reading, m: usize) -> bool
+pub(crate) fn too_long(v: Reading, m: usize) -> bool
     requires { ⌜ 32 ≤ v .mtu ⌝ }
     ensures { λ r. ⌜ r ≡ tooLong v m ⌝ }
 {

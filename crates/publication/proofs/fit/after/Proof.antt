@@ -20,8 +20,8 @@ use Rattle.publication.proofs.fit.after.Tie as tie
 returns : tie.Need-returns
 returns c = sym (cond-true (eqb (c .before .args .end) 0) noneFitted (fittedAt (c .before .args .v) (c .before .args .end)) (eq-eqb _ _ (c .if1 .taken)))
 
-small : (c : tie.After-begin) → (let a = c .before .before .before .before .args in c .begin .result + a .end < 9223372036854775808)
-small c = let s = c .before .before .before .before in omega (arith, c .begin .ensures, begin-most _ (s .pre .0), s .pre .0 .term-most, s .pre .1 .1)
+small : (c : tie.After-begin-position) → (let a = c .before .before .before .before .args in c .begin-position .result + a .end < 9223372036854775808)
+small c = let s = c .before .before .before .before in omega (arith, c .begin-position .ensures, begin-most _ (s .pre .0), s .pre .0 .term-most, s .pre .1 .1 .1)
 
 cast-t9 : tie.Need-cast-t9
 cast-t9 c = record { sfits = omega (arith, small c) }
@@ -31,8 +31,8 @@ returns-2 c =
     let s = c .before .before .before .before in
     let a = s .args in
     let fits : SFits w64 (c .before .to-i64 .result) = search needs in
-    let tail = raw-is (a .v .id) (a .end) _ (s .pre .1 .0) (toZ-ofZ fits ∙ c .before .to-i64 .ensures) in
-    let at : toZ w64 (c .begin .result + a .end) ≡ pos (a .v .count * a .v .term + a .end) = toZ-pos w64 (omega (arith, small c)) ∙ ap (λ (x : ℕ). pos (x + a .end)) (c .begin .ensures) in
+    let tail = raw-is (a .v .id) (a .end) _ (s .pre .1 .1 .0) (toZ-ofZ fits ∙ c .before .to-i64 .ensures) in
+    let at : toZ w64 (c .begin-position .result + a .end) ≡ pos (a .v .count * a .v .term + a .end) = toZ-pos w64 (omega (arith, small c)) ∙ ap (λ (x : ℕ). pos (x + a .end)) (c .begin-position .ensures) in
     ap₂ {C = Fitted} (λ (t z : ℤ). record { tail = t; position = z }) tail at ∙ sym (cond-false (eqb (a .end) 0) noneFitted (fittedAt (a .v) (a .end)) (ne-eqb _ _ (c .before .before .before .if1 .left)))
 
 pub after-spec : {M : Type 1} → statement M

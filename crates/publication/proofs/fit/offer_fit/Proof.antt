@@ -10,11 +10,14 @@ use lib.IntN.{ℤ}
 use lib.ListN.{length}
 use mir.Facts.{toZ-ofZ}
 use Rattle.model.specs.Bytes.{long}
+use Rattle.model.specs.FrameDescriptor.{space}
 use Rattle.model.specs.TermAppender.{fragment, written}
 use Rattle.model.proofs.Choice.{cond-false}
 use Rattle.model.proofs.Sound.{bounds}
+use Rattle.logbuffer.specs.Ways.{frameFits}
+use Rattle.logbuffer.proofs.Ways.{fits-true}
 use Rattle.publication.specs.Fits.{isOpen, offerFitBytes}
-use Rattle.publication.proofs.Fits.{Open, open-true, not-open, fitted-by, end-in, bytes-by}
+use Rattle.publication.proofs.Fits.{open-true, not-open, fitted-by, end-in, bytes-by}
 use Rattle.publication.proofs.fit.offer_fit.Statement.{statement}
 use Rattle.publication.proofs.fit.offer_fit.Tie as tie
 
@@ -23,15 +26,15 @@ is c = sym (c .before .is-open .ensures) ∙ not-false _ (c .if1 .left)
 
 returns : tie.Need-returns
 returns c =
-    let no = not-open _ _ _ (sym (c .before .is-open .ensures) ∙ not-true _ (c .if1 .taken)) in
+    let no = not-open _ _ (sym (c .before .is-open .ensures) ∙ not-true _ (c .if1 .taken)) in
     (sym (cond-false _ _ _ no), sym (cond-false _ _ _ no))
 
 after-requires : tie.Need-after-requires
 after-requires c κs =
     let e = c .before .before .before .before in
     let a = e .before .before .before .before .args in
-    let o = open-true _ _ _ (is e) in
-    (bounds _ _ (o .so), (o .id-in, end-in (a .numbers) (length (a .log .now)) (length (a .message .now)) (is e) _ (c .before .before .append-fit .ensures .0)))
+    let o = open-true _ _ _ (is e) .0 in
+    (bounds _ _ (o .so), (o .so .one-bit, (o .id-in, end-in (a .numbers) _ (frameFits (a .numbers) (length (a .log .now)) (a .numbers .count % 3) (length (a .message .now))) (space (length (a .message .now))) (is e) _ (c .before .before .append-fit .ensures .0) (λ f. fits-true (a .numbers) (length (a .log .now)) (a .numbers .count % 3) (length (a .message .now)) f .room))))
 
 returns-2 : tie.Need-returns-2
 returns-2 c =
@@ -39,8 +42,8 @@ returns-2 c =
     let s = e .before .before .before .before in
     let a = s .args in
     let d = c .before .before .before .append-fit in (
-      c .after .ensures ∙ fitted-by (a .numbers) (length (a .log .now)) (length (a .message .now)) (is e) _ (d .ensures .0),
-      bytes-by (a .numbers) (length (a .log .now)) (length (a .message .now)) (is e) (a .log .now) _ _ (d .ensures .1)
+      c .after .ensures ∙ fitted-by (a .numbers) _ _ (space (length (a .message .now))) (is e) _ (d .ensures .0) (omega arith),
+      bytes-by _ _ (is e) (a .log .now) _ _ (d .ensures .1)
           ∙ ap (λ (z : ℤ). offerFitBytes (a .numbers) (a .log .now) (a .message .now) (long z)) (toZ-ofZ (s .fits .reserved-value)),
     )
 
