@@ -148,7 +148,7 @@ pub extern "C" fn logbuffer_available_window(rec: &[i64; 14]) -> PositionReply
     replies::positioned(positions::available_window(words::record_in(rec)))
 }
 
-// An offer by the whole record: all but those of one frame that nothing refuses and that fits.
+// An offer by the whole record: all but those that nothing refuses and that fit.
 fn offer_by_all(
     rec: &mut [i64; 14],
     log: &mut [u8],
@@ -167,8 +167,32 @@ fn offer_by_all(
     replies::offered(answer, rule)
 }
 
-// An offer of one frame that fits moves one tail and no other word. All else, from two places so that it stays a call of its own, is left to
-// `offer_by_all`.
+// An offer in fragments that fits moves one tail and no other word. All else is left to `offer_by_all`.
+fn offer_fragmented(
+    rec: &mut [i64; 14],
+    log: &mut [u8],
+    message: &[u8],
+    reserved_value: i64,
+) -> OfferReply
+    ensures { λ r. ⌜ r ≡ offerReply (offerOf (recordIn (now (rec .entry))) (now (log .entry)) (now (message .entry)) .answer) (offerOf (recordIn (now (rec .entry))) (now (log .entry)) (now (message .entry)) .rule) ⌝ }
+    ensures { λ _. ⌜ now (rec .exit) ≡ recordOut (now (rec .entry)) (offerOf (recordIn (now (rec .entry))) (now (log .entry)) (now (message .entry)) .next) ⌝ }
+    ensures { λ _. ⌜ now (log .exit) ≡ offerBytes (recordIn (now (rec .entry))) (now (log .entry)) (now (message .entry)) «reserved_value» ⌝ }
+{
+    let v = words::reading_in(rec);
+    let fitted = fit::offer_fragmented_fit(v, log, message, reserved_value);
+    let position = fitted.position;
+    if position == 0 {
+        return offer_by_all(rec, log, message, reserved_value);
+    }
+    words::tail_out(rec, v.count % 3, fitted.tail);
+    OfferReply {
+        code: 0,
+        rule: 16,
+        position: position,
+    }
+}
+
+// The same of an offer of one frame. All else, from two places so that it stays a call of its own, is left to `offer_fragmented`.
 #[no_mangle]
 pub extern "C" fn logbuffer_offer(
     rec: &mut [i64; 14],
@@ -181,13 +205,13 @@ pub extern "C" fn logbuffer_offer(
     ensures { λ _. ⌜ now (log .exit) ≡ offerBytes (recordIn (now (rec .entry))) (now (log .entry)) (now (message .entry)) «reserved_value» ⌝ }
 {
     if message.len() > 65472 {
-        return offer_by_all(rec, log, message, reserved_value);
+        return offer_fragmented(rec, log, message, reserved_value);
     }
     let v = words::reading_in(rec);
     let fitted = fit::offer_fit(v, log, message, reserved_value);
     let position = fitted.position;
     if position == 0 {
-        return offer_by_all(rec, log, message, reserved_value);
+        return offer_fragmented(rec, log, message, reserved_value);
     }
     words::tail_out(rec, v.count % 3, fitted.tail);
     OfferReply {

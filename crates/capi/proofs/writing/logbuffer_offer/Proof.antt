@@ -1,4 +1,4 @@
--- Where the shorter path tells a frame, the reply and the one word are the definition's. All else is the promise of `offer_by_all`, over a log that is as it was.
+-- Where the shorter path tells a frame, the reply and the one word are the definition's. All else is the promise of `offer_fragmented`, over a log that is as it was.
 use mathlib.Core.Path.{_≡_, refl, sym, ap, _∙_}
 use mathlib.Core.List.{List}
 use Prim.Native.Nat.{ℕ, _%_}
@@ -24,7 +24,7 @@ returns : tie.Need-returns
 returns c =
     let s = c .before .before .before .before .before .before .before .before in
     let a = s .args in
-    let f = c .before .before .offer-by-all .ensures in
+    let f = c .before .before .offer-fragmented .ensures in
     (f .0, (f .1 .0, f .1 .1 ∙ ap (offerBytes (recordIn (a .rec .now)) (a .log .now) (a .message .now)) (toZ-ofZ (s .fits .reserved-value))))
 
 module _ (c : tie.After-offer-fit) where
@@ -47,7 +47,7 @@ returns-2 c =
     let r = recordIn (a .rec .now) in
     let zero = sym (toZ-ofZ (position-fits d)) ∙ ap (toZ w64) (c .before .before .before .before .before .if2 .taken) in
     let same = offer-none r (a .log .now) (a .message .now) (a .reserved-value) _ (d .before .before .reading-in .ensures) _ _ (d .offer-fit .ensures .0) (left d) zero in
-    let f = c .before .before .offer-by-all2 .ensures in (
+    let f = c .before .before .offer-fragmented2 .ensures in (
       of-1 (λ (l : List ℕ). offerReply (offerOf r l (a .message .now) .answer) (offerOf r l (a .message .now) .rule)) (f .0) same,
       (
         of-1 (λ (l : List ℕ). recordOut (a .rec .now) (offerOf r l (a .message .now) .next)) (f .1 .0) same,
