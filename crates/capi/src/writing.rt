@@ -192,7 +192,8 @@ fn offer_fragmented(
     }
 }
 
-// The same of an offer of one frame. All else, from two places so that it stays a call of its own, is left to `offer_fragmented`.
+// An offer of one frame that fits moves one tail and no other word. All else, from two places so that it stays a call of its own, is left to
+// `offer_fragmented`.
 #[no_mangle]
 pub extern "C" fn logbuffer_offer(
     rec: &mut [i64; 14],

@@ -31,14 +31,15 @@ isOpen v n m = unpressed v n && (leb m (payloadLimit v) && not (v .closed))
 abbrev pub isFit : Reading → ℕ → ℕ → Bool
 isFit v n m = isOpen v n m && frameFits v n (v .count % 3) m
 
--- the same of a message that takes several frames
+-- a message of m bytes that takes several frames, and that nothing refuses in a log of n bytes
 unfoldable pub isLong : Reading → ℕ → ℕ → Bool
 isLong v n m = unpressed v n && (ltb (payloadLimit v) m && (not (tooLong v m) && not (v .closed)))
 
+-- and whose frames all fit there
 abbrev pub isLongFit : Reading → ℕ → ℕ → Bool
 isLongFit v n m = isLong v n m && framesFit v n (v .count % 3) (payloadLimit v) m
 
--- ---- the answer: the raw tail and the position after the frame
+-- ---- the answer: the raw tail and the position after the frame, or after the last of several
 
 abbrev pub noneFitted : Fitted
 noneFitted = record { tail = pos 0; position = pos 0 }

@@ -60,7 +60,7 @@ fn is_open(v: Reading, n: usize, m: usize) -> bool
     !v.closed
 }
 
-// The same of a message that takes several frames.
+// Whether a message of m bytes takes several frames and nothing refuses it, in a log of n bytes.
 fn is_long(v: Reading, n: usize, m: usize) -> bool
     ensures { λ r. ⌜ r ≡ isLong v n m ⌝ }
 {
@@ -122,7 +122,7 @@ pub fn offer_fit(numbers: Reading, log: &mut [u8], message: &[u8], reserved_valu
     after(numbers, end)
 }
 
-// An offer in fragments, in the same way.
+// An offer in fragments. Where none is told the log is as it was.
 pub fn offer_fragmented_fit(
     numbers: Reading,
     log: &mut [u8],
