@@ -43,7 +43,7 @@ joined-long buffer body w (TooLong k) e f = refl
 joined-long buffer body w (Join k from) e f = length-splice buffer (k * (length buffer / 16) + from) body (omega (arith, part-16 k (length buffer) (f .0), f .1))
 joined-long buffer body w (Complete k from) e f = length-splice buffer (k * (length buffer / 16) + from) body (omega (arith, part-16 k (length buffer) (f .0), f .1))
 
-assembled-long : (r : LogRecord) (log : List ℕ) (s : Sessions) (buffer : List ℕ) (k o : ℕ) → length (assembleOf r log s buffer (pos k) (pos o) .buffer) ≡ length buffer
+pub assembled-long : (r : LogRecord) (log : List ℕ) (s : Sessions) (buffer : List ℕ) (k o : ℕ) → length (assembleOf r log s buffer (pos k) (pos o) .buffer) ≡ length buffer
 unfolding assembleOf
 assembled-long r log s buffer k o = go (assembleVerdict (reading r) log (length buffer) k o) refl
   where

@@ -22,7 +22,7 @@ use mir.Syntax.{w32}
 use mir.Val.{toZ, SFits}
 use mir.ValLaws.{ofZ-fits}
 use mir.Facts.{toZ-pos, toZ-neg}
-use lib.ListN.{length, drop, getD}
+use lib.ListN.{length, drop, getD, length-set}
 use Rattle.model.specs.declared.LogRecord.{LogRecord}
 use Rattle.model.specs.declared.Reading.{Reading}
 use Rattle.model.specs.declared.Frame.{Frame}
@@ -46,7 +46,7 @@ use Rattle.model.specs.FrameDescriptor.{align, isFinished, lengthAt, unsoundLen
 use Rattle.model.specs.LogBufferDescriptor.{idMinus, active, readingOf, reading, publisherPosition, sound, greatest, partitionOf, goodPartition, goodOffset, goodPosition}
 use Rattle.model.specs.TermReader.{natural, Walked, still, handed, walk, firstUnsound, goodEntries, laid, numbers}
 use Rattle.model.specs.Image.{Image, PollReply, movedTo, readable, walkAt, unsoundAt, pollReply, pollVerdict, pollOf}
-use Rattle.model.specs.FragmentAssembler.{Sessions, Assembly, sessionAt, assembledBy, joining, joined, joinedAt, goodAssembly, assembleVerdict, assembleBy, assembleOf}
+use Rattle.model.specs.FragmentAssembler.{Sessions, Assembly, sessionAt, bodyLength, sessionsBy, holding, assembledBy, joining, joined, joinedAt, goodAssembly, assembleVerdict, assembleBy, assembleOf}
 use Rattle.model.specs.Replay.{ReplayState, NextReply, giving, givenBy, assembledTo, pollOne, assembleOne, isOver, turnBy, nextFrom, nextOf}
 use Rattle.model.proofs.Both.{and-true, and-false, both-true}
 use Rattle.model.proofs.Choice.{cond-true, cond-false, cond-case, split, same?, eq-yes, eq-no}
@@ -58,6 +58,7 @@ use Rattle.image.proofs.Places.{at-place}
 use Rattle.replay.specs.InPlace.{TermOrNone, TermsOf, stopAt, indexAt, dataAt, wholeAt, openTerm, wholeOf, wholeWith, overBy, keptAs, repliedBy, isRefused}
 use Rattle.replay.specs.declared.frames.Whole.{Whole}
 use Rattle.replay.proofs.Turns.{next-stops, next-from, refused-keeps}
+use Rattle.replay.proofs.Again.{assembled-long}
 use Rattle.replay.specs.Replays.{elsewhereOn, Turned, stops, goesOn, fragmentTurn, turnSaid, turnOf}
 
 -- ---- what the tests say
@@ -521,6 +522,16 @@ passes-through at n part a m (TooLong k) h = absurd (let z : _≡_ {A = ℕ} 0 1
 passes-through at n part a m (Join k from) h = absurd (let z : _≡_ {A = ℕ} 0 1 = cc in omega arith)
 passes-through at n part a m (Complete k from) h = absurd (let z : _≡_ {A = ℕ} 0 1 = cc in omega arith)
 
+-- as many ids as before
+ids-long : (s : Sessions) (session : ℤ) (n : ℕ) (x : Joining) → length (sessionsBy s session n x .ids) ≡ length (s .ids)
+unfolding holding
+ids-long s session n Through = refl
+ids-long s session n Ignore = refl
+ids-long s session n Full = refl
+ids-long s session n (TooLong k) = length-set (s .ids) k session
+ids-long s session n (Join k from) = length-set (s .ids) k session
+ids-long s session n (Complete k from) = length-set (s .ids) k session
+
 -- the turn by the core's assembly, told by the index at which the frame lies
 abbrev pub placedTurn : ReplayState → ReplayState → ℕ → ℕ → Assembled → Turned
 placedTurn s t index n Nothing = goesOn t
@@ -585,6 +596,17 @@ module _ (r : LogRecord) (log : List ℕ) (s : ReplayState) (n : ℕ) (sound-so 
   refused-left e h =
       let g = data-given r log s n sound-so is-open d lent-so ∙ join-is in
       ap (λ (y : Assembly). y .buffer) (sym g) ∙ refused-keeps r log (s .sessions) (s .buffer) (pos (partitionOf p′ T′)) (pos (p′ % T′)) e (ap (λ (y : Assembly). y .answer) g ∙ h)
+
+  -- and any keeps the buffer's length and the ids'
+  pub given-long : length (J .buffer) ≡ length (s .buffer)
+  given-long =
+      ap (λ (y : Assembly). length (y .buffer)) (sym (data-given r log s n sound-so is-open d lent-so ∙ join-is)) ∙ assembled-long r log (s .sessions) (s .buffer) (partitionOf p′ T′) (p′ % T′)
+
+  pub given-ids : length (J .next .ids) ≡ 16
+  given-ids =
+      let frame = drop x′ log in
+      ap (λ (y : Assembly). length (y .next .ids)) (sym join-is)
+      ∙ ids-long (s .sessions) (sessionAt frame) (bodyLength frame) (joining (s .sessions) (sessionAt frame) (flagsAt frame) (bodyLength frame) (length (s .buffer) / 16)) ∙ ids-16
 
 -- the same turn by whether it was refused, and whether it goes on
 pub placed-refused : (s t : ReplayState) (p n : ℕ) (a : Assembled) → isRefused a ≡ true → placedTurn s t p n a ≡ stops s (repliedBy p n a)

@@ -3,16 +3,18 @@
 ghost use mathlib.Core.Path.{_≡_};
 ghost use Prim.Native.Nat.{_*_, _/_, _%_, _≤_, _<_};
 ghost use lib.ListN.{length};
-ghost use Rattle.model.specs.LogBufferDescriptor.{partitionOf};
+ghost use Rattle.model.specs.LogBufferDescriptor.{partitionOf, reading};
 ghost use Rattle.image.specs.Images.{stateOf as imageState};
 ghost use Rattle.logbuffer.specs.Assembler.{sessionsAs, joinOf};
 ghost use Rattle.replay.specs.InPlace.{TermOrNone, TermsOf, stopAt, indexAt, dataAt, wholeAt, foundNone, openTerm, wholeIn, overBy, keptBy, repliedBy, isRefused};
 ghost use Rattle.replay.specs.Replays.{elsewhereOn};
+ghost use Rattle.replay.specs.Gather.{gatheredAs, gatheringOf, gatherFrom, isEnd};
 use image::Image;
 use logbuffer::cast;
 use logbuffer::data_frame_header::HEADER_LENGTH;
 use logbuffer::fragment_assembler;
 use logbuffer::frame_descriptor;
+use logbuffer::frame_descriptor::ALIGNMENT_MASK;
 use logbuffer::frame_descriptor::FRAME_ALIGNMENT;
 use logbuffer::log_buffer_descriptor;
 use logbuffer::log_buffer_descriptor::PARTITION_COUNT;
@@ -178,6 +180,22 @@ pub(crate) fn open_term(image: Image, v: Reading, n: usize, lent: usize) -> usiz
     v.term
 }
 
+// How far frames may be taken as they lie: the length of a term, 0 where none may, and the position where the replay stops.
+pub(crate) struct Reach {
+    pub term: usize,
+    pub stop: usize,
+}
+
+pub(crate) fn reach_of(image: Image, rec: LogRecord, n: usize, lent: usize) -> Reach
+    ensures { λ r. ⌜ (r .term ≡ openTerm (imageState image) (reading rec) n lent) × (r .stop ≡ stopAt (reading rec)) ⌝ }
+{
+    let v = log_buffer_descriptor::read_active(rec);
+    Reach {
+        term: open_term(image, v, n, lent),
+        stop: stop_at(v),
+    }
+}
+
 // Where the frame at the image's position lies and how long it is, if it is a whole message that the next reply gives; else 0 twice. For a caller who
 // keeps the replay elsewhere and need not fetch it all.
 pub fn next_whole(image: Image, rec: LogRecord, log: &[u8], lent: usize) -> Whole
@@ -281,5 +299,78 @@ pub(crate) fn is_refused(answer: Assembled) -> bool
         Assembled::Fragment(_, _) => false,
         Assembled::Message(_, _) => false,
         Assembled::Refused(_) => true,
+    }
+}
+
+// ---- data frames one after another
+
+// Where they lead: how many sessions are entered and turns left, the position, and the reply; End where nothing came of them.
+pub(crate) struct Gathered {
+    pub count: usize,
+    pub left: usize,
+    pub position: usize,
+    pub answer: Replayed,
+}
+
+fn gathered_as(count: usize, left: usize, position: usize, answer: Replayed) -> Gathered
+    ensures { λ r. ⌜ r ≡ gatheredAs count left position answer ⌝ }
+{
+    Gathered {
+        count: count,
+        left: left,
+        position: position,
+        answer: answer,
+    }
+}
+
+// Data frames from a position on, given to the assembler's core with the sessions in place, until one gives a reply. It stops before what is no data
+// frame, for a poll to read, and before a frame that is refused.
+pub(crate) fn gather(
+    count: usize,
+    ids: &mut [i32],
+    held: &mut [usize],
+    log: &[u8],
+    buffer: &mut [u8],
+    term: usize,
+    stop: usize,
+    position: usize,
+    most: usize,
+) -> Gathered
+    requires { ⌜ (TermOrNone term × (0 < term → stop ≤ 2305843009213693952)) × ((length (now ids) ≡ 16) × (length (now held) ≡ 16)) ⌝ }
+    ensures { λ r. ⌜ gatheringOf r (now (ids .exit)) (now (held .exit)) (now (buffer .exit)) ≡ gatherFrom most (now (log .entry)) term stop position (sessionsAs count (now (ids .entry)) (now (held .entry))) (now (buffer .entry)) ⌝ }
+{
+    let mut entered = count;
+    let mut p = position;
+    let mut left = most;
+    while left > 0 {
+        let n = data_at(log, term, stop, p);
+        if n == 0 {
+            return gathered_as(entered, left, p, Replayed::End);
+        }
+        let at = index_at(term, p);
+        let given = give(entered, ids, held, log, buffer, at, p & (term - 1));
+        let answer = given.answer;
+        entered = given.count;
+        if is_refused(answer) {
+            return gathered_as(entered, left, p, reply_by(answer, at, n));
+        }
+        p = p + (n + ALIGNMENT_MASK) / FRAME_ALIGNMENT * FRAME_ALIGNMENT;
+        left = left - 1;
+        if !is_nothing(answer) {
+            return gathered_as(entered, left, p, reply_by(answer, at, n));
+        }
+    }
+    gathered_as(entered, left, p, Replayed::End)
+}
+
+// Whether nothing came of them.
+pub(crate) fn is_end(answer: Replayed) -> bool
+    ensures { λ r. ⌜ r ≡ isEnd answer ⌝ }
+{
+    match answer {
+        Replayed::InLog(_, _) => false,
+        Replayed::InBuffer(_, _) => false,
+        Replayed::End => true,
+        Replayed::Refused(_) => false,
     }
 }

@@ -8,11 +8,15 @@ ghost use lib.IntN.{pos};
 ghost use Rattle.model.specs.TermReader.{natural};
 ghost use Rattle.model.specs.Image.{newImage};
 ghost use Rattle.model.specs.FragmentAssembler.{fresh};
-ghost use Rattle.model.specs.Replay.{nextOf};
+ghost use Rattle.model.specs.LogBufferDescriptor.{reading};
+ghost use Rattle.model.specs.Replay.{nextFrom, nextOf};
 ghost use Rattle.image.specs.Images.{stateOf as imageState};
 ghost use Rattle.logbuffer.specs.Assembler.{sessionsOf};
+ghost use Rattle.replay.specs.InPlace.{openTerm, stopAt};
+ghost use Rattle.replay.specs.Gather.{lentReplyOf};
 ghost use Rattle.replay.specs.Batches.{batchReplyOf, batchOf};
 ghost use Rattle.replay.specs.Replays.{replayOf, stateOf, refusalBy, elsewhereOn, elsewhereBy, elsewhereNext, nextReplyOf, addedTo, givesBy, lengthBy, countedBy, countOf, turned, turnOf, fragmentGiven};
+use crate::frames::Reach;
 use image::Image;
 use logbuffer::argument;
 use logbuffer::cast;
@@ -38,6 +42,13 @@ pub struct Replay {
 
 pub struct NextReply {
     pub next: Replay,
+    pub answer: Replayed,
+}
+
+// A replay whose sessions are lent: its image, how many sessions are entered, and its answer.
+pub struct LentReply {
+    pub image: Image,
+    pub count: usize,
     pub answer: Replayed,
 }
 
@@ -208,68 +219,80 @@ impl Replay {
         }
     }
 
-    // The turns of a call that found no whole message. A data frame is given to the assembler's core as it lies, with the sessions in
-    // place; a padding, the end and what is refused go by a poll. Each turn that goes on moves the image, so three terms bound the turns.
-    fn turns(self, rec: LogRecord, log: &[u8], buffer: &mut [u8]) -> NextReply
-        requires { ⌜ length (now buffer) ≤ 2147483647 ⌝ }
-        ensures { λ r. ⌜ nextReplyOf r (now (buffer .exit)) ≡ nextOf rec (now (log .entry)) (stateOf self (now (buffer .entry))) ⌝ }
+    // The turns left, each by a poll. Each that goes on moves the image, so three terms bound them.
+    fn turns(self, rec: LogRecord, log: &[u8], buffer: &mut [u8], most: usize) -> NextReply
+        ensures { λ r. ⌜ nextReplyOf r (now (buffer .exit)) ≡ nextFrom most rec (now (log .entry)) (stateOf self (now (buffer .entry))) ⌝ }
     {
-        let v = log_buffer_descriptor::read_active(rec);
-        let mut image = self.image;
-        let assembler = self.assembler;
-        let mut count = assembler.count;
-        let mut ids = assembler.ids;
-        let mut held = assembler.held;
-        let stop = frames::stop_at(v);
-        let mut left = 3 * cast::word(rec.term_length) + 1;
+        let mut replay = self;
+        let mut left = most;
         while left > 0 {
-            let term = frames::open_term(image, v, log.len(), buffer.len());
-            let p = cast::long(image.position);
-            let n = frames::data_at(log, term, stop, p);
-            if n == 0 {
-                let t = turn(replay_of(image, count, ids, held), rec, log, buffer);
-                let answer = t.answer;
-                let next = t.next;
-                if !t.on {
-                    return NextReply {
-                        next: next,
-                        answer: answer,
-                    };
-                }
-                image = next.image;
-                let assembler = next.assembler;
-                count = assembler.count;
-                ids = assembler.ids;
-                held = assembler.held;
-                left = left - 1;
-                continue;
-            }
-            let at = frames::index_at(term, p);
-            let given = frames::give(count, &mut ids, &mut held, log, buffer, at, p & (term - 1));
-            let answer = given.answer;
-            count = given.count;
-            if frames::is_refused(answer) {
+            let t = turn(replay, rec, log, buffer);
+            let answer = t.answer;
+            replay = t.next;
+            if !t.on {
                 return NextReply {
-                    next: replay_of(image, count, ids, held),
-                    answer: frames::reply_by(answer, at, n),
-                };
-            }
-            image.position = (p + (n + ALIGNMENT_MASK) / FRAME_ALIGNMENT * FRAME_ALIGNMENT) as i64;
-            if !frames::is_nothing(answer) {
-                return NextReply {
-                    next: replay_of(image, count, ids, held),
-                    answer: frames::reply_by(answer, at, n),
+                    next: replay,
+                    answer: answer,
                 };
             }
             left = left - 1;
         }
         NextReply {
-            next: replay_of(image, count, ids, held),
+            next: replay,
             answer: Replayed::End,
         }
     }
+}
 
-    // The next message for a caller who has looked for a whole one already, by `frames::next_whole`.
+// The next message where no whole one lies, with the sessions lent: data frames as they lie, and from what is none on, a padding, the end or a refusal, by
+// polls.
+fn next_lent(
+    start: Image,
+    count: usize,
+    ids: &mut [i32; 16],
+    held: &mut [usize; 16],
+    rec: LogRecord,
+    log: &[u8],
+    buffer: &mut [u8],
+    reach: Reach,
+) -> LentReply
+    requires { ⌜ (length (now buffer) ≤ 2147483647) × ((reach .term ≡ openTerm (imageState start) (reading rec) (length (now log)) (length (now buffer))) × (reach .stop ≡ stopAt (reading rec))) ⌝ }
+    ensures { λ r. ⌜ lentReplyOf r (now (ids .exit)) (now (held .exit)) (now (buffer .exit)) ≡ nextOf rec (now (log .entry)) (stateOf (replayOf start count (now (ids .entry)) (now (held .entry))) (now (buffer .entry))) ⌝ }
+{
+    let most = 3 * cast::word(rec.term_length) + 1;
+    let p = cast::long(start.position);
+    let term = reach.term;
+    let gathered = frames::gather(count, ids, held, log, buffer, term, reach.stop, p, most);
+    let answer = gathered.answer;
+    let mut image = start;
+    let position = cast::to_i64(gathered.position);
+    image.position = position;
+    if !frames::is_end(answer) {
+        return LentReply {
+            image: image,
+            count: gathered.count,
+            answer: answer,
+        };
+    }
+    let replay = replay_of(image, gathered.count, *ids, *held);
+    let reply = replay.turns(rec, log, buffer, gathered.left);
+    let answer = reply.answer;
+    let next = reply.next;
+    let assembler = next.assembler;
+    let last_ids = assembler.ids;
+    let last_held = assembler.held;
+    *ids = last_ids;
+    *held = last_held;
+    let image = next.image;
+    LentReply {
+        image: image,
+        count: assembler.count,
+        answer: answer,
+    }
+}
+
+impl Replay {
+    // The next message for a caller who has looked for a whole one already, by `frames::next_whole`. Where no frame may be taken as it lies, all goes by polls.
     pub fn next_by_turns(self, rec: LogRecord, log: &[u8], buffer: &mut [u8]) -> NextReply
         ensures { λ r. ⌜ nextReplyOf r (now (buffer .exit)) ≡ nextOf rec (now (log .entry)) (stateOf self (now (buffer .entry))) ⌝ }
     {
@@ -279,7 +302,22 @@ impl Replay {
                 answer: Replayed::Refused(Error::IllegalArgument),
             };
         }
-        self.turns(rec, log, buffer)
+        let image = self.image;
+        let assembler = self.assembler;
+        let mut ids = assembler.ids;
+        let mut held = assembler.held;
+        let reach = frames::reach_of(image, rec, log.len(), buffer.len());
+        if reach.term == 0 {
+            return self.turns(rec, log, buffer, 3 * cast::word(rec.term_length) + 1);
+        }
+        let count = assembler.count;
+        let reply = next_lent(image, count, &mut ids, &mut held, rec, log, buffer, reach);
+        let answer = reply.answer;
+        let image = reply.image;
+        NextReply {
+            next: replay_of(image, reply.count, ids, held),
+            answer: answer,
+        }
     }
 
     // The next message: where it lies in the log or in the lent buffer; or that there is none. A whole message is handed out as it lies,
@@ -298,7 +336,7 @@ impl Replay {
         let whole = frames::next_whole(image, rec, log, buffer.len());
         let n = whole.length;
         if n == 0 {
-            return self.turns(rec, log, buffer);
+            return self.next_by_turns(rec, log, buffer);
         }
         let p = cast::long(image.position);
         image.position = (p + (n + ALIGNMENT_MASK) / FRAME_ALIGNMENT * FRAME_ALIGNMENT) as i64;
@@ -339,18 +377,19 @@ impl Replay {
         if numbers.len() > 2147483647 {
             return batch_reply(self, Batched::Refused(Error::IllegalArgument));
         }
-        let v = log_buffer_descriptor::read_active(rec);
         let most = numbers.len() / 4;
         let mut image = self.image;
-        let mut assembler = self.assembler;
-        let stop = frames::stop_at(v);
-        let mut term = frames::open_term(image, v, log.len(), buffer.len());
+        let assembler = self.assembler;
+        let mut count = assembler.count;
+        let mut ids = assembler.ids;
+        let mut held = assembler.held;
+        let reach = frames::reach_of(image, rec, log.len(), buffer.len());
         let mut number: usize = 0;
         let mut base: usize = 0;
         let mut laid: usize = 0;
         while laid < most {
             let p = cast::long(image.position);
-            let found = frames::whole_from(log, number, base, term, stop, p);
+            let found = frames::whole_from(log, number, base, reach.term, reach.stop, p);
             number = found.number;
             base = found.base;
             let n = found.length;
@@ -362,34 +401,18 @@ impl Replay {
                 laid = laid + 1;
                 continue;
             }
-            let replay = Replay {
-                image: image,
-                assembler: assembler,
-            };
-            let reply = replay.next_by_turns(rec, log, buffer);
+            let reply = next_lent(image, count, &mut ids, &mut held, rec, log, buffer, reach);
             let answer = reply.answer;
-            let next = reply.next;
+            image = reply.image;
+            count = reply.count;
             let Replayed::InLog(from, length) = answer else {
-                return batch_reply(
-                    next,
-                    laying::last(numbers, laid, answer, cast::long(next.image.position)),
-                );
+                let answer = laying::last(numbers, laid, answer, cast::long(image.position));
+                return batch_reply(replay_of(image, count, ids, held), answer);
             };
-            image = next.image;
-            assembler = next.assembler;
             laying::lay(numbers, laid, 1, from, length, cast::long(image.position));
-            term = frames::open_term(image, v, log.len(), buffer.len());
-            number = 0;
-            base = 0;
             laid = laid + 1;
         }
-        batch_reply(
-            Replay {
-                image: image,
-                assembler: assembler,
-            },
-            Batched::Laid(laid),
-        )
+        batch_reply(replay_of(image, count, ids, held), Batched::Laid(laid))
     }
 }
 
@@ -450,11 +473,14 @@ pub fn count(
     ensures { λ r. ⌜ r ≡ countOf rec (now (log .entry)) position «session_id» (now (buffer .entry)) .answer ⌝ }
     ensures { λ _. ⌜ now (buffer .exit) ≡ countOf rec (now (log .entry)) position «session_id» (now (buffer .entry)) .buffer ⌝ }
 {
-    let v = log_buffer_descriptor::read_active(rec);
-    let stop = frames::stop_at(v);
+    if buffer.len() > 2147483647 {
+        return Counted::Refused(Error::IllegalArgument);
+    }
     let mut image = Image::new(position, session_id);
-    let mut assembler = FragmentAssembler::new();
-    let mut term = frames::open_term(image, v, log.len(), buffer.len());
+    let mut count: usize = 0;
+    let mut ids: [i32; 16] = [0; 16];
+    let mut held: [usize; 16] = [0; 16];
+    let reach = frames::reach_of(image, rec, log.len(), buffer.len());
     let mut number: usize = 0;
     let mut base: usize = 0;
     let mut messages: usize = 0;
@@ -462,7 +488,7 @@ pub fn count(
     let most = 3 * cast::word(rec.term_length) + 1;
     while messages < most {
         let p = cast::long(image.position);
-        let found = frames::whole_from(log, number, base, term, stop, p);
+        let found = frames::whole_from(log, number, base, reach.term, reach.stop, p);
         number = found.number;
         base = found.base;
         let n = found.length;
@@ -472,21 +498,13 @@ pub fn count(
             messages = messages + 1;
             continue;
         }
-        let replay = Replay {
-            image: image,
-            assembler: assembler,
-        };
-        let reply = replay.next_by_turns(rec, log, buffer);
+        let reply = next_lent(image, count, &mut ids, &mut held, rec, log, buffer, reach);
         let answer = reply.answer;
-        let next = reply.next;
         if !gives(answer) {
             return count_of(answer, messages, bytes);
         }
-        image = next.image;
-        assembler = next.assembler;
-        term = frames::open_term(image, v, log.len(), buffer.len());
-        number = 0;
-        base = 0;
+        image = reply.image;
+        count = reply.count;
         bytes = added(bytes, length_of(answer));
         messages = messages + 1;
     }

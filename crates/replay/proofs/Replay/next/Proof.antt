@@ -1,5 +1,5 @@
 -- Row 1; a whole message, which is found as it lies; or the turns.
-use mathlib.Core.Path.{_≡_, refl, sym, ap, ap₂, _∙_}
+use mathlib.Core.Path.{_≡_, sym, ap, ap₂, _∙_}
 use Prim.Native.Nat.{ℕ, _+_, _-_, _*_, _/_, _≤_, _<_}
 use native.Mathlib.Omega.{arith}
 use borrow.Author.Needs.{needs}
@@ -25,9 +25,6 @@ use Rattle.replay.proofs.Replay.next.Tie as tie
 
 returns : tie.Need-returns
 returns c = let a = c .before .before .before .args in next-refused (a .rec) (a .log .now) (stateOf (a .self) (a .buffer .now)) (omega arith)
-
-turns-requires : tie.Need-turns-requires
-turns-requires c κs = omega (arith, c .before .before .before .before .if1 .left)
 
 module _ (c : tie.After-long) where
   abbrev s : tie.Start
@@ -77,9 +74,9 @@ next-spec =
     (tie.spec
     returns
     (search needs)
-    turns-requires
     (search needs)
-    (λ c. c .before .before .turns .ensures)
+    (search needs)
+    (λ c. c .before .before .next-by-turns .ensures)
     (search needs)
     (λ c. omega (arith, near c))
     (λ c. omega (arith, near c))

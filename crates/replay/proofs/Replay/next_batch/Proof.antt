@@ -4,52 +4,48 @@ use Prim.Native.Nat.{ℕ, _+_, _-_, _*_, _/_, _%_, _≤_, _<_}
 use mathlib.Core.List.{List}
 use native.Mathlib.Omega.{arith}
 use borrow.Author.Needs.{needs}
-use borrow.Author.Tests.{not-true, not-false}
 use lib.ListN.{length}
 use lib.IntN.{ℤ, pos}
-use mir.Syntax.{w32, w64}
-use mir.Val.{SFits, toZ, ofZ}
-use mir.Facts.{toZ-ofZ, toZ-pos}
-use Rattle.model.specs.declared.Reading.{Reading}
+use mir.Syntax.{w64}
+use mir.Val.{SFits, toZ}
+use mir.Facts.{toZ-pos}
 use Rattle.model.specs.Bytes.{long}
 use Rattle.model.specs.LogBufferDescriptor.{reading}
 use Rattle.model.specs.FrameDescriptor.{align}
-use Rattle.model.specs.Image.{Image as State, movedTo}
-use Rattle.model.specs.Replay.{ReplayState}
+use Rattle.model.specs.Image.{movedTo}
+use Rattle.model.specs.Replay.{ReplayState, NextReply}
 use Rattle.image.specs.declared.Image.{Image}
-use Rattle.image.specs.Images.{stateOf as imageState, imageOf}
-use Rattle.logbuffer.specs.declared.fragment_assembler.FragmentAssembler.{FragmentAssembler}
-use Rattle.logbuffer.specs.Assembler.{sessionsOf}
-use Rattle.logbuffer.proofs.Signed.{word-by, long-by}
+use Rattle.image.specs.Images.{stateOf as imageState}
+use Rattle.logbuffer.proofs.Signed.{long-by}
 use Rattle.replay.specs.declared.Replay.{Replay}
 use Rattle.replay.specs.InPlace.{TermsOf, stopAt, indexAt, wholeAt, openTerm, wholeOf}
-use Rattle.model.specs.declared.Replayed.{Replayed}
 use Rattle.replay.specs.declared.Batched.{Batched}
-use Rattle.replay.specs.declared.Batched.the-variants.{Laid}
-use Rattle.replay.specs.Batches.{Batch, laidAt, ending, lastBy, lastNumbers, batchFrom, batchOf}
-use Rattle.replay.specs.Replays.{stateOf, nextReplyOf}
-use Rattle.replay.proofs.InPlace.{Near, readings, open-terms, open-moved, whole-near, whole-says, wholeReply}
+use Rattle.replay.specs.Batches.{Batch, laidAt, lastBy, lastNumbers, batchFrom, batchOf}
+use Rattle.replay.specs.Replays.{replayOf, stateOf}
+use Rattle.replay.specs.Gather.{lentReplyOf}
+use Rattle.replay.proofs.InPlace.{Near, open-terms, open-moved, whole-near, whole-says, wholeReply}
+use Rattle.replay.proofs.Gather.{open-kept}
 use Rattle.replay.proofs.Batching.{batch-buffer, batch-numbers, batch-starts, batch-none, batch-goes, batch-ends}
 use Rattle.replay.proofs.Replay.next_batch.Statement.{statement}
 use Rattle.replay.proofs.Replay.next_batch.Tie as tie
 
-abbrev at : Image → FragmentAssembler → List ℕ → ReplayState
-at image assembler buffer = stateOf (record { image = image; assembler = assembler }) buffer
+abbrev at : Image → ℕ → List ℤ → List ℕ → List ℕ → ReplayState
+at image count ids held buffer = stateOf (replayOf image count ids held) buffer
 
 abbrev Inv-loop : tie.InvT-loop
-Inv-loop rec log buffer₀ numbers₀ v most image₀ assembler₀ stop term₀ number₀ base₀ laid₀ buffer numbers image assembler term number base laid =
-    (length buffer ≡ length buffer₀) × ((length numbers ≡ length numbers₀) × ((laid ≤ most) × ((term ≡ openTerm (imageState image) (reading rec) (length log) (length buffer))
-    × (batchFrom (most - laid) rec log (at image assembler buffer) numbers laid ≡ batchFrom (most - 0) rec log (at image₀ assembler₀ buffer₀) numbers₀ 0
-    × (base ≡ number % 3 * term)))))
+Inv-loop rec log buffer₀ numbers₀ most image₀ count₀ ids₀ held₀ reach number₀ base₀ laid₀ buffer numbers image count ids held number base laid =
+    (length buffer ≡ length buffer₀) × ((length numbers ≡ length numbers₀) × ((laid ≤ most) × ((reach .term ≡ openTerm (imageState image) (reading rec) (length log) (length buffer))
+    × (batchFrom (most - laid) rec log (at image count ids held buffer) numbers laid ≡ batchFrom (most - 0) rec log (at image₀ count₀ ids₀ held₀ buffer₀) numbers₀ 0
+    × (base ≡ number % 3 * reach .term)))))
 
 abbrev μ-loop : tie.MeasureT-loop
-μ-loop rec log buffer₀ numbers₀ v most image₀ assembler₀ stop term₀ number₀ base₀ laid₀ buffer numbers image assembler term number base laid = most - laid
+μ-loop rec log buffer₀ numbers₀ most image₀ count₀ ids₀ held₀ reach number₀ base₀ laid₀ buffer numbers image count ids held number base laid = most - laid
 
 abbrev st : tie.At-loop Inv-loop μ-loop → tie.Start Inv-loop μ-loop
 st l = l .before .before .before .before .before .before .before .before .before .before .before
 
 abbrev S : tie.At-loop Inv-loop μ-loop → ReplayState
-S l = at (l .loop .image) (l .loop .assembler) (l .loop .buffer)
+S l = at (l .loop .image) (l .loop .count) (l .loop .ids) (l .loop .held) (l .loop .buffer)
 
 abbrev most : tie.At-loop Inv-loop μ-loop → ℕ
 most l = length (st l .args .numbers .now) / 4
@@ -67,10 +63,7 @@ returns-2 c =
     ∙ batch-numbers (a .rec) (a .log .now) (stateOf (a .self) (a .buffer .now)) (a .numbers .now) (omega (arith, c .before .if2))
 
 loop-holds : tie.Need-loop-holds Inv-loop μ-loop
-loop-holds c =
-    let s = c .before .before .before .before .before .before .before .before .before .before in
-    let t = c .open-term .ensures ∙ ap (λ (v : Reading). openTerm (imageState (s .args .self .image)) v (length (s .args .log .now)) (length (s .args .buffer .now))) (c .before .before .before .before .read-active .ensures) in
-    (refl, (refl, (omega arith, (t, (refl, omega arith)))))
+loop-holds c = (refl, (refl, (omega arith, (c .reach-of .ensures .0, (refl, omega arith)))))
 
 -- what it is to come to
 goal : (l : tie.At-loop Inv-loop μ-loop) → batchFrom (most l - l .loop .laid) (st l .args .rec) (st l .args .log .now) (S l) (l .loop .numbers) (l .loop .laid)
@@ -102,7 +95,7 @@ module _ (c : tie.After-whole-from Inv-loop μ-loop) where
 
   whole-is : wholeOf (st l .args .rec) (st l .args .log .now) (imageState (l .loop .image)) (length (l .loop .buffer)) ≡ n
   whole-is =
-      sym (c .whole-from .ensures .0 ∙ ap (λ (x : ℕ). wholeAt (st l .args .log .now) (l .loop .term) x (c .before .long .result)) (l .before .before .stop-at .ensures ∙ ap stopAt (l .before .before .before .before .before .read-active .ensures))
+      sym (c .whole-from .ensures .0 ∙ ap (λ (x : ℕ). wholeAt (st l .args .log .now) (l .before .reach-of .result .term) x (c .before .long .result)) (l .before .reach-of .ensures .1)
       ∙ ap₂ (λ (t p : ℕ). wholeAt (st l .args .log .now) t (stopAt (reading (st l .args .rec))) p) (l .loop .inv .1 .1 .1 .0) p-is)
 
   module _ (some : 0 < n) where
@@ -113,7 +106,7 @@ module _ (c : tie.After-whole-from Inv-loop μ-loop) where
     close = whole-near (st l .args .rec) (st l .args .log .now) (imageState (l .loop .image)) (length (l .loop .buffer)) n whole-is some
 
     -- the index, by the numbers of the code
-    index-is : indexAt (l .loop .term) (c .before .long .result) ≡ X
+    index-is : indexAt (l .before .reach-of .result .term) (c .before .long .result) ≡ X
     index-is = ap₂ indexAt (l .loop .inv .1 .1 .1 .0 ∙ close .term-is) p-is
 
     near : (c .before .long .result < 2305843009213693952) × ((32 ≤ n) × ((n < 2147483648) × (X < 3221225472)))
@@ -132,12 +125,6 @@ some c = omega (arith, c .if3 .taken)
 
 cast-image : tie.Need-cast-image Inv-loop μ-loop
 cast-image c = let f = c .before .before .before .before .before in record { sfits = omega (arith, near (w f) (some f)) }
-
-term-fits : (s : tie.Start Inv-loop μ-loop) → SFits w32 (s .args .rec .«term_length»)
-term-fits s = search needs
-
-stop-at-requires : tie.Need-stop-at-requires Inv-loop μ-loop
-stop-at-requires c κs = let s = c .before .before .before .before .before .before .before .before in readings (s .args .rec) _ (c .before .before .read-active .ensures) (term-fits s)
 
 lay-requires : tie.Need-lay-requires Inv-loop μ-loop
 lay-requires c κs = let h = room (c .before .before .before .before .before .before) in (h .0, h .1 .0)
@@ -166,7 +153,7 @@ loop-again c =
           (
             stays,
             (
-              ap₂ (λ (x : ℤ) (o : List ℕ). batchFrom (most q - (q .loop .laid + 1)) (a .rec) (a .log .now) (record { image = movedTo (imageState (q .loop .image)) x; sessions = sessionsOf (q .loop .assembler); buffer = q .loop .buffer }) o (q .loop .laid + 1)) z out
+              ap₂ (λ (x : ℤ) (o : List ℕ). batchFrom (most q - (q .loop .laid + 1)) (a .rec) (a .log .now) (record { image = movedTo (imageState (q .loop .image)) x; sessions = S q .sessions; buffer = q .loop .buffer }) o (q .loop .laid + 1)) z out
                   ∙ ap (λ (k : ℕ). batchFrom k (a .rec) (a .log .now) (y .next) (laidAt (q .loop .numbers) (q .loop .laid) 1 (X g (some f) + 32) (n g - 32) (long (q .loop .image .position) + align (n g))) (q .loop .laid + 1)) e
                   ∙ goes ∙ q .loop .inv .1 .1 .1 .1 .0,
               g .whole-from .ensures .1 .0,
@@ -176,57 +163,78 @@ loop-again c =
       ),
     )
 
--- ---- by `next`
+-- ---- with the sessions lent
 
-fits-next : (f : tie.After-next-by-turns Inv-loop μ-loop) → SFits w64 (f .next-by-turns .result .next .image .position)
-fits-next f = let k = f .next-by-turns .ok in search (needs, k)
+next-lent-requires : tie.Need-next-lent-requires Inv-loop μ-loop
+next-lent-requires c κs =
+    let q = c .before .before .before .before .before .before .before .before in (
+      omega (arith, q .before .before .before .before .before .before .before .if1 .left, q .loop .inv .0),
+      (q .loop .inv .1 .1 .1 .0, q .before .reach-of .ensures .1),
+    )
+
+module _ (f : tie.After-next-lent Inv-loop μ-loop) where
+  abbrev ids′ : List ℤ
+  ids′ = f .next-lent .last .1 .1 .0
+
+  abbrev held′ : List ℕ
+  held′ = f .next-lent .last .1 .1 .1 .0
+
+  abbrev b : List ℕ
+  b = f .next-lent .last .1 .1 .1 .1 .1 .1 .0
+
+  -- the reply
+  abbrev Y : NextReply
+  Y = lentReplyOf (f .next-lent .result) ids′ held′ b
+
+  fits-next : SFits w64 (f .next-lent .result .image .position)
+  fits-next = let k = f .next-lent .ok in search (needs, k)
 
 last-requires : tie.Need-last-requires Inv-loop μ-loop
-last-requires c κs = let h = room (c .before .before .before .before .before .before .before .before .before .before .before .before .before) in (h .0, h .1 .0)
+last-requires c κs = let h = room (c .before .before .before .before .before .before .before .before .before .before .before .before .before .before .before) in (h .0, h .1 .0)
 
 lay-requires-2 : tie.Need-lay-requires-2 Inv-loop μ-loop
 lay-requires-2 c κs = let h = room (c .before .before .before .before .before .before .before .before .before .before .before .before .before .before .before .before .before) in (h .0, h .1 .0)
 
 returns-3 : tie.Need-returns-3 Inv-loop μ-loop
 returns-3 c =
-    let f = c .before .before .before .before .before .before .before .before .before .before .before in
-    let q = f .before .before .before .before .before .before .before in
+    let f = c .before .before .before .before .before .before .before .before .before .before .before .before in
+    let q = f .before .before .before .before .before .before .before .before .before in
     let a = st q .args in
-    let b = f .next-by-turns .last .1 .1 .1 .0 in
-    let h = room (f .before .before .before .before .before .before) in
-    let x = f .next-by-turns .result in
-    let p2 = long-by (x .next .image .position) (c .before .before .before .before .long2 .ensures .0) (fits-next f) in
-    ap₂ {C = Batch} (λ (r : Replay) (y : Batched). record { answer = y; next = stateOf r b; numbers = c .before .before .before .last .last .0 }) (c .batch-reply3 .ensures .0) (c .batch-reply3 .ensures .1 ∙ c .before .before .before .last .ensures .0)
-    ∙ ap {B = Batch} (λ (o : List ℕ). record { answer = lastBy (q .loop .laid) (x .answer); next = stateOf (x .next) b; numbers = o }) (c .before .before .before .last .ensures .1 ∙ ap (λ (i : ℕ). lastNumbers (q .loop .numbers) (q .loop .laid) i (x .answer)) p2)
-    ∙ batch-ends (a .rec) (a .log .now) (S q) (q .loop .numbers) (q .loop .laid) (most q - q .loop .laid) (omega (arith, h .1 .1)) (nextReplyOf x b) (f .next-by-turns .ensures) (c .before .before .before .before .before .before .before .match .keys2)
+    let h = room (f .before .before .before .before .before .before .before .before) in
+    let x = f .next-lent .result in
+    let p2 = long-by (x .image .position) (c .before .before .before .before .before .long2 .ensures .0) (fits-next f) in
+    ap₂ {C = Batch} (λ (r : Replay) (y : Batched). record { answer = y; next = stateOf r (b f); numbers = c .before .before .before .before .last .last .0 }) (c .batch-reply3 .ensures .0 ∙ c .before .replay-of .ensures) (c .batch-reply3 .ensures .1 ∙ c .before .before .before .before .last .ensures .0)
+    ∙ ap {B = Batch} (λ (o : List ℕ). record { answer = lastBy (q .loop .laid) (x .answer); next = Y f .next; numbers = o }) (c .before .before .before .before .last .ensures .1 ∙ ap (λ (i : ℕ). lastNumbers (q .loop .numbers) (q .loop .laid) i (x .answer)) p2)
+    ∙ batch-ends (a .rec) (a .log .now) (S q) (q .loop .numbers) (q .loop .laid) (most q - q .loop .laid) (omega (arith, h .1 .1)) (Y f) (f .next-lent .ensures) (c .before .before .before .before .before .before .before .before .match .keys2)
     ∙ goal q
 
 loop-again-2 : tie.Need-loop-again-2 Inv-loop μ-loop
 loop-again-2 c =
-    let f = c .before .before .before .before .before .before .before .before .before .before .before .before .before .before .before in
-    let q = f .before .before .before .before .before .before .before in
+    let f = c .before .before .before .before .before .before .before .before .before .before .before .before in
+    let q = f .before .before .before .before .before .before .before .before .before in
     let a = st q .args in
-    let b = f .next-by-turns .last .1 .1 .1 .0 in
-    let h = room (f .before .before .before .before .before .before) in
-    let x = f .next-by-turns .result in
-    let m = c .before .before .before .before .before .before .before .before .before .before .answer .given in
+    let h = room (f .before .before .before .before .before .before .before .before) in
+    let x = f .next-lent .result in
+    let m = c .before .before .before .before .before .before .before .answer .given in
     let left = most q - q .loop .laid in
     let e : most q - (q .loop .laid + 1) ≡ left - 1 = omega arith in
-    let p3 = long-by (x .next .image .position) (c .before .before .before .before .long3 .ensures .0) (fits-next f) in
-    let out = c .before .before .before .lay2 .ensures ∙ ap (λ (i : ℕ). laidAt (q .loop .numbers) (q .loop .laid) 1 (m .0 .0) (m .0 .1 .0) i) p3 in
-    let t = c .open-term2 .ensures ∙ ap (λ (v : Reading). openTerm (imageState (x .next .image)) v (length (a .log .now)) (length b)) (q .before .before .before .before .before .read-active .ensures) in (
-      omega (arith, c .before .before .before .before .before .before .before .before .before .before .before .before .before .before .buffer .given, q .loop .inv .0),
+    let p3 = long-by (x .image .position) (c .before .before .before .long3 .ensures .0) (fits-next f) in
+    let out = c .before .before .lay2 .ensures ∙ ap (λ (i : ℕ). laidAt (q .loop .numbers) (q .loop .laid) 1 (m .0 .0) (m .0 .1 .0) i) p3 in
+    let same : length (b f) ≡ length (q .loop .buffer) = omega (arith, c .before .before .before .before .before .before .before .before .before .before .before .buffer .given) in
+    let stays = q .loop .inv .1 .1 .1 .0 ∙ ap (openTerm (imageState (q .loop .image)) (reading (a .rec)) (length (a .log .now))) (sym same)
+    ∙ sym (open-kept (a .rec) (a .log .now) (S q) (Y f) (reading (a .rec)) (length (a .log .now)) (length (b f)) (f .next-lent .ensures)) in (
+      same ∙ q .loop .inv .0,
       (
-        omega (arith, c .before .before .numbers3 .given, q .loop .inv .1 .0),
+        omega (arith, c .before .numbers3 .given, q .loop .inv .1 .0),
         (
           omega (arith, h .1 .1),
           (
-            t,
+            stays,
             (
-              ap₂ (λ (k : ℕ) (o : List ℕ). batchFrom k (a .rec) (a .log .now) (stateOf (x .next) b) o (q .loop .laid + 1)) e out
-                  ∙ batch-goes (a .rec) (a .log .now) (S q) (q .loop .numbers) (q .loop .laid) left (omega (arith, h .1 .1)) (nextReplyOf x b) (f .next-by-turns .ensures) (m .0 .0) (m .0 .1 .0) (m .1)
+              ap₂ (λ (k : ℕ) (o : List ℕ). batchFrom k (a .rec) (a .log .now) (Y f .next) o (q .loop .laid + 1)) e out
+                  ∙ batch-goes (a .rec) (a .log .now) (S q) (q .loop .numbers) (q .loop .laid) left (omega (arith, h .1 .1)) (Y f) (f .next-lent .ensures) (m .0 .0) (m .0 .1 .0) (m .1)
                   ∙ q .loop .inv .1 .1 .1 .1 .0,
-              omega arith,
+              c .before .before .before .before .before .before .before .before .before .before .before .before .before .before .before .before .before .whole-from .ensures .1 .0,
             ),
           ),
         ),
@@ -235,10 +243,10 @@ loop-again-2 c =
 
 returns-4 : tie.Need-returns-4 Inv-loop μ-loop
 returns-4 c =
-    let q = c .before .before in
+    let q = c .before .before .before in
     let a = st q .args in
-    ap₂ {C = Batch} (λ (r : Replay) (y : Batched). record { answer = y; next = stateOf r (q .loop .buffer); numbers = q .loop .numbers }) (c .batch-reply4 .ensures .0) (c .batch-reply4 .ensures .1)
-    ∙ batch-none (a .rec) (a .log .now) (S q) (q .loop .numbers) (q .loop .laid) (most q - q .loop .laid) (omega (arith, c .before .loop-test)) ∙ goal q
+    ap₂ {C = Batch} (λ (r : Replay) (y : Batched). record { answer = y; next = stateOf r (q .loop .buffer); numbers = q .loop .numbers }) (c .batch-reply4 .ensures .0 ∙ c .before .replay-of2 .ensures) (c .batch-reply4 .ensures .1)
+    ∙ batch-none (a .rec) (a .log .now) (S q) (q .loop .numbers) (q .loop .laid) (most q - q .loop .laid) (omega (arith, c .before .before .loop-test)) ∙ goal q
 
 pub next-batch-spec : {M : Type 1} → statement M
 next-batch-spec =
@@ -250,8 +258,6 @@ next-batch-spec =
     returns
     (search needs)
     returns-2
-    (search needs)
-    stop-at-requires
     (search needs)
     loop-holds
     (search needs)
@@ -266,21 +272,22 @@ next-batch-spec =
     (search needs)
     (search needs)
     loop-again
-    (search needs)
+    next-lent-requires
     (search needs)
     (search needs)
     last-requires
     (search needs)
-    (λ c. omega (arith, c .before .before .before .before .before .before .before .before .before .before .buffer .given, c .before .before .before .before .before .before .before .before .before .before .before .before .before .before .before .before .before .before .loop .inv .0))
-    (λ c. omega (arith, c .before .before .numbers2 .given, c .before .before .before .before .before .before .before .before .before .before .before .before .before .before .before .before .before .before .loop .inv .1 .0))
+    (search needs)
+    (λ c. omega (arith, c .before .before .before .before .before .before .before .before .before .before .before .buffer .given, c .before .before .before .before .before .before .before .before .before .before .before .before .before .before .before .before .before .before .before .before .before .loop .inv .0))
+    (λ c. omega (arith, c .before .before .before .numbers2 .given, c .before .before .before .before .before .before .before .before .before .before .before .before .before .before .before .before .before .before .before .before .before .loop .inv .1 .0))
     returns-3
     (search needs)
     lay-requires-2
-    (search needs)
-    (λ c. omega (arith, room (c .before .before .before .before .before .before .before .before .before .before .before .before .before .before .before .before .before .before .before .before .before)))
-    (λ c. omega (arith, room (c .before .before .before .before .before .before .before .before .before .before .before .before .before .before .before .before .before .before .before .before .before)))
+    (λ c. omega (arith, room (c .before .before .before .before .before .before .before .before .before .before .before .before .before .before .before .before .before .before .before .before)))
+    (λ c. omega (arith, room (c .before .before .before .before .before .before .before .before .before .before .before .before .before .before .before .before .before .before .before .before)))
     loop-again-2
     (search needs)
-    (λ c. c .before .before .loop .inv .0)
-    (λ c. c .before .before .loop .inv .1 .0)
+    (search needs)
+    (λ c. c .before .before .before .loop .inv .0)
+    (λ c. c .before .before .before .loop .inv .1 .0)
     returns-4)
