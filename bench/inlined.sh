@@ -7,7 +7,7 @@ set -eu
 archive=${1:-$(cd "$(dirname "$0")" && pwd)/../target/liblogbuffer.a}
 names=$(nm "$archive" | sed -n 's/^[0-9a-f]* [tT] //p')
 case "$names" in *logbuffer_offer*) ;; *) echo "inlined.sh: no functions in $archive"; exit 1 ;; esac
-for name in publication::fit::offer_fit publication::fit::claim_fit publication::fit::is_open publication::fit::is_unpressed publication::judge::begin_position \
+for name in publication::fit::offer_fit publication::fit::claim_fit publication::fit::is_open publication::fit::in_terms publication::fit::in_step publication::fit::is_unpressed publication::judge::begin_position \
     publication::fit::offer_fragmented_fit logbuffer::term_appender::append_fragmented_fit logbuffer::term_appender::append_fit \
     logbuffer::term_appender::claim_fit logbuffer::term_appender::fits logbuffer::header::write_fragment logbuffer::header::write_claim \
     logbuffer::buffer_claim::commit_fit logbuffer::buffer_claim::read_all logbuffer::log_buffer_descriptor::is_sound logbuffer::log_buffer_descriptor::read_with \

@@ -222,8 +222,9 @@ pub extern "C" fn logbuffer_offer(
     }
 }
 
-// A claim by the whole record, in the same way.
-fn claim_by_all(rec: &mut [i64; 14], log: &mut [u8], length: i32) -> ClaimReply
+// A claim by the whole record, in the same way. The length stands before the log, so that the log's own length is handed on in another register than the
+// one that shifts a position.
+fn claim_by_all(rec: &mut [i64; 14], length: i32, log: &mut [u8]) -> ClaimReply
     ensures { λ r. ⌜ r ≡ claimReply (claimOf (recordIn (now (rec .entry))) (now (log .entry)) length .answer) (claimOf (recordIn (now (rec .entry))) (now (log .entry)) length .rule) ⌝ }
     ensures { λ _. ⌜ now (rec .exit) ≡ recordOut (now (rec .entry)) (claimOf (recordIn (now (rec .entry))) (now (log .entry)) length .next) ⌝ }
     ensures { λ _. ⌜ now (log .exit) ≡ claimBytes (recordIn (now (rec .entry))) (now (log .entry)) length ⌝ }
@@ -237,8 +238,8 @@ fn claim_by_all(rec: &mut [i64; 14], log: &mut [u8], length: i32) -> ClaimReply
 }
 
 // A claim that fits moves one tail and no other word. What `claim_by_all` answers is a value of its own first, so that the reply of a claim that fits is
-// stored once, where the caller wants it; and it is called from two places, so that it stays a call of its own. What the first of them asks, the
-// shorter path asks again, and the compiler leaves it out there.
+// stored once, where the caller wants it; and it is called from two places, so that it stays a call of its own. What the first of them asks, whether the
+// publication is closed, the shorter path asks again, and the compiler leaves it out there.
 #[no_mangle]
 pub extern "C" fn logbuffer_try_claim(
     rec: &mut [i64; 14],
@@ -250,14 +251,14 @@ pub extern "C" fn logbuffer_try_claim(
     ensures { λ _. ⌜ now (log .exit) ≡ claimBytes (recordIn (now (rec .entry))) (now (log .entry)) length ⌝ }
 {
     let v = words::reading_in(rec);
-    if !log_buffer_descriptor::is_sound(v, log.len()) {
-        let all = claim_by_all(rec, log, length);
+    if v.closed {
+        let all = claim_by_all(rec, length, log);
         return all;
     }
     let fitted = fit::claim_fit(v, log, cast::word(length));
     let position = fitted.position;
     if position == 0 {
-        let all = claim_by_all(rec, log, length);
+        let all = claim_by_all(rec, length, log);
         return all;
     }
     words::tail_out(rec, v.count % 3, fitted.tail);

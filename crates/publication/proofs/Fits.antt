@@ -5,6 +5,7 @@ use mathlib.Core.List.{List, [], _∷_}
 use Prim.Native.Nat.{ℕ, _+_, _*_, _/_, _%_, _≤_, _<_}
 use native.Mathlib.Omega.{arith}
 use borrow.Author.Tests.{not-true, leb-true, ltb-true, eqb-true, le-leb, lt-leb, lt-ltb, le-ltb, eq-eqb, ne-eqb}
+use lib.Count.{ones}
 use lib.Dec.{eqb, leb, ltb}
 use lib.IntN.{ℤ, pos}
 use lib.ListN.{length}
@@ -29,13 +30,13 @@ use Rattle.model.specs.TermAppender.{need, cut, fragment, written, claimed, cou
 use Rattle.model.specs.Publication.{place, tooLong, needOf, afterClosed, beforeAppend, claimVerdict, offerOf, offerBytes, claimOf, claimBytes}
 use Rattle.model.proofs.Both.{and-true, test}
 use Rattle.model.proofs.Choice.{cond-true, cond-false}
-use Rattle.model.proofs.Sound.{sound-true}
+use Rattle.model.proofs.Sound.{sound-true, sound-by, Bounds}
 use Rattle.model.proofs.Cut.{need-one, cut-one}
 use Rattle.model.proofs.OfferLaws.{closed-last, rung-10, after, offer-is}
 use Rattle.logbuffer.proofs.Ways.{fits-true, frames-true}
 use Rattle.publication.specs.declared.fit.Fitted.{Fitted}
 use Rattle.publication.specs.declared.fit.FittedClaim.{FittedClaim}
-use Rattle.publication.specs.Fits.{inStep, unpressed, isOpen, isFit, isLong, isLongFit, noneFitted, fittedAt, afterEnd, claimAt}
+use Rattle.publication.specs.Fits.{inStep, unpressed, inTerms, isOpen, isFit, isLong, isLongFit, noneFitted, fittedAt, afterEnd, claimAt}
 use Rattle.publication.proofs.OfferBy.{active-by}
 use Rattle.publication.proofs.ClaimLaws as claims
 
@@ -44,6 +45,7 @@ use Rattle.publication.proofs.ClaimLaws as claims
 pub record Unpressed (v : Reading) (n : ℕ) : Type 0 where
   pub is-so : sound v n ≡ true
   pub so : Sound v n
+  pub in-step : inStep v ≡ true
   pub id-in : v .id < 4294967296
   pub step : idMinus (v .id) (v .initial) ≡ v .count
   pub below : place v < v .limit
@@ -55,7 +57,7 @@ unpressed-true v n h =
     let d = and-true (inStep v) _ (a .1) in
     let i = and-true (ltb (v .id) 4294967296) _ (d .0) in
     let j = and-true (ltb (v .initial) 4294967296) _ (i .1) in
-    record { is-so = a .0; so = sound-true v n (a .0); id-in = ltb-true _ _ (i .0); step = eqb-true _ _ (j .1); below = ltb-true _ _ (d .1) }
+    record { is-so = a .0; so = sound-true v n (a .0); in-step = d .0; id-in = ltb-true _ _ (i .0); step = eqb-true _ _ (j .1); below = ltb-true _ _ (d .1) }
 
 pub open-true : (v : Reading) (n m : ℕ) → isOpen v n m ≡ true → Unpressed v n × ((v .closed ≡ false) × (m ≤ payloadLimit v))
 unfolding isOpen
@@ -63,6 +65,69 @@ open-true v n m h =
     let a = and-true (unpressed v n) _ h in
     let b = and-true (leb m (payloadLimit v)) _ (a .1) in
     (unpressed-true v n (a .0), (not-true _ (b .1), leb-true _ _ (b .0)))
+
+-- a test that fails contradicts one of these
+pub not-opened : (v : Reading) (n m : ℕ) → (Unpressed v n → m ≤ payloadLimit v → ⊥) → false ≡ isOpen v n m
+not-opened v n m never = go (isOpen v n m) refl
+  where
+    go : (b : Bool) → isOpen v n m ≡ b → false ≡ b
+    go false e = refl
+    go true e = let o = open-true v n m e in absurd (never (o .0) (o .1 .1))
+
+-- The part of them that a term's beginning rests on; where it does not hold, nothing is open.
+pub record Terms (v : Reading) : Type 0 where
+  pub bounded : Bounds v
+  pub term-low : 65536 ≤ v .term
+  pub one-bit : ones (v .term) ≡ 1
+  pub in-step : inStep v ≡ true
+
+pub terms-true : (v : Reading) → inTerms v ≡ true → Terms v
+unfolding inTerms
+terms-true v h =
+    let a = and-true (leb (v .count) 2147483647) _ h in
+    let b = and-true (leb (v .offset) 2147483647) _ (a .1) in
+    let d = and-true (inStep v) _ (b .1) in
+    let i = and-true (leb 65536 (v .term)) _ (d .1) in
+    let j = and-true (leb (v .term) 1073741824) _ (i .1) in
+    record {
+      bounded = record { term-most = leb-true _ _ (j .0); count-most = leb-true _ _ (a .0); offset-most = leb-true _ _ (b .0) };
+      term-low = leb-true _ _ (i .0);
+      one-bit = eqb-true _ _ (j .1);
+      in-step = d .0;
+    }
+
+pub not-terms : (v : Reading) → (Terms v → ⊥) → false ≡ inTerms v
+not-terms v never = go (inTerms v) refl
+  where
+    go : (b : Bool) → inTerms v ≡ b → false ≡ b
+    go false e = refl
+    go true e = absurd (never (terms-true v e))
+
+pub terms-of : (v : Reading) (n : ℕ) → Unpressed v n → inTerms v ≡ true
+unfolding inTerms
+terms-of v n u =
+    let s = u .so in
+    simp (le-leb _ _ (s .count-high), le-leb _ _ (s .offset-high), u .in-step, le-leb _ _ (s .term-low), le-leb _ _ (s .term-high), eq-eqb _ _ (s .one-bit))
+
+pub not-stepped : (v : Reading) → inStep v ≡ false → false ≡ inTerms v
+not-stepped v h = not-terms v (λ t. let z : _≡_ {A = ℕ} 0 1 = ap (λ (b : Bool). cond b 0 1) (sym (t .in-step) ∙ h) in omega arith)
+
+pub not-in-terms : (v : Reading) (n m : ℕ) → inTerms v ≡ false → false ≡ isOpen v n m
+not-in-terms v n m h = not-opened v n m (λ u s. let z : _≡_ {A = ℕ} 0 1 = ap (λ (b : Bool). cond b 0 1) (sym (terms-of v n u) ∙ h) in omega arith)
+
+-- where all but the one bit holds
+pub terms-by : (v : Reading) → v .count ≤ 2147483647 → v .offset ≤ 2147483647 → inStep v ≡ true → 65536 ≤ v .term → v .term ≤ 1073741824 → eqb (ones (v .term)) 1 ≡ inTerms v
+unfolding inTerms
+terms-by v h1 h2 h3 h4 h5 = simp (le-leb _ _ h1, le-leb _ _ h2, h3, le-leb _ _ h4, le-leb _ _ h5)
+
+-- with these, and the rest of row 2, a position below the limit and a length of one frame, whether it is closed is the answer
+pub opened-by : (v : Reading) (n m : ℕ) → Terms v → v .slowest ≤ v .term * 2147483648 → n ≡ 3 * v .term → v .offset % 32 ≡ 0 → v .mtu % 32 ≡ 0 → v .slowest % 32 ≡ 0 → 64 ≤ v .mtu → v .mtu ≤ 65504
+    → place v < v .limit → m ≤ payloadLimit v → v .limit ≤ 4611686018427387904 → not (v .closed) ≡ isOpen v n m
+unfolding isOpen unpressed
+opened-by v n m t slow three o32 m32 s32 low high below short most =
+    let b = t .bounded in
+    let so : sound v n ≡ true = sym (sound-by v n (t .term-low) (b .term-most) (t .one-bit) low high m32 (b .count-most) most slow s32 o32 (b .offset-most)) ∙ eq-eqb _ _ three in
+    simp (so, t .in-step, lt-ltb _ _ below, le-leb _ _ short)
 
 pub long-true : (v : Reading) (n m : ℕ) → isLong v n m ≡ true → Unpressed v n × ((v .closed ≡ false) × ((payloadLimit v < m) × (tooLong v m ≡ false)))
 unfolding isLong

@@ -8,7 +8,7 @@ use lib.IntN.{pos}
 use lib.ListN.{length}
 use Rattle.model.specs.declared.Reading.{Reading}
 use Rattle.model.specs.FrameDescriptor.{space}
-use Rattle.model.specs.LogBufferDescriptor.{idMinus, rawOf, payloadLimit, sound}
+use Rattle.model.specs.LogBufferDescriptor.{isPowerOfTwo, idMinus, rawOf, payloadLimit, sound}
 use Rattle.model.specs.TermAppender.{cut, fragment, written, claimed, claimRecord}
 use Rattle.model.specs.Publication.{place, tooLong, needOf}
 use Rattle.logbuffer.specs.Ways.{frameFits, framesFit}
@@ -18,6 +18,12 @@ use Rattle.publication.specs.declared.fit.FittedClaim.{FittedClaim}
 -- the tail's term id is the count's, and both ids are of 32 bits
 unfoldable pub inStep : Reading → Bool
 inStep v = ltb (v .id) 4294967296 && (ltb (v .initial) 4294967296 && eqb (idMinus (v .id) (v .initial)) (v .count))
+
+-- the part of row 2 by which a term's beginning is known, and in step
+unfoldable pub inTerms : Reading → Bool
+inTerms v =
+    leb (v .count) 2147483647 && (leb (v .offset) 2147483647 && (inStep v
+    && (leb 65536 (v .term) && (leb (v .term) 1073741824 && isPowerOfTwo (v .term)))))
 
 -- a record that is sound for a log of n bytes, in step, and below its limit
 unfoldable pub unpressed : Reading → ℕ → Bool

@@ -6,11 +6,15 @@ ghost use lib.Count.{ones};
 ghost use lib.ListN.{length as lengthOf};
 ghost use Rattle.model.specs.Bytes.{long};
 ghost use Rattle.model.proofs.Sound.{Bounds};
-ghost use Rattle.publication.specs.Fits.{inStep, unpressed, isOpen, isLong, afterEnd, fitted, fittedLong, noClaim, fittedClaim, offerFitBytes, fragmentedFitBytes, claimFitBytes};
+ghost use Rattle.publication.specs.Fits.{inStep, unpressed, inTerms, isOpen, isLong, afterEnd, fitted, fittedLong, noClaim, fittedClaim, offerFitBytes, fragmentedFitBytes, claimFitBytes};
 use crate::judge;
 use logbuffer::cast;
 use logbuffer::data_frame_header::HEADER_LENGTH;
+use logbuffer::frame_descriptor::FRAME_ALIGNMENT;
 use logbuffer::log_buffer_descriptor;
+use logbuffer::log_buffer_descriptor::PARTITION_COUNT;
+use logbuffer::log_buffer_descriptor::TERM_MAX_LENGTH;
+use logbuffer::log_buffer_descriptor::TERM_MIN_LENGTH;
 use logbuffer::term_appender;
 use model::Claim;
 use model::Reading;
@@ -46,15 +50,57 @@ fn is_unpressed(v: Reading, n: usize) -> bool
     true
 }
 
-// Whether a message or a claim of m bytes is one frame that nothing refuses, in a log of n bytes. Whether the publication is closed is asked last, which
-// makes the shortest code.
+// Whether the record counts its terms soundly, in step with its tail: the part of row 2 by which a term's beginning is known.
+fn in_terms(v: Reading) -> bool
+    ensures { λ r. ⌜ r ≡ inTerms v ⌝ }
+{
+    if (v.count | v.offset) > 2147483647 {
+        return false;
+    }
+    if !in_step(v) {
+        return false;
+    }
+    if v.term < TERM_MIN_LENGTH {
+        return false;
+    }
+    if v.term > TERM_MAX_LENGTH {
+        return false;
+    }
+    usize::count_ones(v.term) == 1
+}
+
+// Whether a message or a claim of m bytes is one frame that nothing refuses, in a log of n bytes. It asks by itself what `is_unpressed` asks, in an order
+// that the compiler makes the shortest code of: the tail, for which this call waits longest, is asked for first, and the limit where the position is known,
+// so that it is kept nowhere in between.
 fn is_open(v: Reading, n: usize, m: usize) -> bool
     ensures { λ r. ⌜ r ≡ isOpen v n m ⌝ }
 {
-    if !is_unpressed(v, n) {
+    if !in_terms(v) {
+        return false;
+    }
+    let position = judge::begin_position(v) + v.offset;
+    if v.slowest > v.term * 2147483648 {
+        return false;
+    }
+    if n != PARTITION_COUNT * v.term {
+        return false;
+    }
+    if (v.offset | (v.mtu | v.slowest)) % FRAME_ALIGNMENT != 0 {
+        return false;
+    }
+    if v.mtu < 64 {
+        return false;
+    }
+    if v.mtu > 65504 {
+        return false;
+    }
+    if v.limit <= position {
         return false;
     }
     if m > v.mtu - HEADER_LENGTH {
+        return false;
+    }
+    if v.limit > 4611686018427387904 {
         return false;
     }
     !v.closed

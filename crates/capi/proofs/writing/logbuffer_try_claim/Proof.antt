@@ -22,7 +22,7 @@ use Rattle.capi.proofs.writing.logbuffer_try_claim.Tie as tie
 
 returns : tie.Need-returns
 returns c =
-    let s = c .before .before .before .before .before .before .before .before .before .before in
+    let s = c .before .before .before .before .before .before .before .before .before in
     let a = s .args in
     let f = c .before .before .claim-by-all .ensures in
     let z = toZ-ofZ (s .fits .length) in (
@@ -32,7 +32,7 @@ returns c =
 
 module _ (c : tie.After-claim-fit) where
   abbrev s : tie.Start
-  s = c .before .before .before .before .before .before .before .before
+  s = c .before .before .before .before .before .before .before
 
   position-fits : SFits w64 (c .claim-fit .result .position)
   position-fits = search needs
@@ -49,7 +49,7 @@ returns-2 c =
     let a = s d .args in
     let r = recordIn (a .rec .now) in
     let zero = sym (toZ-ofZ (position-fits d)) ∙ ap (toZ w64) (c .before .before .before .before .before .if2 .taken) in
-    let same = claim-none r (a .log .now) (a .length) _ (d .before .before .before .before .before .reading-in .ensures) _ (n-is d) _ _ (d .claim-fit .ensures .0) (d .claim-fit .ensures .1) zero in
+    let same = claim-none r (a .log .now) (a .length) _ (d .before .before .before .before .reading-in .ensures) _ (n-is d) _ _ (d .claim-fit .ensures .0) (d .claim-fit .ensures .1) zero in
     let f = c .before .before .claim-by-all2 .ensures in
     let z = toZ-ofZ (s d .fits .length) in (
       of-2 (λ (l : List ℕ) (y : ℤ). claimReply (claimOf r l y .answer) (claimOf r l y .rule)) (f .0) same z,
@@ -61,15 +61,14 @@ returns-3 c =
     let d = c .before .before .before .before .before .before .before .before .before .before in
     let a = s d .args in
     let r = recordIn (a .rec .now) in
-    let some = claim-some r (a .log .now) (a .length) _ (d .before .before .before .before .before .reading-in .ensures) _ (n-is d) _ _ (d .claim-fit .ensures .0) (d .claim-fit .ensures .1) (λ e. c .before .before .before .before .before .before .if2 .left (ap (ofZ w64) e))
-    (d .before .before .before .before .before .reading-in .result .count % 3) _ _ _ refl (toZ-ofZ (tail-fits d)) (toZ-ofZ (position-fits d)) (c .claim-words .ensures) in
+    let some = claim-some r (a .log .now) (a .length) _ (d .before .before .before .before .reading-in .ensures) _ (n-is d) _ _ (d .claim-fit .ensures .0) (d .claim-fit .ensures .1) (λ e. c .before .before .before .before .before .before .if2 .left (ap (ofZ w64) e))
+    (d .before .before .before .before .reading-in .result .count % 3) _ _ _ refl (toZ-ofZ (tail-fits d)) (toZ-ofZ (position-fits d)) (c .claim-words .ensures) in
     (some .0, (c .before .before .tail-out .ensures ∙ ap (recordOut (a .rec .now)) (some .1 .0), some .1 .1))
 
 pub logbuffer-try-claim-spec : {M : Type 1} → statement M
 logbuffer-try-claim-spec =
     tie.close
     (tie.spec
-    (search needs)
     (search needs)
     (search needs)
     (search needs)
