@@ -99,7 +99,7 @@ fn claims(count: usize) {
                 }
             }
         },
-        || (0..count).for_each(|_| _ = black_box(ours.claim_and_commit(64))),
+        || (0..count).for_each(|_| _ = ours.claim_and_commit(64)),
     );
 }
 
