@@ -4,7 +4,7 @@ use aeron_rs::concurrent::atomic_buffer::AtomicBuffer;
 use aeron_rs::concurrent::logbuffer::header::Header;
 use aeron_rs::utils::types::Index;
 
-use crate::{filled, offers, original, port, replayed, row, MTU};
+use crate::{filled, offers, original, over_terms, port, replayed, row, MTU};
 
 /// A log of such a length, whole messages of 1,024 bytes in it.
 fn replays_of(megabytes: usize) {
@@ -53,13 +53,12 @@ fn put_frame(log: &mut [u8], at: usize, flags: u8, session: i32) {
 /// Messages of four fragments each, those of so many sessions interleaved.
 fn assembles(sessions: usize) {
     let (term, count) = (64 << 20, 8_000);
-    let (log, mut ours) = (original(term, MTU), port::Log::open(term, MTU));
+    let log = original(term, MTU);
+    let mut ours = over_terms(&log, term, MTU);
     for k in 0..4 * count {
         let (round, part) = (k / (4 * sessions), k / sessions % 4);
         let at = 1_408 * (round * 4 * sessions + part * sessions + k % sessions);
-        for bytes in [log.terms_mut(), &mut ours.bytes[..]] {
-            put_frame(bytes, at, [0x80, 0, 0, 0x40][part], 100 + (k % sessions) as i32);
-        }
+        put_frame(log.terms_mut(), at, [0x80, 0, 0, 0x40][part], 100 + (k % sessions) as i32);
     }
     ours.set_tail(1_408 * 4 * count);
     let mut buffer = vec![0; 16 * 8_192];

@@ -51,7 +51,7 @@ fn measured(run: &mut dyn FnMut()) {
     run();
 }
 
-/// Times both sides in turns and prints the row, in nanoseconds for each of `units`.
+/// Times both sides in turns, each of them first in every other round, and prints the row, in nanoseconds for each of `units`.
 fn row<A, B>(name: &str, units: usize, mut rust: impl FnMut() -> A, mut port: impl FnMut() -> B) {
     if std::env::args().any(|word| word == "--instructions") {
         measured(&mut || _ = black_box(rust()));
@@ -60,38 +60,72 @@ fn row<A, B>(name: &str, units: usize, mut rust: impl FnMut() -> A, mut port: im
         return;
     }
     let (mut theirs, mut ours) = (Vec::new(), Vec::new());
-    for _ in 0..ROUNDS {
-        theirs.push(timed(&mut rust));
+    for round in 0..ROUNDS {
+        if round % 2 == 0 {
+            theirs.push(timed(&mut rust));
+        }
         ours.push(timed(&mut port));
+        if round % 2 == 1 {
+            theirs.push(timed(&mut rust));
+        }
     }
     let (a, b) = (median(&mut theirs) / units as f64, median(&mut ours) / units as f64);
     println!("| {name} | {a:.1} | {b:.1} | {:.2} |", b / a);
 }
 
+/// A log of the port's over the Rust's own memory.
+fn over_terms(log: &Original, term: i32, mtu: i32) -> port::Log {
+    port::Log::open(port::Memory::over(log.terms_mut()), term, mtu)
+}
+
+/// Which of two memories a side writes into: the other one in the next round, so that where a memory happens to lie speaks for neither side.
+fn swapped(next: &mut usize) -> usize {
+    *next = 1 - *next;
+    *next
+}
+
+/// Where in a page a message begins: at another multiple of 64 in each round, for the same reason. A processor may take a load for one of bytes that were
+/// stored at the same place of another page.
+fn moved(from: &mut usize) -> usize {
+    *from = (*from + 5 * 64) % 4_096;
+    *from
+}
+
 /// Offers go through the three terms again and again; nothing is cleared in between, on either side (`Log::mark`).
 fn offers(name: &str, length: usize, term: i32, mtu: i32, count: usize) {
-    let (mut message, mut copy) = (port::Memory::zeroed(length), port::Memory::zeroed(length));
+    let (mut message, mut copy) = (port::Memory::zeroed(length + 4_096), port::Memory::zeroed(length + 4_096));
     message.fill(5);
     copy.fill(5);
-    let log = original(term, mtu);
-    let publication = log.publication();
-    let mut ours = port::Log::open(term, mtu);
+    let logs = [original(term, mtu), original(term, mtu)];
+    let publications = [logs[0].publication(), logs[1].publication()];
+    let mut ours = [over_terms(&logs[0], term, mtu), over_terms(&logs[1], term, mtu)];
+    let (mut theirs, mut mine, mut from, mut copied_from) = (1, 0, 0, 0);
     row(
         &format!("offer of {length}, {name}"),
         count,
-        || (0..count).for_each(|_| _ = black_box(publication.offer_opt(over(&mut message), 0, length as Index, reserved))),
-        || (0..count).for_each(|_| _ = black_box(ours.offer(&copy))),
+        || {
+            let publication = &publications[swapped(&mut theirs)];
+            let message = &mut message[moved(&mut from)..][..length];
+            (0..count).for_each(|_| _ = black_box(publication.offer_opt(over(message), 0, length as Index, reserved)))
+        },
+        || {
+            let log = &mut ours[swapped(&mut mine)];
+            let message = &copy[moved(&mut copied_from)..][..length];
+            (0..count).for_each(|_| _ = black_box(log.offer(message)))
+        },
     );
 }
 
 fn claims(count: usize) {
-    let log = original(TERM, MTU);
-    let mut publication = log.publication();
-    let mut ours = port::Log::open(TERM, MTU);
+    let logs = [original(TERM, MTU), original(TERM, MTU)];
+    let mut publications = [logs[0].publication(), logs[1].publication()];
+    let mut ours = [over_terms(&logs[0], TERM, MTU), over_terms(&logs[1], TERM, MTU)];
+    let (mut theirs, mut mine) = (1, 0);
     row(
         "claim of 64 and commit",
         count,
         || {
+            let publication = &mut publications[swapped(&mut theirs)];
             for _ in 0..count {
                 let mut claim = BufferClaim::default();
                 if publication.try_claim(64, &mut claim).is_ok() {
@@ -99,14 +133,17 @@ fn claims(count: usize) {
                 }
             }
         },
-        || (0..count).for_each(|_| _ = ours.claim_and_commit(64)),
+        || {
+            let log = &mut ours[swapped(&mut mine)];
+            (0..count).for_each(|_| _ = log.claim_and_commit(64))
+        },
     );
 }
 
-/// Both logs after the same offers into cleared memory; their bytes are equal.
+/// Both logs after the same offers into cleared memory; their bytes are equal, and both sides then read the Rust's.
 fn filled(term: i32, length: usize, count: usize) -> (Original, port::Log) {
     let mut message = vec![5u8; length];
-    let (log, mut ours) = (original(term, MTU), port::Log::open(term, MTU));
+    let (log, mut ours) = (original(term, MTU), port::Log::open(port::Memory::zeroed(3 * term as usize), term, MTU));
     let publication = log.publication();
     for _ in 0..count {
         let _ = publication.offer_opt(over(&mut message), 0, length as Index, reserved);
@@ -114,6 +151,7 @@ fn filled(term: i32, length: usize, count: usize) -> (Original, port::Log) {
     }
     drop(publication);
     assert!(*log.terms() == *ours.bytes);
+    ours.bytes = port::Memory::over(log.terms_mut());
     (log, ours)
 }
 
@@ -183,13 +221,15 @@ fn scans(count: usize) {
 
 /// The Rust has no opening; its side is `fill(0)`, a call of memset, over as much memory.
 fn opening() {
-    let mut memory = port::Memory::zeroed(3 * TERM as usize);
-    memory.fill(1);
-    let mut ours = port::Log::open(TERM, MTU);
+    let mut memories = [port::Memory::zeroed(3 * TERM as usize), port::Memory::zeroed(3 * TERM as usize)];
+    memories.iter_mut().for_each(|memory| memory.fill(1));
+    let [first, second] = &mut memories;
+    let mut ours = [port::Log::open(port::Memory::over(first), TERM, MTU), port::Log::open(port::Memory::over(second), TERM, MTU)];
+    let (mut theirs, mut mine) = (1, 0);
     let fill = || {
-        black_box(&mut *memory).fill(0);
+        black_box(&mut *memories[swapped(&mut theirs)]).fill(0);
     };
-    row("opening, beside memset, a KiB", 3 * TERM as usize / 1024, fill, || ours.reopen(TERM, MTU));
+    row("opening, beside memset, a KiB", 3 * TERM as usize / 1024, fill, || ours[swapped(&mut mine)].reopen(TERM, MTU));
 }
 
 fn main() {

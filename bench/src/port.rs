@@ -172,6 +172,11 @@ impl Memory {
         let start = held[skipped..skipped + length].as_mut_ptr();
         Memory { _held: held, start, length }
     }
+
+    /// Memory that somebody else holds, for as long as it is used.
+    pub fn over(bytes: &mut [u8]) -> Self {
+        Memory { _held: Vec::new(), start: bytes.as_mut_ptr(), length: bytes.len() }
+    }
 }
 
 impl Deref for Memory {
@@ -195,8 +200,7 @@ pub struct Log {
 }
 
 impl Log {
-    pub fn open(term: i32, mtu: i32) -> Self {
-        let mut bytes = Memory::zeroed(3 * term as usize);
+    pub fn open(mut bytes: Memory, term: i32, mtu: i32) -> Self {
         let mut record = Record::default();
         assert_eq!(unsafe { logbuffer_open(&mut record, bytes.as_mut_ptr(), bytes.len(), term, mtu, 7, 11, 22) }, 0);
         assert_eq!(unsafe { logbuffer_set_publication_limit(&mut record, 1 << 62) }, 0);
