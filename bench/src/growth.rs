@@ -68,10 +68,24 @@ fn assembles(sessions: usize) {
     row(&name, count, || replayed(&log, 256, 8_192), || ours.count_all(&mut buffer));
 }
 
+/// Messages in fragments of a log that the cache holds, many times over.
+fn replays_in_cache(length: usize) {
+    let count = 700_000 / length;
+    let (log, ours) = filled(1 << 20, length, count);
+    let mut buffer = vec![0; 32 * length];
+    let read = || (0..40).map(|_| replayed(&log, 256, 2 * length as isize).0).sum::<usize>();
+    let mut count_all = || (0..40).map(|_| ours.count_all(&mut buffer).0).sum::<usize>();
+    assert_eq!(read(), count_all());
+    row(&format!("replay of {length} in cache, counted, a message"), 40 * count, read, count_all);
+}
+
 pub fn rows() {
     for (name, term) in [("64 KiB", 64 << 10), ("16 MiB", 16 << 20), ("1 GiB", 1 << 30)] {
         offers(&format!("terms of {name}"), 64, term, MTU, 50_000);
     }
+    offers("terms of 256 KiB", 1_024, 256 << 10, MTU, 20_000);
+    offers("terms of 256 KiB", 8_192, 256 << 10, MTU, 4_000);
+    replays_in_cache(8_192);
     [1, 10, 100].into_iter().for_each(replays_of);
     [1, 16].into_iter().for_each(polls_of);
     [1, 16].into_iter().for_each(assembles);
