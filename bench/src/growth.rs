@@ -38,10 +38,10 @@ fn polls_of(sessions: usize) {
     row(&name, sessions * count, read, || port::poll_in_turns(&ours, &mut entries, 10));
 }
 
-/// A frame of a body of 1,376 bytes at a place of a log.
-fn put_frame(log: &mut [u8], at: usize, flags: u8, session: i32) {
-    let frame = &mut log[at..at + 1_408];
-    frame[..4].copy_from_slice(&1_408u32.to_le_bytes());
+/// A frame with a body of so many bytes at a place of a log.
+fn put_frame(log: &mut [u8], at: usize, body: usize, flags: u8, session: i32) {
+    let frame = &mut log[at..at + 32 + body];
+    frame[..4].copy_from_slice(&(32 + body as u32).to_le_bytes());
     frame[4..8].copy_from_slice(&[0, flags, 1, 0]);
     frame[8..12].copy_from_slice(&(at as u32).to_le_bytes());
     frame[12..16].copy_from_slice(&session.to_le_bytes());
@@ -50,21 +50,22 @@ fn put_frame(log: &mut [u8], at: usize, flags: u8, session: i32) {
     frame[32..].fill(5);
 }
 
-/// Messages of four fragments each, those of so many sessions interleaved.
+/// Messages of four fragments each, those of so many sessions interleaved. The last fragment is shorter, so that messages begin at every place of a page.
 fn assembles(sessions: usize) {
-    let (term, count) = (64 << 20, 8_000);
+    let (term, count, mut at) = (64 << 20, 8_000, 0);
     let log = original(term, MTU);
     let mut ours = over_terms(&log, term, MTU);
     for k in 0..4 * count {
-        let (round, part) = (k / (4 * sessions), k / sessions % 4);
-        let at = 1_408 * (round * 4 * sessions + part * sessions + k % sessions);
-        put_frame(log.terms_mut(), at, [0x80, 0, 0, 0x40][part], 100 + (k % sessions) as i32);
+        let part = k / sessions % 4;
+        let body = [1_376, 1_376, 1_376, 1_344][part];
+        put_frame(log.terms_mut(), at, body, [0x80, 0, 0, 0x40][part], 100 + (k % sessions) as i32);
+        at += 32 + body;
     }
-    ours.set_tail(1_408 * 4 * count);
+    ours.set_tail(at);
     let mut buffer = vec![0; 16 * 8_192];
     assert_eq!(replayed(&log, 256, 8_192), ours.count_all(&mut buffer));
-    assert_eq!(ours.count_all(&mut buffer), (count, count * 5_504));
-    let name = format!("assembling 4 fragments of 1376, sessions interleaved: {sessions}, a message");
+    assert_eq!(ours.count_all(&mut buffer), (count, count * 5_472));
+    let name = format!("assembling 4 fragments of 1376, the last of 1344, sessions interleaved: {sessions}, a message");
     row(&name, count, || replayed(&log, 256, 8_192), || ours.count_all(&mut buffer));
 }
 
