@@ -244,8 +244,8 @@ impl Replay {
     }
 }
 
-// The next message where no whole one lies, with the sessions lent: data frames as they lie, and from what is none on, a padding, the end or a refusal, by
-// polls.
+// The next message where no whole one lies, with the sessions lent. Data frames are taken as they lie. Behind them, where a padding, the end or a frame that
+// is refused is met, the turns that are left go by polls.
 fn next_lent(
     start: Image,
     count: usize,
