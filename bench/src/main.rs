@@ -84,8 +84,7 @@ fn swapped(next: &mut usize) -> usize {
     *next
 }
 
-/// Where in a page a message begins: at another multiple of 64 in each round, for the same reason. A processor may take a load for one of bytes that were
-/// stored at the same place of another page.
+/// Where in a page a message begins: at another multiple of 64 in each round, for the same reason.
 fn moved(from: &mut usize) -> usize {
     *from = (*from + 5 * 64) % 4_096;
     *from
