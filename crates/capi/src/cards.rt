@@ -7,14 +7,14 @@ ghost use Rattle.capi.specs.Cards.{no_card, card_write_reply, card_read_reply};
 use card::{Card, CardRead, CardWritten};
 
 #[repr(C)]
-#[derive(Drop)]
+#[derive(Clone, Copy)]
 pub struct CardWriteReply {
     pub code: i32,
     pub length: usize,
 }
 
 #[repr(C)]
-#[derive(Drop)]
+#[derive(Clone, Copy)]
 pub struct CardReadReply {
     pub code: i32,
     pub card: Card,

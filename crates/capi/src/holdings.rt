@@ -12,7 +12,7 @@ use holding::{Answer, Holding};
 use logbuffer::errors;
 
 #[repr(C)]
-#[derive(Drop)]
+#[derive(Clone, Copy)]
 pub struct HoldingReply {
     pub code: i32,
     pub stop: i32,
@@ -25,7 +25,7 @@ pub struct HoldingReply {
 }
 
 // The numbers of an answer.
-#[derive(Drop)]
+#[derive(Clone, Copy)]
 struct Numbers {
     code: i32,
     stop: i32,

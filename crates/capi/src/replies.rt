@@ -18,14 +18,14 @@ use publication::rule;
 use replay::{Batched, Counted};
 
 #[repr(C)]
-#[derive(Drop)]
+#[derive(Clone, Copy)]
 pub struct PositionReply {
     pub code: i32,
     pub position: i64,
 }
 
 #[repr(C)]
-#[derive(Drop)]
+#[derive(Clone, Copy)]
 pub struct OfferReply {
     pub code: i32,
     pub rule: u32,
@@ -33,7 +33,7 @@ pub struct OfferReply {
 }
 
 #[repr(C)]
-#[derive(Drop)]
+#[derive(Clone, Copy)]
 pub struct ClaimReply {
     pub code: i32,
     pub rule: u32,
@@ -42,7 +42,7 @@ pub struct ClaimReply {
 }
 
 #[repr(C)]
-#[derive(Drop)]
+#[derive(Clone, Copy)]
 pub struct SpanReply {
     pub code: i32,
     pub start: usize,
@@ -50,7 +50,7 @@ pub struct SpanReply {
 }
 
 #[repr(C)]
-#[derive(Drop)]
+#[derive(Clone, Copy)]
 pub struct AppendReply {
     pub code: i32,
     pub is_tripped: bool,
@@ -58,7 +58,7 @@ pub struct AppendReply {
 }
 
 #[repr(C)]
-#[derive(Drop)]
+#[derive(Clone, Copy)]
 pub struct AppendClaimReply {
     pub code: i32,
     pub is_tripped: bool,
@@ -67,7 +67,7 @@ pub struct AppendClaimReply {
 }
 
 #[repr(C)]
-#[derive(Drop)]
+#[derive(Clone, Copy)]
 pub struct HeaderReply {
     pub code: i32,
     pub fields: HeaderFields,
@@ -75,7 +75,7 @@ pub struct HeaderReply {
 
 // The state is 0 for a free place, 1 for a frame being written, 2 for a finished one.
 #[repr(C)]
-#[derive(Drop)]
+#[derive(Clone, Copy)]
 pub struct FrameLengthReply {
     pub code: i32,
     pub state: i32,
@@ -83,7 +83,7 @@ pub struct FrameLengthReply {
 }
 
 #[repr(C)]
-#[derive(Drop)]
+#[derive(Clone, Copy)]
 pub struct ReadReply {
     pub code: i32,
     pub fragments: u32,
@@ -91,14 +91,14 @@ pub struct ReadReply {
 }
 
 #[repr(C)]
-#[derive(Drop)]
+#[derive(Clone, Copy)]
 pub struct ScanReply {
     pub code: i32,
     pub offset: usize,
 }
 
 #[repr(C)]
-#[derive(Drop)]
+#[derive(Clone, Copy)]
 pub struct GapReply {
     pub code: i32,
     pub is_gap: bool,
@@ -109,7 +109,7 @@ pub struct GapReply {
 }
 
 #[repr(C)]
-#[derive(Drop)]
+#[derive(Clone, Copy)]
 pub struct AvailabilityReply {
     pub code: i32,
     pub padding: u32,
@@ -117,7 +117,7 @@ pub struct AvailabilityReply {
 }
 
 #[repr(C)]
-#[derive(Drop)]
+#[derive(Clone, Copy)]
 pub struct PollReply {
     pub code: i32,
     pub fragments: u32,
@@ -126,7 +126,7 @@ pub struct PollReply {
 }
 
 #[repr(C)]
-#[derive(Drop)]
+#[derive(Clone, Copy)]
 pub struct PeekReply {
     pub code: i32,
     pub entries: u32,
@@ -135,7 +135,7 @@ pub struct PeekReply {
 }
 
 #[repr(C)]
-#[derive(Drop)]
+#[derive(Clone, Copy)]
 pub struct BlockReply {
     pub code: i32,
     pub partition: i32,
@@ -146,14 +146,14 @@ pub struct BlockReply {
 }
 
 #[repr(C)]
-#[derive(Drop)]
+#[derive(Clone, Copy)]
 pub struct EndOfStreamReply {
     pub code: i32,
     pub is_eos: bool,
 }
 
 #[repr(C)]
-#[derive(Drop)]
+#[derive(Clone, Copy)]
 pub struct AssemblyReply {
     pub code: i32,
     pub place: i32,
@@ -162,7 +162,7 @@ pub struct AssemblyReply {
 }
 
 #[repr(C)]
-#[derive(Drop)]
+#[derive(Clone, Copy)]
 pub struct NextReply {
     pub code: i32,
     pub place: i32,
@@ -171,14 +171,14 @@ pub struct NextReply {
 }
 
 #[repr(C)]
-#[derive(Drop)]
+#[derive(Clone, Copy)]
 pub struct BatchReply {
     pub code: i32,
     pub messages: usize,
 }
 
 #[repr(C)]
-#[derive(Drop)]
+#[derive(Clone, Copy)]
 pub struct CountReply {
     pub code: i32,
     pub messages: usize,

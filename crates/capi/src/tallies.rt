@@ -13,7 +13,7 @@ use tally::step::Stop;
 use tally::{PartitionTallied, Partitions, Sums, Tallied};
 
 #[repr(C)]
-#[derive(Drop)]
+#[derive(Clone, Copy)]
 pub struct TallyReply {
     pub code: i32,
     pub stop: i32,
@@ -23,7 +23,7 @@ pub struct TallyReply {
 }
 
 #[repr(C)]
-#[derive(Drop)]
+#[derive(Clone, Copy)]
 pub struct PartitionTallyReply {
     pub code: i32,
     pub stop: i32,

@@ -1,5 +1,6 @@
 // Find cards: a message body that every device reads alike. specs/Card.antt draws the format and says what each call answers and
 // leaves. The crate rests on no other; its refusals are two of its own, by the numbers 1 and 21 of the documents.
+#![tactic(auto)]
 mod field;
 
 ghost use Rattle.std.specs.Prelude.{◌≡◌, ◌+◌, ◌≤◌, ◌<◌};
@@ -9,7 +10,7 @@ ghost use Rattle.card.specs.Card.{widths, numbers_of, within, sound_card, held, 
 // The bits say which fields are there; the number of a field whose bit is off is not looked at. The note stands beside the card, as a
 // slice: its bit is 5.
 #[repr(C)]
-#[derive(Drop)]
+#[derive(Clone, Copy)]
 pub struct Card {
     pub bits: u8,
     pub find: u32,
@@ -19,20 +20,20 @@ pub struct Card {
     pub weight: u32,
 }
 
-#[derive(Drop)]
+#[derive(Clone, Copy)]
 pub enum CardError {
     IllegalArgument,
     BrokenCard,
 }
 
-#[derive(Drop)]
+#[derive(Clone, Copy)]
 pub enum CardWritten {
     Length(usize),
     Refused(CardError),
 }
 
 // The card, where its note starts in the bytes and how long it is. Numbers whose bit is off are 0.
-#[derive(Drop)]
+#[derive(Clone, Copy)]
 pub enum CardRead {
     Found(Card, usize, usize),
     Refused(CardError),

@@ -1,6 +1,7 @@
 // Find cards written and read: every field alone, all together, the shortest and the longest, and cards and bytes that are broken. A
 // line for each: what it is; the length, or the card with its bits first and where its note starts; or the refusal's number. The
 // stored output was worked out from document 02.
+#![tactic(auto)]
 mod print;
 
 use card::{Card, CardRead, CardWritten};

@@ -7,13 +7,13 @@ use publication::{clearing, positions};
 use replay::Counted;
 
 // A reader: where it stands, and how many messages it has had.
-#[derive(Drop)]
+#[derive(Clone, Copy)]
 struct Reader {
     position: i64,
     messages: usize,
 }
 
-#[derive(Drop)]
+#[derive(Clone, Copy)]
 pub struct Season {
     rec: LogRecord,
     ahead: Reader,

@@ -11,7 +11,7 @@ pub(crate) const NOTE_LENGTH: usize = 255;
 
 // For each field the position where its message ends, 0 where it is absent.
 #[repr(C)]
-#[derive(Drop)]
+#[derive(Clone, Copy)]
 pub struct Ends {
     pub find: usize,
     pub trench: usize,
@@ -22,7 +22,7 @@ pub struct Ends {
 }
 
 // Whether there was a card; the fields, where each is from, and how long the note is. The note's bytes stand beside it.
-#[derive(Drop)]
+#[derive(Clone, Copy)]
 pub struct Held {
     pub found: bool,
     pub card: Card,

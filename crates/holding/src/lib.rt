@@ -1,5 +1,6 @@
 // Which card holds: of the find cards of one find between two positions, each field from the last that has it, with the end position of that card's
 // message. specs/Messages.antt says what a message is, specs/Holding.antt what the call answers. Read walk next.
+#![tactic(auto)]
 ghost use Rattle.std.specs.Prelude.{◌≡◌, [], pos, ◌<◌};
 ghost use Rattle.holding.specs.declared.Answer.TheVariants.{Refused};
 ghost use Rattle.holding.specs.Holding.{answer_of, held_of, padded, holding_with, holding_of};
@@ -17,7 +18,7 @@ mod runs;
 mod walk;
 
 // Whether there is a card of the find: where the walk ended, and why there; 24 if there is none. Or the walk is refused.
-#[derive(Drop)]
+#[derive(Clone, Copy)]
 pub enum Answer {
     Holds(i64, Stop),
     NoCard(i64, Stop),
@@ -25,7 +26,7 @@ pub enum Answer {
 }
 
 // The card that holds, by its bits; its note, with 0 behind it; and where the message that each field is from ends. Where there is no card, all of it is 0.
-#[derive(Drop)]
+#[derive(Clone, Copy)]
 pub struct Holding {
     pub answer: Answer,
     pub card: Card,

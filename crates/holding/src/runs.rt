@@ -13,7 +13,7 @@ use model::Frame;
 pub(crate) const LONGEST: usize = 270;
 
 // No begin frame to go on from, or so many bytes since one.
-#[derive(Drop)]
+#[derive(Clone, Copy)]
 pub(crate) enum Run {
     Idle,
     Running(usize),

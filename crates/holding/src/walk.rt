@@ -10,7 +10,7 @@ use crate::{laying, runs};
 use tally::step;
 
 // What a walk found, the bytes of the note, and where it ended.
-#[derive(Drop)]
+#[derive(Clone, Copy)]
 pub(crate) struct Walked {
     pub held: Held,
     pub note: [u8; 255],

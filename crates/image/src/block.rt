@@ -15,7 +15,7 @@ use logbuffer::{cast, header, term_scan};
 use model::{BlockPolled, HeaderRead, LogRecord, Reading, Scanned};
 
 // Where a block poll leaves the image's position, and its answer.
-#[derive(Drop)]
+#[derive(Clone, Copy)]
 pub struct BlockTo {
     pub position: i64,
     pub answer: BlockPolled,

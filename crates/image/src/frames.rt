@@ -12,7 +12,7 @@ use logbuffer::{cast, term_reader};
 use model::{FramesRead, Polled, ReadVerdict, Reading, TermRead};
 
 // Where a poll leaves the image's position, and its answer.
-#[derive(Drop)]
+#[derive(Clone, Copy)]
 pub struct PolledTo {
     pub position: i64,
     pub answer: Polled,

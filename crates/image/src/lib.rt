@@ -1,4 +1,5 @@
 // An image: a reader's place in a log that is lent. A call takes the image by value, and hands the next one back beside its answer.
+#![tactic(auto)]
 ghost use Rattle.std.specs.Prelude.{◌≡◌, ◌≤◌, pos, get_or};
 ghost use Rattle.model.specs.Image.{new_image, poll_of, bounded_poll_of, controlled_poll_of, set_position_of, end_of_stream_of, close_image_of, peek_of, peek_slots, block_poll_of};
 ghost use Rattle.model.specs.Bytes.{long};
@@ -18,7 +19,7 @@ mod peek;
 
 // A position in the stream, the session, whether it is closed, and the end-of-stream flag kept at closing.
 #[repr(C)]
-#[derive(Drop)]
+#[derive(Clone, Copy)]
 pub struct Image {
     pub position: i64,
     pub session_id: i32,
@@ -26,39 +27,39 @@ pub struct Image {
     pub is_eos: bool,
 }
 
-#[derive(Drop)]
+#[derive(Clone, Copy)]
 pub struct PollReply {
     pub next: Image,
     pub answer: Polled,
 }
 
 // A poll by the record's numbers, and the partition of the position that it read from.
-#[derive(Drop)]
+#[derive(Clone, Copy)]
 pub struct PolledOn {
     pub reply: PollReply,
     pub partition: usize,
 }
 
 // A poll of one fragment, and the offset of its body.
-#[derive(Drop)]
+#[derive(Clone, Copy)]
 pub struct One {
     pub polled: PollReply,
     pub entry: i32,
 }
 
-#[derive(Drop)]
+#[derive(Clone, Copy)]
 pub struct PeekReply {
     pub next: Image,
     pub answer: Peeked,
 }
 
-#[derive(Drop)]
+#[derive(Clone, Copy)]
 pub struct BlockReply {
     pub next: Image,
     pub answer: BlockPolled,
 }
 
-#[derive(Drop)]
+#[derive(Clone, Copy)]
 pub struct ImageReply {
     pub next: Image,
     pub answer: Outcome,

@@ -15,14 +15,14 @@ use model::{Assembled, Error, Frame, FrameLength, Joining, LogRecord, Place, Ver
 
 // How many sessions are entered, their ids, and how many bytes each holds.
 #[repr(C)]
-#[derive(Drop)]
+#[derive(Clone, Copy)]
 pub struct FragmentAssembler {
     pub count: usize,
     pub ids: [i32; 16],
     pub held: [usize; 16],
 }
 
-#[derive(Drop)]
+#[derive(Clone, Copy)]
 pub struct AssemblyReply {
     pub next: FragmentAssembler,
     pub answer: Assembled,
@@ -30,7 +30,7 @@ pub struct AssemblyReply {
 
 // What a frame leads to: the place whose session it enters, that session and the bytes that it then holds, and the answer. No session has
 // place 16.
-#[derive(Drop)]
+#[derive(Clone, Copy)]
 pub struct Joined {
     pub place: usize,
     pub session: i32,
@@ -325,7 +325,7 @@ pub fn place_of(count: usize, ids: &[i32], session: i32) -> usize
 }
 
 // What the steps ask of a data frame: its length, its flags and its session.
-#[derive(Drop)]
+#[derive(Clone, Copy)]
 pub struct FragmentHeader {
     pub length: usize,
     pub flags: usize,
@@ -387,7 +387,7 @@ fn behind(held: usize, flags: usize) -> usize
 }
 
 // What the session then holds, 0 where nothing was laid; and whether the frame ends the message.
-#[derive(Drop)]
+#[derive(Clone, Copy)]
 pub struct Laid {
     pub held: usize,
     pub ends: bool,

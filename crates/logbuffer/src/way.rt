@@ -12,7 +12,7 @@ use model::{
 };
 
 // How an append goes, the offset after it, and the raw tail that moves; 0 both where it is refused.
-#[derive(Drop)]
+#[derive(Clone, Copy)]
 pub struct Way {
     pub course: Course,
     pub end: usize,

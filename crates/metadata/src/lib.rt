@@ -1,5 +1,6 @@
 // The metadata section of a log: the 320 bytes of the Rust's `LogMetaDataDefn`, written and read. specs/Metadata.antt draws the layout,
 // specs/Calls.antt says what each call answers and leaves. Its refusals are the crate's own, by the numbers 1, 2 and 25 of the documents.
+#![tactic(auto)]
 mod bytes;
 mod section;
 
@@ -12,21 +13,21 @@ use logbuffer::log_buffer_descriptor;
 use model::LogRecord;
 
 // IllegalMetadata: another size than 320, a byte that is not 0 where no field is, or another header length than 32.
-#[derive(Drop)]
+#[derive(Clone, Copy)]
 pub enum MetadataError {
     IllegalArgument,
     IllegalRecord,
     IllegalMetadata,
 }
 
-#[derive(Drop)]
+#[derive(Clone, Copy)]
 pub enum MetadataAnswer {
     Done,
     Refused(MetadataError),
 }
 
 // The record that was read. Where reading was refused, it is one of zeros, which every call refuses.
-#[derive(Drop)]
+#[derive(Clone, Copy)]
 pub struct MetadataReply {
     pub next: LogRecord,
     pub answer: MetadataAnswer,
@@ -34,7 +35,7 @@ pub struct MetadataReply {
 
 // What a record holds beside the section's fields: whoever reads a section gives it.
 #[repr(C)]
-#[derive(Drop)]
+#[derive(Clone, Copy)]
 pub struct Beside {
     pub session_id: i32,
     pub stream_id: i32,

@@ -1,10 +1,11 @@
 // The plain types of the log: the record, a claim, the refusals, and the answers of each family of calls. No function runs here.
 // What every call means is in specs/: read specs/Lib.antt next.
+#![tactic(auto)]
 
 // The log record, as document 01 lists it and document 02 adds to it. A raw tail has a term id in its upper 32 bits and an offset in its lower.
 // The last three fields are carried and never read: only the metadata section shows them.
 #[repr(C)]
-#[derive(Drop)]
+#[derive(Clone, Copy)]
 pub struct LogRecord {
     pub tails: [i64; 3],
     pub active_term_count: i32,
@@ -26,7 +27,7 @@ pub struct LogRecord {
 
 // What a claim answers beside its position: partition, offset of the frame in its term, frame length, term id.
 #[repr(C)]
-#[derive(Drop)]
+#[derive(Clone, Copy)]
 pub struct Claim {
     pub partition: i32,
     pub offset: i32,
@@ -36,7 +37,7 @@ pub struct Claim {
 
 // The refusals, in the order of document 01's table, and then as document 02 adds them; specs/Errors.antt gives each its number. The Rust's names
 // where it has one. A refusal of a frame carries its place, its offset in its term.
-#[derive(Drop)]
+#[derive(Clone, Copy)]
 pub enum Error {
     IllegalArgument,
     IllegalRecord,
@@ -63,7 +64,7 @@ pub enum Error {
 
 // The record's numbers as they are judged, none of them signed, with one partition's tail taken apart. A term id is its 32
 // bits; any other negative number shows as one above its range. specs/LogBufferDescriptor.antt says how a record is read.
-#[derive(Drop)]
+#[derive(Clone, Copy)]
 pub struct Reading {
     pub term: usize,
     pub mtu: usize,
@@ -80,7 +81,7 @@ pub struct Reading {
 }
 
 // A place that a reader names: the record as it is read, a partition, and an offset of its term.
-#[derive(Drop)]
+#[derive(Clone, Copy)]
 pub struct Place {
     pub read: Reading,
     pub partition: usize,
@@ -88,14 +89,14 @@ pub struct Place {
 }
 
 // Whether a call may go on to its work.
-#[derive(Drop)]
+#[derive(Clone, Copy)]
 pub enum Verdict {
     Pass,
     Refuse(Error),
 }
 
 // The same for a call on an image, which may also be closed.
-#[derive(Drop)]
+#[derive(Clone, Copy)]
 pub enum ReadVerdict {
     Read,
     Closed,
@@ -103,28 +104,28 @@ pub enum ReadVerdict {
 }
 
 // What was done, where the answer has no number.
-#[derive(Drop)]
+#[derive(Clone, Copy)]
 pub enum Outcome {
     Done,
     Refused(Error),
 }
 
 // The next record with it: opening, limit change, close, rotation.
-#[derive(Drop)]
+#[derive(Clone, Copy)]
 pub struct RecordReply {
     pub next: LogRecord,
     pub answer: Outcome,
 }
 
 // Position, limit, window.
-#[derive(Drop)]
+#[derive(Clone, Copy)]
 pub enum Positioned {
     Position(i64),
     Refused(Error),
 }
 
 // How an append goes, before anything is written: refused, at another term (13), past the term's end, or into the term.
-#[derive(Drop)]
+#[derive(Clone, Copy)]
 pub enum Course {
     Refuse(Error),
     Stray,
@@ -133,28 +134,28 @@ pub enum Course {
 }
 
 // An appender's answer: the offset after the frames, or that the append tripped (-2 in the Rust).
-#[derive(Drop)]
+#[derive(Clone, Copy)]
 pub enum Appended {
     Offset(usize),
     Tripped,
     Refused(Error),
 }
 
-#[derive(Drop)]
+#[derive(Clone, Copy)]
 pub struct AppendReply {
     pub next: LogRecord,
     pub answer: Appended,
 }
 
 // The claiming appender's.
-#[derive(Drop)]
+#[derive(Clone, Copy)]
 pub enum AppendedClaim {
     Claimed(usize, Claim),
     Tripped,
     Refused(Error),
 }
 
-#[derive(Drop)]
+#[derive(Clone, Copy)]
 pub struct AppendClaimReply {
     pub next: LogRecord,
     pub answer: AppendedClaim,
@@ -162,7 +163,7 @@ pub struct AppendClaimReply {
 
 // Which check decided an offer or a claim (R-10 of document 02), in the order of the checks. The names are those of the refusals, but for 6 and 7,
 // which two checks give each; the last three accept. specs/Rule.antt gives each its number, its place and its test.
-#[derive(Drop)]
+#[derive(Clone, Copy)]
 pub enum Rule {
     IllegalArgument,
     IllegalRecord,
@@ -183,26 +184,26 @@ pub enum Rule {
     Claimed,
 }
 
-#[derive(Drop)]
+#[derive(Clone, Copy)]
 pub enum Offered {
     Position(i64),
     Refused(Error),
 }
 
-#[derive(Drop)]
+#[derive(Clone, Copy)]
 pub struct OfferReply {
     pub next: LogRecord,
     pub answer: Offered,
     pub rule: Rule,
 }
 
-#[derive(Drop)]
+#[derive(Clone, Copy)]
 pub enum Claimed {
     Position(i64, Claim),
     Refused(Error),
 }
 
-#[derive(Drop)]
+#[derive(Clone, Copy)]
 pub struct ClaimReply {
     pub next: LogRecord,
     pub answer: Claimed,
@@ -210,7 +211,7 @@ pub struct ClaimReply {
 }
 
 // Where a part of the log lies: its first index, and the index after its last.
-#[derive(Drop)]
+#[derive(Clone, Copy)]
 pub enum Located {
     Span(usize, usize),
     Refused(Error),
@@ -218,7 +219,7 @@ pub enum Located {
 
 // A frame's length word by its sign: 0 is free; negative, a frame being written, with its size, 1 to 2147483648; positive, a finished one, with
 // its length. It says nothing of soundness.
-#[derive(Drop)]
+#[derive(Clone, Copy)]
 pub enum FrameLength {
     Free,
     Writing(usize),
@@ -226,14 +227,14 @@ pub enum FrameLength {
 }
 
 // What the frame length reader answers of a place.
-#[derive(Drop)]
+#[derive(Clone, Copy)]
 pub enum FrameLengthRead {
     Length(FrameLength),
     Refused(Error),
 }
 
 // What stands at a place of a log: no finished frame, or the length of an unsound one, of a padding or of a data frame.
-#[derive(Drop)]
+#[derive(Clone, Copy)]
 pub enum Frame {
     Absent,
     Unsound(usize),
@@ -243,7 +244,7 @@ pub enum Frame {
 
 // The fields of a frame's header, and the position past the frame.
 #[repr(C)]
-#[derive(Drop)]
+#[derive(Clone, Copy)]
 pub struct HeaderFields {
     pub frame_length: i32,
     pub version: u8,
@@ -257,14 +258,14 @@ pub struct HeaderFields {
     pub position: i64,
 }
 
-#[derive(Drop)]
+#[derive(Clone, Copy)]
 pub enum HeaderRead {
     Fields(HeaderFields),
     Refused(Error),
 }
 
 // A walk over frames: entries written, fragments that count, bytes moved, and bytes up to the last whole message or padding.
-#[derive(Drop)]
+#[derive(Clone, Copy)]
 pub struct Walk {
     pub entries: usize,
     pub fragments: usize,
@@ -273,20 +274,20 @@ pub struct Walk {
 }
 
 // What the frame reader (`read_frames`) answers.
-#[derive(Drop)]
+#[derive(Clone, Copy)]
 pub enum FramesRead {
     Walked(Walk),
     Refused(Error),
 }
 
 // A read of a term: the offset it came to, and the fragments read.
-#[derive(Drop)]
+#[derive(Clone, Copy)]
 pub enum TermRead {
     Outcome(usize, usize),
     Refused(Error),
 }
 
-#[derive(Drop)]
+#[derive(Clone, Copy)]
 pub enum Scanned {
     Offset(usize),
     Refused(Error),
@@ -294,7 +295,7 @@ pub enum Scanned {
 
 // A gap: the term id given, its offset, its length, and whether it starts on a frame being written; or none, with the offset that the walk
 // came to.
-#[derive(Drop)]
+#[derive(Clone, Copy)]
 pub enum GapScanned {
     Gap(i32, usize, usize, bool),
     NoGap(usize),
@@ -302,41 +303,41 @@ pub enum GapScanned {
 }
 
 // padding × 2^32 + available
-#[derive(Drop)]
+#[derive(Clone, Copy)]
 pub enum AvailabilityScanned {
     Outcome(i64),
     Refused(Error),
 }
 
 // A poll: the fragments read, and the entries written.
-#[derive(Drop)]
+#[derive(Clone, Copy)]
 pub enum Polled {
     Fragments(usize, usize),
     Refused(Error),
 }
 
 // A peek: the position it came to, and the entries written.
-#[derive(Drop)]
+#[derive(Clone, Copy)]
 pub enum Peeked {
     Position(i64, usize),
     Refused(Error),
 }
 
 // A block: its offset in the term, its length, session and term id; four zeros where it is empty.
-#[derive(Drop)]
+#[derive(Clone, Copy)]
 pub enum BlockPolled {
     Block(usize, usize, i32, i32),
     Refused(Error),
 }
 
-#[derive(Drop)]
+#[derive(Clone, Copy)]
 pub enum EndOfStream {
     Is(bool),
     Refused(Error),
 }
 
 // What the assembler does with a frame. The first number is the session's place among the 16, the second what it held before.
-#[derive(Drop)]
+#[derive(Clone, Copy)]
 pub enum Joining {
     Through,
     Ignore,
@@ -348,7 +349,7 @@ pub enum Joining {
 
 // The assembler's answer: nothing yet; the body of this frame, by its offset in the term and its length; a message put together, by
 // its place in the lent buffer and its length.
-#[derive(Drop)]
+#[derive(Clone, Copy)]
 pub enum Assembled {
     Nothing,
     Fragment(usize, usize),
@@ -357,7 +358,7 @@ pub enum Assembled {
 }
 
 // A message that a replay gives: its first index in the log or in the lent buffer, and its length; or the end.
-#[derive(Drop)]
+#[derive(Clone, Copy)]
 pub enum Replayed {
     InLog(usize, usize),
     InBuffer(usize, usize),

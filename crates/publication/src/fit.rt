@@ -117,14 +117,14 @@ fn is_long(v: Reading, n: usize, m: usize) -> bool
 }
 
 // The raw tail and the position after a frame, or after the last of several; 0 both for none.
-#[derive(Drop)]
+#[derive(Clone, Copy)]
 pub struct Fitted {
     pub tail: i64,
     pub position: i64,
 }
 
 // And the claim's record; of zeros for none.
-#[derive(Drop)]
+#[derive(Clone, Copy)]
 pub struct FittedClaim {
     pub tail: i64,
     pub position: i64,

@@ -1,4 +1,5 @@
 // The publication above the leaf library, of which it knows only the promises: offers and claims. Read judge next.
+#![tactic(auto)]
 ghost use Rattle.std.specs.Prelude.{◌≡◌, ◌+◌, ◌*◌, ◌%◌, ◌≤◌, ◌<◌, length as length_of};
 ghost use Rattle.model.specs.declared.Verdict.TheVariants.{Pass};
 ghost use Rattle.model.specs.Bytes.{word, long};
@@ -27,7 +28,7 @@ pub mod positions;
 pub mod rule;
 
 // What an offer or a claim that tripped leaves and answers.
-#[derive(Drop)]
+#[derive(Clone, Copy)]
 struct Trip {
     next: LogRecord,
     error: Error,

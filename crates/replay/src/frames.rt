@@ -14,7 +14,7 @@ use logbuffer::{cast, fragment_assembler, frame_descriptor, log_buffer_descripto
 use model::{Assembled, LogRecord, Reading, Replayed};
 
 // A whole message as it lies: the index of its frame, and the frame's length.
-#[derive(Drop)]
+#[derive(Clone, Copy)]
 pub struct Whole {
     pub index: usize,
     pub length: usize,
@@ -34,7 +34,7 @@ pub(crate) fn index_at(term: usize, p: usize) -> usize
 
 // A whole message as a walk finds it: the index of its frame, and the frame's length, 0 where there is none; and for the next step the count of a term and
 // where the partition of that term begins.
-#[derive(Drop)]
+#[derive(Clone, Copy)]
 pub(crate) struct Found {
     pub number: usize,
     pub base: usize,
@@ -151,7 +151,7 @@ pub(crate) fn open_term(image: Image, v: Reading, n: usize, lent: usize) -> usiz
 }
 
 // How far frames may be taken as they lie: the length of a term, 0 where none may, and the position where the replay stops.
-#[derive(Drop)]
+#[derive(Clone, Copy)]
 pub(crate) struct Reach {
     pub term: usize,
     pub stop: usize,
@@ -192,7 +192,7 @@ pub fn next_whole(image: Image, rec: LogRecord, log: &[u8], lent: usize) -> Whol
 // ---- a fragment, given to the assembler's core
 
 // What it leads to, beside the sessions that are lent: how many are entered, and the answer.
-#[derive(Drop)]
+#[derive(Clone, Copy)]
 pub(crate) struct Given {
     pub count: usize,
     pub answer: Assembled,

@@ -13,7 +13,7 @@ use logbuffer::frame_descriptor::{ALIGNMENT_MASK, FRAME_ALIGNMENT};
 use model::Replayed;
 
 // A data frame as a walk finds it: the index where it lies, its length, 0 where there is none, its flags and its session.
-#[derive(Drop)]
+#[derive(Clone, Copy)]
 pub(crate) struct DataFrame {
     pub index: usize,
     pub length: usize,
@@ -57,7 +57,7 @@ fn data_at(log: &[u8], term: usize, stop: usize, p: usize) -> DataFrame
 }
 
 // Where the frames lead: how many sessions are entered and turns left, the position, and the reply; End where nothing came of them.
-#[derive(Drop)]
+#[derive(Clone, Copy)]
 pub(crate) struct Gathered {
     pub count: usize,
     pub left: usize,
@@ -105,7 +105,7 @@ fn give_one(
 // ---- the session at hand
 
 // Its place, its id and the bytes that it holds; the array's number for that place is out of date meanwhile. None is at place 16.
-#[derive(Drop)]
+#[derive(Clone, Copy)]
 pub(crate) struct Current {
     pub place: usize,
     pub session: i32,
@@ -163,7 +163,7 @@ fn turn_to(count: usize, ids: &[i32], held: &mut [usize], current: Current, next
 // ---- one frame after another
 
 // Where a frame leads, and the session at hand behind it.
-#[derive(Drop)]
+#[derive(Clone, Copy)]
 pub(crate) struct Step {
     pub current: Current,
     pub gathered: Gathered,

@@ -1,5 +1,6 @@
 // A replay: polls of one fragment each into an assembler, from wherever its image stands, until one gives a message. Demand 3 says what it
 // gives of a log that was made by any list of calls; read `next_of` in the definitions.
+#![tactic(auto)]
 ghost use Rattle.std.specs.Prelude.{◌≡◌, false, ◌-◌, ◌≤◌, ◌<◌, length, pos};
 ghost use Rattle.model.specs.TermReader.{natural};
 ghost use Rattle.model.specs.Image.{new_image};
@@ -26,20 +27,20 @@ mod gathering;
 mod laying;
 
 #[repr(C)]
-#[derive(Drop)]
+#[derive(Clone, Copy)]
 pub struct Replay {
     pub image: Image,
     pub assembler: FragmentAssembler,
 }
 
-#[derive(Drop)]
+#[derive(Clone, Copy)]
 pub struct NextReply {
     pub next: Replay,
     pub answer: Replayed,
 }
 
 // A replay whose sessions are lent: its image, how many sessions are entered, and its answer.
-#[derive(Drop)]
+#[derive(Clone, Copy)]
 pub struct LentReply {
     pub image: Image,
     pub count: usize,
@@ -47,27 +48,27 @@ pub struct LentReply {
 }
 
 // Many messages at once: how many were laid into the lent numbers.
-#[derive(Drop)]
+#[derive(Clone, Copy)]
 pub enum Batched {
     Laid(usize),
     Refused(Error),
 }
 
-#[derive(Drop)]
+#[derive(Clone, Copy)]
 pub struct BatchReply {
     pub next: Replay,
     pub answer: Batched,
 }
 
 // A quick look at a log: how many messages, and how many bytes they have together.
-#[derive(Drop)]
+#[derive(Clone, Copy)]
 pub enum Counted {
     Counts(usize, usize),
     Refused(Error),
 }
 
 // A turn: whether the replay goes on; if it does not, its answer.
-#[derive(Drop)]
+#[derive(Clone, Copy)]
 pub struct TurnReply {
     pub on: bool,
     pub answer: Replayed,

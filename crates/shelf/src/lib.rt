@@ -1,6 +1,7 @@
 // Finished terms on the shelf: a term laid out anew with all its headers together, for a viewer, and taken back. specs/Shelf.antt draws the
 // layout, specs/Calls.antt says what each call answers and leaves. Its refusals are the crate's own, by the numbers 1, 2 and 26 of the
 // documents.
+#![tactic(auto)]
 mod bytes;
 mod frames;
 mod laying;
@@ -14,14 +15,14 @@ use logbuffer::{cast, log_buffer_descriptor};
 use model::{LogRecord, Reading};
 
 // NotFilled: the frames of a term do not reach its end, or no term of that length gives the shelf's bytes.
-#[derive(Drop)]
+#[derive(Clone, Copy)]
 pub enum ShelfError {
     IllegalArgument,
     IllegalRecord,
     NotFilled,
 }
 
-#[derive(Drop)]
+#[derive(Clone, Copy)]
 pub enum Shelved {
     Done,
     Refused(ShelfError),

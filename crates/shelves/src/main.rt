@@ -1,6 +1,7 @@
 // A term full of frames of every kind, made by calls, laid on the shelf and taken back. Printed are where each column of the headers lies,
 // with its bytes of the first nine frames and of the last, and where the bodies lie; then the small inputs of each refusal, by number, 0 for
 // none. The stored output was worked out from document 02.
+#![tactic(auto)]
 mod filling;
 mod print;
 mod refusals;

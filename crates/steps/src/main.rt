@@ -2,12 +2,13 @@
 // and each answered position is held against the one before it. A line for each payload limit: how often one byte more moved the position by
 // 64, by 32 and by 0, and how often by anything else than the rule says (never). Then the lengths around the first edges, with what is
 // answered, and the same for claims. A refused length answers 0.
+#![tactic(auto)]
 use logbuffer::cast;
 use model::{Claimed, LogRecord, Offered};
 use publication::{opening, positions};
 
 // How many rises there were of each kind, and how many that the rule does not name.
-#[derive(Drop)]
+#[derive(Clone, Copy)]
 struct Rises {
     by_64: u64,
     by_32: u64,

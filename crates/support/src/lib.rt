@@ -1,4 +1,5 @@
 // What the programs share: bytes of a slice at any index. What lies past the end is cut off, or reads as 0.
+#![tactic(auto)]
 ghost use Rattle.std.specs.Prelude.{◌≡◌, ◌++◌, ◌+◌, ◌-◌, ◌<◌, min, length, take, drop, get_or};
 
 pub fn least(a: usize, b: usize) -> usize

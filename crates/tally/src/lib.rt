@@ -1,5 +1,6 @@
 // Where a log's bytes went between two positions: body bytes, headers, slack and padding, where the walk ended, and why there; in stream order, and as
 // the partitions lie. specs/Walk.antt says what a step of the walk is, specs/Tally.antt and specs/Partitions.antt what the calls answer. Read step next.
+#![tactic(auto)]
 ghost use Rattle.std.specs.Prelude.{◌≡◌};
 ghost use Rattle.tally.specs.Tally.{tally_of};
 ghost use Rattle.tally.specs.Partitions.{partition_tally_of};
@@ -15,7 +16,7 @@ mod walk;
 
 // Body bytes, headers and slack of data frames; padding frames at their aligned length.
 #[repr(C)]
-#[derive(Drop)]
+#[derive(Clone, Copy)]
 pub struct Sums {
     pub body: usize,
     pub headers: usize,
@@ -24,7 +25,7 @@ pub struct Sums {
 }
 
 // The sums, the position where the walk ended, and why.
-#[derive(Drop)]
+#[derive(Clone, Copy)]
 pub enum Tallied {
     Tally(Sums, i64, Stop),
     Refused(Error),
@@ -32,7 +33,7 @@ pub enum Tallied {
 
 // The sums of each partition.
 #[repr(C)]
-#[derive(Drop)]
+#[derive(Clone, Copy)]
 pub struct Partitions {
     pub p0: Sums,
     pub p1: Sums,
@@ -40,7 +41,7 @@ pub struct Partitions {
 }
 
 // The partitions' sums, all of them added up, the position where the walk ended, and why.
-#[derive(Drop)]
+#[derive(Clone, Copy)]
 pub enum PartitionTallied {
     Tally(Partitions, Sums, i64, Stop),
     Refused(Error),

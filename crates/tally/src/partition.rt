@@ -9,21 +9,21 @@ ghost use Rattle.tally.specs.Within.{Ordered, part_of, parts_of, parted_of};
 use crate::{Partitions, Sums, step, walk};
 
 // A part: its sums, and whether its walk reached its end.
-#[derive(Drop)]
+#[derive(Clone, Copy)]
 pub(crate) struct Part {
     pub sums: Sums,
     pub whole: bool,
 }
 
 // The three parts, and whether each reached its end.
-#[derive(Drop)]
+#[derive(Clone, Copy)]
 pub(crate) struct Parts {
     pub sums: Partitions,
     pub whole: bool,
 }
 
 // The sums of each partition, and where the walk ended.
-#[derive(Drop)]
+#[derive(Clone, Copy)]
 pub(crate) struct Parted {
     pub sums: Partitions,
     pub end: usize,

@@ -13,7 +13,7 @@ use logbuffer::{cast, frame_descriptor};
 use model::{Frame, FrameLength, Verdict};
 
 // What a step meets, and what that takes of the stream: 0 where there is nothing to pass.
-#[derive(Drop)]
+#[derive(Clone, Copy)]
 pub struct Met {
     pub frame: Frame,
     pub size: usize,
@@ -21,7 +21,7 @@ pub struct Met {
 
 // Why a walk ended: it came to the second position; to a frame being written, with its size; to a free place; to a frame without its position's term id;
 // to one that would pass the second position; to an unsound one.
-#[derive(Drop)]
+#[derive(Clone, Copy)]
 pub enum Stop {
     Reached,
     Writing(usize),
@@ -32,7 +32,7 @@ pub enum Stop {
 }
 
 // Where a position lies: its term's count, its offset there, its index in the log, and the bytes to its term's end.
-#[derive(Drop)]
+#[derive(Clone, Copy)]
 pub struct Spot {
     pub count: usize,
     pub offset: usize,

@@ -12,7 +12,7 @@ use logbuffer::data_frame_header::HEADER_LENGTH;
 use model::Frame;
 
 // A walk: its sums, and where it ended.
-#[derive(Drop)]
+#[derive(Clone, Copy)]
 pub(crate) struct Walked {
     pub sums: Sums,
     pub end: usize,

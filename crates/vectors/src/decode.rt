@@ -6,7 +6,7 @@ use crate::values;
 use logbuffer::cast;
 
 // Where the parts of a vector begin, and how many numbers, fields and ranges it has.
-#[derive(Drop)]
+#[derive(Clone, Copy)]
 pub struct Vector {
     pub kind: usize,
     pub source: usize,

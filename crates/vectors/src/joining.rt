@@ -10,13 +10,13 @@ use logbuffer::fragment_assembler::FragmentAssembler;
 use model::{Assembled, LogRecord, Replayed};
 use replay::{Counted, Replay};
 
-#[derive(Drop)]
+#[derive(Clone, Copy)]
 pub struct Joined {
     pub assembler: FragmentAssembler,
     pub values: Values,
 }
 
-#[derive(Drop)]
+#[derive(Clone, Copy)]
 pub struct Stepped {
     pub replay: Replay,
     pub values: Values,

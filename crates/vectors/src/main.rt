@@ -14,6 +14,7 @@
 //     kind that R-3 of document 02 leaves out; 9 zero;
 //   10 the arguments, 8 bytes each; the results, 8 bytes each; the fields: place, 1 byte, and value, 8 bytes; the payload;
 //   the ranges: first index, 4 bytes, length, 2 bytes, and the bytes.
+#![tactic(auto)]
 mod decode;
 mod images;
 mod joining;
@@ -38,7 +39,7 @@ use replay::Replay;
 
 // The port's side, the expected record, the place in the file, what agreed so far; and of the last vector its kind and what differs
 // (0: nothing).
-#[derive(Drop)]
+#[derive(Clone, Copy)]
 struct Course {
     port: Port,
     want: Fields,

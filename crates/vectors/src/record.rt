@@ -4,7 +4,7 @@ use crate::decode::Vector;
 use crate::{decode, values};
 use model::LogRecord;
 
-#[derive(Drop)]
+#[derive(Clone, Copy)]
 pub struct Fields {
     pub at: [i64; 13],
 }

@@ -2,7 +2,7 @@
 use crate::decode;
 
 // How many vectors of each kind agreed, and how many of them are the papers'; and so of all.
-#[derive(Drop)]
+#[derive(Clone, Copy)]
 pub struct Tally {
     pub all: [usize; 48],
     pub given: [usize; 48],

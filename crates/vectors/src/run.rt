@@ -10,14 +10,14 @@ use logbuffer::fragment_assembler::FragmentAssembler;
 use model::LogRecord;
 use replay::Replay;
 
-#[derive(Drop)]
+#[derive(Clone, Copy)]
 pub struct Port {
     pub rec: LogRecord,
     pub assembler: FragmentAssembler,
     pub replay: Replay,
 }
 
-#[derive(Drop)]
+#[derive(Clone, Copy)]
 pub struct Answered {
     pub port: Port,
     pub values: Values,

@@ -8,7 +8,7 @@ use model::{Error, Outcome, Positioned};
 pub const UNTOUCHED: i64 = -7;
 
 // Eight numbers, then 64 entries, which begin as UNTOUCHED too. A call with more numbers and no entries goes on into their places.
-#[derive(Drop)]
+#[derive(Clone, Copy)]
 pub struct Values {
     pub row: [i64; 72],
 }

@@ -7,7 +7,7 @@ use model::{Appended, AppendedClaim, Claim, Claimed, LogRecord, Offered};
 use publication::opening;
 
 // The next record, and the answer.
-#[derive(Drop)]
+#[derive(Clone, Copy)]
 pub struct Ran {
     pub next: LogRecord,
     pub values: Values,
