@@ -26,107 +26,107 @@ use Rattle.holding.proofs.Answering.{holding-by, by-walk, three-terms}
 use Rattle.holding.proofs.card_that_holds.Statement.{statement}
 use Rattle.holding.proofs.card_that_holds.Tie as tie
 
-rows : (c : tie.After-rows) → let a = c.before.before.args in c.rows.result ≡ span_rows a.rec (length a.log.now) a.from a.to Pass
+rows : (c : tie.After-rows) → let a = c.args in c.rows.result ≡ span_rows a.rec (length a.log.now) a.from a.to Pass
 rows c = c.rows.ensures ∙ search rules
 
 -- the place of the rows, and the entry
-abbrev judged : tie.After-long2 → tie.After-rows
-judged c = c.before.before.before.before.before.before.before.before
+abbrev judged : tie.After-long-end → tie.After-rows
+judged c = c.before.before.before.before.before.before.before
 
-abbrev st : tie.After-long2 → tie.Start
+abbrev st : tie.After-long-end → tie.Start
 st c = (judged c).before.before
 
-abbrev start : tie.After-long2 → ℕ
-start c = c.before.long.result
+abbrev start : tie.After-long-end → ℕ
+start c = c.long-start.result
 
-abbrev stream : tie.After-long2 → Stream
-stream c = stream_by c.before.before.before.position-bits-to-shift.result (word (st c).args.rec.initial_term_id) (st c).args.log.now
+abbrev stream : tie.After-long-end → Stream
+stream c = stream_by c.position_bits_to_shift-bits.result (word (st c).args.rec.initial_term_id) (st c).args.log.now
 
-start_is : (c : tie.After-long2) → start c ≡ long (st c).args.from
-start_is c = let s = st c in long-by s.args.from c.before.long.ensures.0 s.fits.from
+start_is : (c : tie.After-long-end) → start c ≡ long (st c).args.from
+start_is c = let s = st c in long-by s.args.from c.long-start.ensures.0 s.fits.from
 
-end_is : (c : tie.After-long2) → c.long2.result ≡ long (st c).args.to
-end_is c = let s = st c in long-by s.args.to c.long2.ensures.0 s.fits.to
+end_is : (c : tie.After-long-end) → c.long-end.result ≡ long (st c).args.to
+end_is c = let s = st c in long-by s.args.to c.long-end.ensures.0 s.fits.to
 
 -- what is known behind the rows
-passed : (c : tie.After-long2) → let a = (st c).args in Pass ≡ span_rows a.rec (length a.log.now) a.from a.to Pass
-passed c = sym c.before.before.before.before.before.before.enum_told.given.1 ∙ rows (judged c)
+passed : (c : tie.After-long-end) → let a = (st c).args in Pass ≡ span_rows a.rec (length a.log.now) a.from a.to Pass
+passed c = sym c.in-Pass.is ∙ rows (judged c)
 
-spanned : (c : tie.After-long2) → let a = (st c).args in Spanned a.rec (length a.log.now) a.from a.to
+spanned : (c : tie.After-long-end) → let a = (st c).args in Spanned a.rec (length a.log.now) a.from a.to
 spanned c = let a = (st c).args in span-pass a.rec (length a.log.now) a.from a.to (st c).ranges.from (st c).ranges.to (passed c)
 
-streams : (c : tie.After-long2) → stream c ≡ stream_of (st c).args.rec (st c).args.log.now
+streams : (c : tie.After-long-end) → stream c ≡ stream_of (st c).args.rec (st c).args.log.now
 streams c =
-    let b = c.before.before.before in
+    let b = c in
     let a = (st c).args in
-    let w : b.before.word.result ≡ word a.rec.term_length = b.before.word.ensures.0 ∙ search rules in
-    let t = term_is a.rec (length a.log.now) b.position-bits-to-shift.result (spanned c).sound (b.position-bits-to-shift.ensures ∙ ap bits_to_shift w) in
-    stream-is a.rec a.log.now b.position-bits-to-shift.result _ t refl
+    let w : b.word.result ≡ word a.rec.term_length = b.word.ensures.0 ∙ search rules in
+    let t = term_is a.rec (length a.log.now) b.position_bits_to_shift-bits.result (spanned c).sound (b.position_bits_to_shift-bits.ensures ∙ ap bits_to_shift w) in
+    stream-is a.rec a.log.now b.position_bits_to_shift-bits.result _ t refl
 
-first : (c : tie.After-first-frame) → let l = c.before in c.first_frame.result ≡ first_frame (stream l).term (stream l).log (start l) l.long2.result
+first : (c : tie.After-first_frame) → let l = c in c.first_frame.result ≡ first_frame (stream c.before).term (stream c.before).log (start c.before) l.long-end.result
 unfolding stream_by
 first c = c.first_frame.ensures
 
 -- the answer, by the two verdicts
-answer : (c : tie.After-first-frame) (x y : Verdict) → let l = c.before in let a = (st l).args in (judged l).rows.result ≡ x → c.first_frame.result ≡ y
-    → holding_by (stream l) a.find (start l) l.long2.result (after x y) ≡ holding_of a.rec a.log.now a.find a.from a.to
+answer : (c : tie.After-first_frame) (x y : Verdict) → let l = c in let a = (st c.before).args in (judged c.before).rows.result ≡ x → c.first_frame.result ≡ y
+    → holding_by (stream c.before) a.find (start c.before) l.long-end.result (after x y) ≡ holding_of a.rec a.log.now a.find a.from a.to
 answer c x y ex ey =
-    let l = c.before in
-    let a = (st l).args in
-    holding-by a.rec a.log.now a.find a.from a.to (stream l) (start l) l.long2.result (streams l) (start_is l) (end_is l) x y (sym ex ∙ rows (judged l)) (sym ey ∙ first c)
+    let l = c in
+    let a = (st c.before).args in
+    holding-by a.rec a.log.now a.find a.from a.to (stream c.before) (start c.before) l.long-end.result (streams c.before) (start_is c.before) (end_is c.before) x y (sym ex ∙ rows (judged c.before)) (sym ey ∙ first c)
 
-returns : tie.Need-returns
+returns : tie.Need-returns-in-Refuse
 returns c =
-    let p = c.before.before.before.before in
-    let a = p.before.before.args in
+    let p = c in
+    let a = p.args in
     c.refused.ensures
-    ∙ holding-by a.rec a.log.now a.find a.from a.to (stream_of a.rec a.log.now) _ _ refl refl refl (Refuse c.before.before.e.given.0.0) _ (sym c.before.before.e.given.1 ∙ rows p) refl
+    ∙ holding-by a.rec a.log.now a.find a.from a.to (stream_of a.rec a.log.now) _ _ refl refl refl (Refuse c.in-Refuse.e) _ (sym c.in-Refuse.is ∙ rows c.before.before) refl
 
-returns-2 : tie.Need-returns-2
+returns-2 : tie.Need-returns-in-Refuse-first_frame
 returns-2 c =
-    let f = c.before.before.before.before in
-    c.refused2.ensures ∙ answer f Pass _ f.before.before.before.before.before.before.before.enum_told.given.1 c.before.before.e2.given.1
+    let f = c in
+    c.refused-in-Refuse-first_frame.ensures ∙ answer c.before.before Pass _ f.in-Pass.is c.in-Refuse-first_frame.is
 
-between-requires : tie.Need-between-requires
+between-requires : tie.Need-between-w-requires
 between-requires c κs =
-    let l = c.before.before.before in
-    let a = (st l).args in
-    three-terms a.rec a.log.now l.before.before.before.position-bits-to-shift.result _ (spanned l).sound (streams l)
+    let l = c in
+    let a = (st c.before.before).args in
+    three-terms a.rec a.log.now l.position_bits_to_shift-bits.result _ (spanned c.before.before).sound (streams c.before.before)
 
 -- the first term's id is one of 32 bits
-first-id : (c : tie.After-long2) → SFits w32 (st c).args.rec.initial_term_id
+first-id : (c : tie.After-long-end) → SFits w32 (st c).args.rec.initial_term_id
 first-id c = search rules
 
 -- the walk, and that its end is a position
-walk : (c : tie.After-between) → let l = c.before.before.before.before in c.between.result ≡ walk_of (st l).args.find (stream l) (start l) l.long2.result
-walk c = c.between.ensures ∙ search rules
+walk : (c : tie.After-between-w) → let l = c in c.between-w.result ≡ walk_of (st c.before.before.before).args.find (stream c.before.before.before) (start c.before.before.before) l.long-end.result
+walk c = c.between-w.ensures ∙ search rules
 
-ended : (c : tie.After-between) → c.between.result.end < 9223372036854775808
+ended : (c : tie.After-between-w) → c.between-w.result.end < 9223372036854775808
 ended c =
-    let l = c.before.before.before.before in
-    let k = spanned l in
-    let o : start l ≤ l.long2.result = omega (arith, k.order, start_is l, end_is l) in
-    let e = end-within (l.long2.result - start l) (stream l) l.long2.result (start l) o in
+    let l = c in
+    let k = spanned c.before.before.before in
+    let o : start c.before.before.before ≤ l.long-end.result = omega (arith, k.order, start_is c.before.before.before, end_is c.before.before.before) in
+    let e = end-within (l.long-end.result - start c.before.before.before) (stream c.before.before.before) l.long-end.result (start c.before.before.before) o in
     let q = ap (λ (x : Walked). x.end) (walk c) in
-    omega (arith, e, q, k.small, end_is l)
+    omega (arith, e, q, k.small, end_is c.before.before.before)
 
-returns-3 : tie.Need-returns-3
+returns-3 : tie.Need-returns-in-Pass-first_frame
 returns-3 c =
-    let y = c.before in
-    let w = y.before in
-    let l = w.before.before.before.before in
-    let s = stream l in
-    let n = l.long2.result in
-    let x = w.between.result in
-    let r : y.why.result ≡ why s n x.end =
-    y.why.ensures ∙ ap (λ (z : ℤ). why (stream_by l.before.before.before.position-bits-to-shift.result (word z) (st l).args.log.now) n x.end) (to_z-of_z (first-id l)) in
+    let y = c in
+    let w = c in
+    let l = c in
+    let s = stream c.before.before.before.before.before in
+    let n = l.long-end.result in
+    let x = w.between-w.result in
+    let r : y.why-stop.result ≡ why s n x.end =
+    y.why-stop.ensures ∙ ap (λ (z : ℤ). why (stream_by l.position_bits_to_shift-bits.result (word z) (st c.before.before.before.before.before).args.log.now) n x.end) (to_z-of_z (first-id c.before.before.before.before.before)) in
     c.answered.ensures
     ∙ ap (λ (z : Stop). holding_with (answer_of x.held.found x.end z) x.held x.note) r
-    ∙ by-walk s (st l).args.find (start l) n x (walk w)
-    ∙ answer w.before.before.before Pass Pass l.before.before.before.before.before.before.enum_told.given.1 w.before.enum-told2.given.1
+    ∙ by-walk s (st c.before.before.before.before.before).args.find (start c.before.before.before.before.before) n x (walk c.before.before)
+    ∙ answer c.before.before.before.before Pass Pass l.in-Pass.is w.in-Pass-first_frame.is
 
-pub card-that-holds-spec : {M : Type 1} → statement M
-card-that-holds-spec =
+pub card_that_holds_spec : {M : Type 1} → statement M
+card_that_holds_spec =
     tie.close
     (tie.spec
     (search rules)

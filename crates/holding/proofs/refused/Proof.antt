@@ -11,8 +11,8 @@ use Rattle.holding.proofs.refused.Tie as tie
 returns : tie.Need-returns
 unfolding padded
 returns c =
-    let n = c.before.before in
-    ap (λ (h : Held). holding_with (Refused n.before.args.error) h (padded [])) n.nothing.ensures
+    let n = c in
+    ap (λ (h : Held). holding_with (Refused n.args.error) h (padded [])) n.nothing-held.ensures
 
-pub refused-spec : {M : Type 1} → statement M
-refused-spec = tie.close (tie.spec (search rules) returns)
+pub refused_spec : {M : Type 1} → statement M
+refused_spec = tie.close (tie.spec (search rules) returns)

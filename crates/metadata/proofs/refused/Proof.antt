@@ -8,7 +8,7 @@ use Rattle.metadata.proofs.refused.Statement.{statement}
 use Rattle.metadata.proofs.refused.Tie as tie
 
 returns : tie.Need-returns
-returns c = ap (λ (x : LogRecord). (let r : MetadataReply = record { next = x; answer = Refused c.before.args.error } in r)) c.no_record.ensures
+returns c = ap (λ (x : LogRecord). (let r : MetadataReply = record { next = x; answer = Refused c.args.error } in r)) c.no_record.ensures
 
-pub refused-spec : {M : Type 1} → statement M
-refused-spec = tie.close (tie.spec (search rules) returns)
+pub refused_spec : {M : Type 1} → statement M
+refused_spec = tie.close (tie.spec (search rules) returns)

@@ -57,107 +57,107 @@ part : (s : tie.Start) → s.args.v.count % 3 ≡ active s.args.rec
 part s = active-by s.args.rec s.args.v s.requires.0
 
 -- the term id that is handed over is that of the tail
-given_is : (c : tie.After-own-term-id) → (let s = c.before.before.before in word (to_z w32 (of_z w32 c.own-term-id.result)) ≡ s.args.v.id)
-given_is c = let s = c.before.before.before in
-    ap word (to_z-of_z {w = w32} {z = c.own-term-id.result} (search rules)) ∙ c.own-term-id.ensures
-    ∙ ap (λ (n : ℕ). (reading_of s.args.rec n).id) (part s) ∙ sym (ap (λ (x : Reading). x.id) s.requires.0)
+given_is : (c : tie.After-own_term_id-term_id) → (let s = c in word (to_z w32 (of_z w32 c.own_term_id-term_id.result)) ≡ s.args.v.id)
+given_is c = let s = c in
+    ap word (to_z-of_z {w = w32} {z = c.own_term_id-term_id.result} (search rules)) ∙ c.own_term_id-term_id.ensures
+    ∙ ap (λ (n : ℕ). (reading_of s.args.rec n).id) (part c.before.before.before) ∙ sym (ap (λ (x : Reading). x.id) s.requires.0)
 
-asked : (c : tie.After-word) → c.word.result ≡ word c.before.before.before.before.before.args.length
-asked c = c.word.ensures.0 ∙ ap (of_z w32) (to_z-of_z c.before.before.before.before.before.ranges.length)
+asked : (c : tie.After-word) → c.word.result ≡ word c.args.length
+asked c = c.word.ensures.0 ∙ ap (of_z w32) (to_z-of_z c.ranges.length)
 
-module _ (c : tie.After-claiming) where
+module _ (c : tie.After-claiming-a) where
   abbrev start : tie.Start
   start = c.before.before.before.before.before.before
 
   abbrev k· : ℕ
   k· = start.args.v.count % 3
 
-  does : (c.claiming.result ≡ claiming_reply start.args.rec start.args.log.now k· (word start.args.length) start.args.v.id)
-      × (c.claiming.new.1.0 ≡ claiming_bytes start.args.rec start.args.log.now k· (word start.args.length) start.args.v.id)
+  does : (c.claiming-a.result ≡ claiming_reply start.args.rec start.args.log.now k· (word start.args.length) start.args.v.id)
+      × (c.claiming-a.new.log ≡ claiming_bytes start.args.rec start.args.log.now k· (word start.args.length) start.args.v.id)
   does =
       let a = start.args in
       let e = asked c.before in (
-        c.claiming.ensures.0 ∙ ap (λ (n : ℕ). claiming_reply a.rec a.log.now k· n a.v.id) e,
-        c.claiming.ensures.1 ∙ ap (λ (n : ℕ). claiming_bytes a.rec a.log.now k· n a.v.id) e,
+        c.claiming-a.ensures.0 ∙ ap (λ (n : ℕ). claiming_reply a.rec a.log.now k· n a.v.id) e,
+        c.claiming-a.ensures.1 ∙ ap (λ (n : ℕ). claiming_bytes a.rec a.log.now k· n a.v.id) e,
       )
 
-  law : (after start.args.v (is_ready start.args.rec) c.claiming.result ≡ claim_of start.args.rec start.args.log.now start.args.length)
-      × (c.claiming.new.1.0 ≡ claim_bytes start.args.rec start.args.log.now start.args.length)
+  law : (after start.args.v (is_ready start.args.rec) c.claiming-a.result ≡ claim_of start.args.rec start.args.log.now start.args.length)
+      × (c.claiming-a.new.log ≡ claim_bytes start.args.rec start.args.log.now start.args.length)
   law =
       let a = start.args in
-      claim-by a.rec a.log.now a.v k· (word a.length) a.v.id c.claiming.result (part start) start.pre.0 refl does.0 c.claiming.new.1.0 a.length refl start.pre.1 does.1
+      claim-by a.rec a.log.now a.v k· (word a.length) a.v.id c.claiming-a.result (part start) start.pre.0 refl does.0 c.claiming-a.new.log a.length refl start.pre.1 does.1
 
-  ready : next_marked c.claiming.result.next start.args.v ≡ is_ready start.args.rec
+  ready : next_marked c.claiming-a.result.next start.args.v ≡ is_ready start.args.rec
   ready =
       let a = start.args in
-      claim-ready a.rec a.log.now a.v k· (word a.length) a.v.id c.claiming.result (part start) start.pre.0 refl does.0
+      claim-ready a.rec a.log.now a.v k· (word a.length) a.v.id c.claiming-a.result (part start) start.pre.0 refl does.0
 
-  ends : (end : ℕ) (x : Claim) → c.claiming.result.answer ≡ Claimed end x → start.args.v.count * start.args.v.term + end < 9223372036854775808
+  ends : (end : ℕ) (x : Claim) → c.claiming-a.result.answer ≡ Claimed end x → start.args.v.count * start.args.v.term + end < 9223372036854775808
   ends end x h =
       let a = start.args in
-      omega (arith, claim-end a.rec a.log.now a.v k· (word a.length) a.v.id c.claiming.result (part start) start.pre.0 refl does.0 end x h, begin-most a.v (bounds _ _ (so start)), so start)
+      omega (arith, claim-end a.rec a.log.now a.v k· (word a.length) a.v.id c.claiming-a.result (part start) start.pre.0 refl does.0 end x h, begin-most a.v (bounds _ _ (so start)), so start)
 
-claiming-requires : tie.Need-claiming-requires
-claiming-requires c κs = let s = c.before.before.before.before.before in (
-  s.requires.0 ∙ ap (reading_of s.args.rec) (sym (part s)),
-  (omega arith, (subst (λ (n : ℕ). s.args.v.offset + space n ≤ 2147483647) (sym (asked c)) (pass s).room, given_is c.before.before)),
+claiming-requires : tie.Need-claiming-a-requires
+claiming-requires c κs = let s = c in (
+  s.requires.0 ∙ ap (reading_of s.args.rec) (sym (part c.before.before.before.before.before)),
+  (omega arith, (subst (λ (n : ℕ). s.args.v.offset + space n ≤ 2147483647) (sym (asked c)) (pass c.before.before.before.before.before).room, given_is c.before.before)),
 )
 
-after-trip-requires : tie.Need-after-trip-requires
+after-trip-requires : tie.Need-after_trip-t-requires
 after-trip-requires c κs =
-    let d = c.before.before.before.before.before.before in
-    let s = c.before.before.before.before.before.before.before.before.before.before.before.before in
+    let d = c in
+    let s = c in
     let a = s.args in
-    let e = neither d.claiming.result.answer c.before.before.match.keys2 c.before.match2.keys2 in
+    let e = neither d.claiming-a.result.answer c.in_default.in_default-own.keys2 c.in_default-answer.in_default-answer-own.keys2 in
     let three : length a.rec.tails ≡ 3 = search rules in
     let active-fits : SFits w32 a.rec.active_term_count = search rules in (
-      bounds _ _ (so s),
+      bounds _ _ (so c.before.before.before.before.before.before.before.before.before.before.before.before),
       (
-        c.before.before.before.before.before.before.before.before.before.before.begin-position.ensures,
-        claim-turns a.rec a.log.now a.v (a.v.count % 3) (word a.length) a.v.id d.claiming.result (part s) s.requires.0 refl (does d).0
-            (to_z w32 (of_z w32 a.rec.active_term_count)) (to_z w32 (of_z w32 d.before.before.before.own-term-id.result)) (to_z-of_z active-fits) (given_is d.before.before.before) three e,
+        c.begin_position-begin.ensures,
+        claim-turns a.rec a.log.now a.v (a.v.count % 3) (word a.length) a.v.id d.claiming-a.result (part c.before.before.before.before.before.before.before.before.before.before.before.before) s.requires.0 refl (does c.before.before.before.before.before.before).0
+            (to_z w32 (of_z w32 a.rec.active_term_count)) (to_z w32 (of_z w32 d.own_term_id-term_id.result)) (to_z-of_z active-fits) (given_is c.before.before.before.before.before.before.before.before.before) three e,
       ),
     )
 
-returns : tie.Need-returns
+returns : tie.Need-returns-in_default-answer
 returns c =
-    let d = c.before.before.before.before.before.before.before.before in
-    let a = c.before.before.before.before.before.before.before.before.before.before.before.before.before.before.args in
-    let e = neither d.claiming.result.answer c.before.before.before.before.match.keys2 c.before.before.before.match2.keys2 in (
-      trip-reply _ _ _ _ _ _ c.before.after-trip.ensures.0 c.before.after-trip.ensures.1.0 c.before.after-trip.ensures.1.1
-          ∙ ap (λ (b : Bool). after_by a.v b d.claiming.result.next Tripped) (ready d)
-          ∙ sym (ap (after_by a.v (is_ready a.rec) d.claiming.result.next) e) ∙ (law d).0,
-      (law d).1,
+    let d = c in
+    let a = c.args in
+    let e = neither d.claiming-a.result.answer c.in_default.in_default-own.keys2 c.in_default-answer.in_default-answer-own.keys2 in (
+      trip-reply _ _ _ _ _ _ c.after_trip-t.ensures.0 c.after_trip-t.ensures.1.0 c.after_trip-t.ensures.1.1
+          ∙ ap (λ (b : Bool). after_by a.v b d.claiming-a.result.next Tripped) (ready c.before.before.before.before.before.before.before.before)
+          ∙ sym (ap (after_by a.v (is_ready a.rec) d.claiming-a.result.next) e) ∙ (law c.before.before.before.before.before.before.before.before).0,
+      (law c.before.before.before.before.before.before.before.before).1,
     )
 
-returns-2 : tie.Need-returns-2
+returns-2 : tie.Need-returns-in_default
 returns-2 c =
-    let d = c.before.before.before.before.before.before.before.before in
-    let a = c.before.before.before.before.before.before.before.before.before.before.before.before.before.before.args in
-    (trip-reply _ _ _ _ _ _ refl refl c.of-refusal.ensures ∙ sym (ap (after_by a.v (is_ready a.rec) d.claiming.result.next) c.before.before.answer2.given.1) ∙ (law d).0, (law d).1)
+    let d = c in
+    let a = c.args in
+    (trip-reply _ _ _ _ _ _ refl refl c.of_refusal.ensures ∙ sym (ap (after_by a.v (is_ready a.rec) d.claiming-a.result.next) c.in-Refused.is) ∙ (law c.before.before.before.before.before.before).0, (law c.before.before.before.before.before.before).1)
 
-begin-position-requires : tie.Need-begin-position-requires
-begin-position-requires c κs = let s = c.before in (bounds _ _ (so s), (so s).one_bit)
+begin-position-requires : tie.Need-begin_position-begin-requires
+begin-position-requires c κs = let s = c in (bounds _ _ (so c.before), (so c.before).one_bit)
 
-add-t21 : tie.Need-overflow-add-t21
-add-t21 c = omega (arith, ends c.before.before.before.before.before.before _ _ c.before.answer.given.1, c.before.before.before.before.before.before.before.before.before.before.begin-position.ensures)
+add-t21 : tie.Need-overflow_add-result
+add-t21 c = omega (arith, ends c.before.before.before.before _ _ c.in-Claimed.is, c.begin_position-begin.ensures)
 
-cast-t25 : tie.Need-overflow-cast-t25
-cast-t25 c = record { sfits = omega (arith, ends c.before.before.before.before.before.before _ _ c.before.answer.given.1, c.before.before.before.before.before.before.before.before.before.before.begin-position.ensures) }
+cast-t25 : tie.Need-overflow_cast-result
+cast-t25 c = record { sfits = omega (arith, ends c.before.before.before.before _ _ c.in-Claimed.is, c.begin_position-begin.ensures) }
 
-returns-3 : tie.Need-returns-3
+returns-3 : tie.Need-returns
 returns-3 c =
-    let d = c.before.before.before.before.before.before in
-    let a = c.before.before.before.before.before.before.before.before.before.before.before.before.args in
-    let begin = c.before.before.before.before.before.before.before.before.before.before.begin-position.ensures in
-    let end = c.before.answer.given.0.0 in (
-      ap {B = ClaimReply} (λ (z : ℤ). record { next = d.claiming.result.next; answer = Position z c.before.answer.given.0.1.0; rule = ByClaim }) (to_z_pos w64 (omega (arith, ends d _ _ c.before.answer.given.1, begin)) ∙ ap (λ (x : ℕ). pos (x + end)) begin)
-          ∙ sym (ap (after_by a.v (is_ready a.rec) d.claiming.result.next) c.before.answer.given.1) ∙ (law d).0,
-      (law d).1,
+    let d = c in
+    let a = c.args in
+    let begin = c.begin_position-begin.ensures in
+    let end = c.in-Claimed.end in (
+      ap {B = ClaimReply} (λ (z : ℤ). record { next = d.claiming-a.result.next; answer = Position z c.in-Claimed.claim; rule = ByClaim }) (to_z_pos w64 (omega (arith, ends c.before.before.before.before _ _ c.in-Claimed.is, begin)) ∙ ap (λ (x : ℕ). pos (x + end)) begin)
+          ∙ sym (ap (after_by a.v (is_ready a.rec) d.claiming-a.result.next) c.in-Claimed.is) ∙ (law c.before.before.before.before).0,
+      (law c.before.before.before.before).1,
     )
 
-pub claim-on-spec : {M : Type 1} → statement M
-claim-on-spec =
+pub claim_on_spec : {M : Type 1} → statement M
+claim_on_spec =
     tie.close
     (tie.spec
     begin-position-requires

@@ -13,16 +13,16 @@ use Rattle.publication.proofs.claiming.Tie as tie
 
 returns : tie.Need-returns
 returns c =
-    let s = c.before.before.before.before.before.before.before in
+    let s = c in
     let a = s.args in
-    let d = c.before.before.before.before.claim-way in
+    let d = c.claim_way-way in
     let h : a.v.offset + space a.n ≤ 2147483647 = s.requires.1.1.0 in
     let hk : a.k ≤ 2 = s.requires.1.0 in
-    claiming-by a.rec a.log.now d.new.1.0 a.v a.k a.n d.result _ c.claim-reply.result s.requires.0 hk (omega arith) d.ensures.0 d.ensures.1 c.claim-reply.ensures
+    claiming-by a.rec a.log.now d.new.log a.v a.k a.n d.result _ c.claim_reply.result s.requires.0 hk (omega arith) d.ensures.0 d.ensures.1 c.claim_reply.ensures
     (claim-record-is a.v a.k a.n _ _ _ _ (to_z_pos w32 (omega arith)) (to_z_pos w32 (omega arith)) (to_z_pos w32 (omega arith)) (ap (to_z w32) s.requires.1.1.1))
 
-pub claiming-spec : {M : Type 1} → statement M
-claiming-spec =
+pub claiming_spec : {M : Type 1} → statement M
+claiming_spec =
     tie.close
     (tie.spec
     (search rules)

@@ -53,99 +53,99 @@ trip-reply : (n n' : LogRecord) (e e' : Error) (x x' : Rule) → n ≡ n' → e 
 trip-reply n n' e e' x x' p q s = cc
 
 -- what the append leads to
-module _ (c : tie.After-append-message) where
+module _ (c : tie.After-append_message-a) where
   abbrev start : tie.Start
   start = c.before.before.before.before.before
 
-  law : (after start.args.v (is_ready start.args.rec) (length start.args.message.now) c.append-message.result ≡ offer_of start.args.rec start.args.log.now start.args.message.now)
-      × (c.append-message.new.1.0 ≡ offer_bytes start.args.rec start.args.log.now start.args.message.now start.args.reserved)
+  law : (after start.args.v (is_ready start.args.rec) (length start.args.message.now) c.append_message-a.result ≡ offer_of start.args.rec start.args.log.now start.args.message.now)
+      × (c.append_message-a.new.log ≡ offer_bytes start.args.rec start.args.log.now start.args.message.now start.args.reserved)
   law =
       let a = start.args in
-      offer-by a.rec a.log.now a.message.now a.v (a.v.count % 3) a.v.id c.append-message.result (part start) start.pre.0 refl c.append-message.ensures.0
-      c.append-message.new.1.0 a.reserved (long (to_z w64 (of_z w64 a.reserved))) (ap long (to_z-of_z start.fits.reserved)) start.pre.1 c.append-message.ensures.1
+      offer-by a.rec a.log.now a.message.now a.v (a.v.count % 3) a.v.id c.append_message-a.result (part start) start.pre.0 refl c.append_message-a.ensures.0
+      c.append_message-a.new.log a.reserved (long (to_z w64 (of_z w64 a.reserved))) (ap long (to_z-of_z start.fits.reserved)) start.pre.1 c.append_message-a.ensures.1
 
-  ready : next_marked c.append-message.result.next start.args.v ≡ is_ready start.args.rec
+  ready : next_marked c.append_message-a.result.next start.args.v ≡ is_ready start.args.rec
   ready =
       let a = start.args in
-      ready_by a.rec a.log.now a.message.now a.v (a.v.count % 3) a.v.id c.append-message.result (part start) start.pre.0 refl c.append-message.ensures.0
+      ready_by a.rec a.log.now a.message.now a.v (a.v.count % 3) a.v.id c.append_message-a.result (part start) start.pre.0 refl c.append_message-a.ensures.0
 
-  ends : (end : ℕ) → c.append-message.result.answer ≡ Offset end → start.args.v.count * start.args.v.term + end < 9223372036854775808
+  ends : (end : ℕ) → c.append_message-a.result.answer ≡ Offset end → start.args.v.count * start.args.v.term + end < 9223372036854775808
   ends end h =
       let a = start.args in
       omega (
         arith,
-        end_by a.rec a.log.now a.message.now a.v (a.v.count % 3) a.v.id c.append-message.result (part start) start.pre.0 refl c.append-message.ensures.0 end h,
+        end_by a.rec a.log.now a.message.now a.v (a.v.count % 3) a.v.id c.append_message-a.result (part start) start.pre.0 refl c.append_message-a.ensures.0 end h,
         begin-most a.v (bounds _ _ (so start)),
         so start,
       )
 
-sub-payload : tie.Need-overflow-sub-payload
+sub-payload : tie.Need-overflow_sub-payload
 sub-payload c = omega (arith, (so c.before.before.before).mtu-low)
 
-append-message-requires : tie.Need-append-message-requires
-append-message-requires c κs = let s = c.before.before.before.before in (s.requires.0 ∙ ap (reading_of s.args.rec) (sym (part s)), (omega arith, (omega (arith, (so s).mtu-low), (omega (arith, (so s).mtu-high), (omega (arith, (so s).mtu-32, (so s).mtu-low), (pass s).short)))))
+append-message-requires : tie.Need-append_message-a-requires
+append-message-requires c κs = let s = c in (s.requires.0 ∙ ap (reading_of s.args.rec) (sym (part c.before.before.before.before)), (omega arith, (omega (arith, (so c.before.before.before.before).mtu-low), (omega (arith, (so c.before.before.before.before).mtu-high), (omega (arith, (so c.before.before.before.before).mtu-32, (so c.before.before.before.before).mtu-low), (pass c.before.before.before.before).short)))))
 
 -- the term id that is handed over is that of the tail
-given_is : (c : tie.After-own-term-id) → (let s = c.before.before.before.before.before.before.before.before.before.before.before in word (to_z w32 (of_z w32 c.own-term-id.result)) ≡ s.args.v.id)
-given_is c = let s = c.before.before.before.before.before.before.before.before.before.before.before in
-    ap word (to_z-of_z {w = w32} {z = c.own-term-id.result} (search rules)) ∙ c.own-term-id.ensures
-    ∙ ap (λ (n : ℕ). (reading_of s.args.rec n).id) (part s) ∙ sym (ap (λ (x : Reading). x.id) s.requires.0)
+given_is : (c : tie.After-own_term_id-term_id) → (let s = c in word (to_z w32 (of_z w32 c.own_term_id-term_id.result)) ≡ s.args.v.id)
+given_is c = let s = c in
+    ap word (to_z-of_z {w = w32} {z = c.own_term_id-term_id.result} (search rules)) ∙ c.own_term_id-term_id.ensures
+    ∙ ap (λ (n : ℕ). (reading_of s.args.rec n).id) (part c.before.before.before.before.before.before.before.before.before.before.before) ∙ sym (ap (λ (x : Reading). x.id) s.requires.0)
 
-after-trip-requires : tie.Need-after-trip-requires
+after-trip-requires : tie.Need-after_trip-t-requires
 after-trip-requires c κs =
-    let d = c.before.before.before.before.before.before.before in
-    let s = c.before.before.before.before.before.before.before.before.before.before.before.before in
+    let d = c in
+    let s = c in
     let a = s.args in
-    let e = neither d.append-message.result.answer c.before.before.before.match.keys2 c.before.before.match2.keys2 in
+    let e = neither d.append_message-a.result.answer c.in_default.in_default-own.keys2 c.in_default-answer.in_default-answer-own.keys2 in
     let three : length a.rec.tails ≡ 3 = search rules in
     let active-fits : SFits w32 a.rec.active_term_count = search rules in (
-      bounds _ _ (so s),
+      bounds _ _ (so c.before.before.before.before.before.before.before.before.before.before.before.before),
       (
-        c.before.before.before.before.before.before.before.before.before.begin-position.ensures,
-        turns-by a.rec a.log.now a.message.now a.v (a.v.count % 3) a.v.id d.append-message.result (part s) s.requires.0 refl d.append-message.ensures.0
-            (to_z w32 (of_z w32 a.rec.active_term_count)) (to_z w32 (of_z w32 c.before.own-term-id.result)) (to_z-of_z active-fits) (given_is c.before) three (omega (arith, (so s).mtu-32, (so s).mtu-low)) e,
+        c.begin_position-begin.ensures,
+        turns-by a.rec a.log.now a.message.now a.v (a.v.count % 3) a.v.id d.append_message-a.result (part c.before.before.before.before.before.before.before.before.before.before.before.before) s.requires.0 refl d.append_message-a.ensures.0
+            (to_z w32 (of_z w32 a.rec.active_term_count)) (to_z w32 (of_z w32 c.own_term_id-term_id.result)) (to_z-of_z active-fits) (given_is c.before) three (omega (arith, (so c.before.before.before.before.before.before.before.before.before.before.before.before).mtu-32, (so c.before.before.before.before.before.before.before.before.before.before.before.before).mtu-low)) e,
       ),
     )
 
-returns : tie.Need-returns
+returns : tie.Need-returns-in_default-answer
 returns c =
-    let d = c.before.before.before.before.before.before.before.before.before in
-    let a = c.before.before.before.before.before.before.before.before.before.before.before.before.before.before.args in
-    let e = neither d.append-message.result.answer c.before.before.before.before.before.match.keys2 c.before.before.before.before.match2.keys2 in (
-      trip-reply _ _ _ _ _ _ c.before.after-trip.ensures.0 c.before.after-trip.ensures.1.0 c.before.after-trip.ensures.1.1
-          ∙ ap (λ (b : Bool). after_by a.v b (length a.message.now) d.append-message.result.next Tripped) (ready d)
-          ∙ sym (ap (after_by a.v (is_ready a.rec) (length a.message.now) d.append-message.result.next) e) ∙ (law d).0,
+    let d = c in
+    let a = c.args in
+    let e = neither d.append_message-a.result.answer c.in_default.in_default-own.keys2 c.in_default-answer.in_default-answer-own.keys2 in (
+      trip-reply _ _ _ _ _ _ c.after_trip-t.ensures.0 c.after_trip-t.ensures.1.0 c.after_trip-t.ensures.1.1
+          ∙ ap (λ (b : Bool). after_by a.v b (length a.message.now) d.append_message-a.result.next Tripped) (ready d)
+          ∙ sym (ap (after_by a.v (is_ready a.rec) (length a.message.now) d.append_message-a.result.next) e) ∙ (law d).0,
       (law d).1,
     )
 
-returns-2 : tie.Need-returns-2
+returns-2 : tie.Need-returns-in_default
 returns-2 c =
-    let d = c.before.before.before.before.before.before.before.before in
-    let a = c.before.before.before.before.before.before.before.before.before.before.before.before.before.args in
-    (trip-reply _ _ _ _ _ _ refl refl c.of-refusal.ensures ∙ sym (ap (after_by a.v (is_ready a.rec) (length a.message.now) d.append-message.result.next) c.before.before.answer2.given.1) ∙ (law d).0, (law d).1)
+    let d = c in
+    let a = c.args in
+    (trip-reply _ _ _ _ _ _ refl refl c.of_refusal.ensures ∙ sym (ap (after_by a.v (is_ready a.rec) (length a.message.now) d.append_message-a.result.next) c.in-Refused.is) ∙ (law d).0, (law d).1)
 
-begin-position-requires : tie.Need-begin-position-requires
-begin-position-requires c κs = let s = c.before.before in (bounds _ _ (so s), (so s).one_bit)
+begin-position-requires : tie.Need-begin_position-begin-requires
+begin-position-requires c κs = let s = c in (bounds _ _ (so c.before.before), (so c.before.before).one_bit)
 
-add-t22 : tie.Need-overflow-add-t22
-add-t22 c = omega (arith, ends c.before.before.before.before.before.before _ c.before.answer.given.1, c.before.before.before.before.before.before.before.before.begin-position.ensures)
+add-t22 : tie.Need-overflow_add-result
+add-t22 c = omega (arith, ends c.before.before.before.before.before.before _ c.in-Offset.is, c.begin_position-begin.ensures)
 
-cast-t27 : tie.Need-overflow-cast-t27
-cast-t27 c = record { sfits = omega (arith, ends c.before.before.before.before.before.before _ c.before.answer.given.1, c.before.before.before.before.before.before.before.before.begin-position.ensures) }
+cast-t27 : tie.Need-overflow_cast-result
+cast-t27 c = record { sfits = omega (arith, ends c.before.before.before.before.before.before _ c.in-Offset.is, c.begin_position-begin.ensures) }
 
-returns-3 : tie.Need-returns-3
+returns-3 : tie.Need-returns
 returns-3 c =
-    let d = c.before.before.before.before.before.before.before in
-    let a = c.before.before.before.before.before.before.before.before.before.before.before.before.args in
-    let begin = c.before.before.before.before.before.before.before.before.before.begin-position.ensures in
-    let end = c.before.before.answer.given.0.0 in (
-      ap₂ {C = OfferReply} (λ (z : ℤ) (x : Rule). record { next = d.append-message.result.next; answer = Position z; rule = x }) (to_z_pos w64 (omega (arith, ends d _ c.before.before.answer.given.1, begin)) ∙ ap (λ (x : ℕ). pos (x + end)) begin) c.of-message.ensures
-          ∙ sym (ap (after_by a.v (is_ready a.rec) (length a.message.now) d.append-message.result.next) c.before.before.answer.given.1) ∙ (law d).0,
+    let d = c in
+    let a = c.args in
+    let begin = c.begin_position-begin.ensures in
+    let end = c.in-Offset.end in (
+      ap₂ {C = OfferReply} (λ (z : ℤ) (x : Rule). record { next = d.append_message-a.result.next; answer = Position z; rule = x }) (to_z_pos w64 (omega (arith, ends d _ c.in-Offset.is, begin)) ∙ ap (λ (x : ℕ). pos (x + end)) begin) c.of_message.ensures
+          ∙ sym (ap (after_by a.v (is_ready a.rec) (length a.message.now) d.append_message-a.result.next) c.in-Offset.is) ∙ (law d).0,
       (law d).1,
     )
 
-pub offer-on-spec : {M : Type 1} → statement M
-offer-on-spec =
+pub offer_on_spec : {M : Type 1} → statement M
+offer_on_spec =
     tie.close
     (tie.spec
     begin-position-requires

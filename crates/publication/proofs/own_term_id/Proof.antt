@@ -13,24 +13,24 @@ use Rattle.model.proofs.Moving.{term-id-back}
 use Rattle.publication.proofs.own_term_id.Statement.{statement}
 use Rattle.publication.proofs.own_term_id.Tie as tie
 
-own : (s : tie.Start) (k : ℕ) (z : ℤ) → SFits w64 (tail_of s.args.t1 k) → z ≡ term_id_of (to_z w64 (of_z w64 (tail_of s.args.t1 k))) → SFits w32 z → k ≡ s.args.k
-    → word (to_z w32 (of_z w32 z)) ≡ (reading_of s.args.t1 s.args.k).id
+own : (s : tie.Start) (k : ℕ) (z : ℤ) → SFits w64 (tail_of s.args.rec k) → z ≡ term_id_of (to_z w64 (of_z w64 (tail_of s.args.rec k))) → SFits w32 z → k ≡ s.args.k
+    → word (to_z w32 (of_z w32 z)) ≡ (reading_of s.args.rec s.args.k).id
 unfolding reading_of
 own s k z f e g h =
     ap word (to_z-of_z {w = w32} {z = z} g ∙ e ∙ ap term_id_of (to_z-of_z f)) ∙ term-id-back _ f
-    ∙ ap (λ (n : ℕ). (reading_of s.args.t1 n).id) h
+    ∙ ap (λ (n : ℕ). (reading_of s.args.rec n).id) h
 
-returns : tie.Need-returns
-returns c = own c.before.before.before 0 c.term-id.result (search rules) c.term-id.ensures (search rules) (omega arith)
+returns : tie.Need-returns-then-k-eq0
+returns c = own c.before.before.before 0 c.term_id.result (search rules) c.term_id.ensures (search rules) (omega arith)
 
-returns-2 : tie.Need-returns-2
-returns-2 c = own c.before.before.before.before 1 c.term-id2.result (search rules) c.term-id2.ensures (search rules) (omega arith)
+returns-2 : tie.Need-returns-then-k-eq1
+returns-2 c = own c.before.before.before.before 1 c.term_id-then-k-eq1.result (search rules) c.term_id-then-k-eq1.ensures (search rules) (omega arith)
 
-returns-3 : tie.Need-returns-3
-returns-3 c = own c.before.before.before.before 2 c.term-id3.result (search rules) c.term-id3.ensures (search rules) (omega arith)
+returns-3 : tie.Need-returns
+returns-3 c = own c.before.before.before.before 2 c.term_id-2.result (search rules) c.term_id-2.ensures (search rules) (omega arith)
 
-pub own-term-id-spec : {M : Type 1} → statement M
-own-term-id-spec =
+pub own_term_id_spec : {M : Type 1} → statement M
+own_term_id_spec =
     tie.close
     (tie.spec
     (search rules)

@@ -17,37 +17,37 @@ use borrow.Author.Rules.{rules}
 use Rattle.publication.proofs.try_claim.Statement.{statement}
 use Rattle.publication.proofs.try_claim.Tie as tie
 
-returns : tie.Need-returns
-returns c = let s = c.before.before in
-    let below = negative s.args.length s.ranges.length c.if1.true in
+returns : tie.Need-returns-then-length-lt0
+returns c = let s = c in
+    let below = negative s.args.length s.ranges.length c.if-length-lt0.true in
     claim-refused s.args.rec s.args.log.now s.args.length IllegalArgument ByArgument refl (sym (claim-1 _ _ _ (omega arith)))
 
-cast-before-claim : tie.Need-overflow-cast-before-claim
-cast-before-claim c = let s = c.before.before.before in length-casts s.args.length s.ranges.length c.before.if1.false
+cast-before-claim : tie.Need-overflow_cast-length
+cast-before-claim c = let s = c in length-casts s.args.length s.ranges.length c.if-length-lt0.false
 
-before-claim-requires : tie.Need-before-claim-requires
-before-claim-requires c κs = subst (λ (x : Reading). (x.id < 4294967296) × (x.initial < 4294967296)) (sym c.read-active.ensures) (id-small _ _, initial-small _ _)
+before-claim-requires : tie.Need-before_claim-requires
+before-claim-requires c κs = subst (λ (x : Reading). (x.id < 4294967296) × (x.initial < 4294967296)) (sym c.read_active-v.ensures) (id-small _ _, initial-small _ _)
 
-claim-on-requires : tie.Need-claim-on-requires
-claim-on-requires c κs = let s = c.before.before.before.before.before.before.before in (
-  c.before.before.before.before.read-active.ensures,
-  ap (claim_verdict c.before.before.before.before.read-active.result (length s.args.log.now)) (ap word (to_z-of_z s.ranges.length) ∙ sym (length-bits s.args.length s.ranges.length c.before.before.before.before.before.if1.false))
-      ∙ sym c.before.before.before.before-claim.ensures ∙ c.before.enum_told.given.1,
+claim-on-requires : tie.Need-claim_on-requires
+claim-on-requires c κs = let s = c in (
+  c.read_active-v.ensures,
+  ap (claim_verdict c.read_active-v.result (length s.args.log.now)) (ap word (to_z-of_z s.ranges.length) ∙ sym (length-bits s.args.length s.ranges.length c.if-length-lt0.false))
+      ∙ sym c.before_claim.ensures ∙ c.in-Pass.is,
 )
 
-returns-2 : tie.Need-returns-2
-returns-2 c = let s = c.before.before.before.before.before.before.before.before in
-    claim-refused s.args.rec s.args.log.now s.args.length _ _ c.of-refusal.ensures
-    (ap₂ (λ (x : Reading) (n : ℕ). claim_verdict x (length s.args.log.now) n) (sym c.before.before.before.before.before.read-active.ensures) (sym (length-bits s.args.length s.ranges.length c.before.before.before.before.before.before.if1.false))
-    ∙ sym c.before.before.before.before.before-claim.ensures ∙ c.before.before.e.given.1)
+returns-2 : tie.Need-returns-in-Refuse
+returns-2 c = let s = c in
+    claim-refused s.args.rec s.args.log.now s.args.length _ _ c.of_refusal.ensures
+    (ap₂ (λ (x : Reading) (n : ℕ). claim_verdict x (length s.args.log.now) n) (sym c.read_active-v.ensures) (sym (length-bits s.args.length s.ranges.length c.if-length-lt0.false))
+    ∙ sym c.before_claim.ensures ∙ c.in-Refuse.is)
 
-returns-3 : tie.Need-returns-3
-returns-3 c = let s = c.before.before.before.before.before.before.before.before.before.before in
+returns-3 : tie.Need-returns-in-Pass
+returns-3 c = let s = c in
     let e = to_z-of_z s.ranges.length in
-    (c.before.before.claim-on.ensures.0 ∙ ap (claim_of s.args.rec s.args.log.now) e, c.before.before.claim-on.ensures.1 ∙ ap (claim_bytes s.args.rec s.args.log.now) e)
+    (c.claim_on.ensures.0 ∙ ap (claim_of s.args.rec s.args.log.now) e, c.claim_on.ensures.1 ∙ ap (claim_bytes s.args.rec s.args.log.now) e)
 
-pub try-claim-spec : {M : Type 1} → statement M
-try-claim-spec =
+pub try_claim_spec : {M : Type 1} → statement M
+try_claim_spec =
     tie.close
     (tie.spec
     returns

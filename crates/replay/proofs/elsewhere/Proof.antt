@@ -5,26 +5,26 @@ use borrow.Author.Rules.{rules}
 use Rattle.replay.proofs.elsewhere.Statement.{statement}
 use Rattle.replay.proofs.elsewhere.Tie as tie
 
-returns-2 : tie.Need-returns-2
+returns-2 : tie.Need-returns-in-Fragment
 returns-2 c =
-    let e = sym c.before.enum-told2.given.1 in
+    let e = sym c.in-Fragment.is in
     let s = c.stopped.ensures in
-    (s.0 ∙ ap elsewhere_on e, (s.1.0 ∙ ap elsewhere_by e, s.1.1 ∙ ap (elsewhere_next c.before.before.before.args.before c.before.before.before.args.next) e))
+    (s.0 ∙ ap elsewhere_on e, (s.1.0 ∙ ap elsewhere_by e, s.1.1 ∙ ap (elsewhere_next c.args.before c.args.next) e))
 
-returns-3 : tie.Need-returns-3
+returns-3 : tie.Need-returns-in-Message
 returns-3 c =
-    let e = sym c.before.before.answer.given.1 in
-    let s = c.stopped2.ensures in
-    (s.0 ∙ ap elsewhere_on e, (s.1.0 ∙ ap elsewhere_by e, s.1.1 ∙ ap (elsewhere_next c.before.before.before.before.args.before c.before.before.before.before.args.next) e))
+    let e = sym c.in-Message.is in
+    let s = c.stopped-in-Message.ensures in
+    (s.0 ∙ ap elsewhere_on e, (s.1.0 ∙ ap elsewhere_by e, s.1.1 ∙ ap (elsewhere_next c.args.before c.args.next) e))
 
-returns-4 : tie.Need-returns-4
+returns-4 : tie.Need-returns-in-Refused
 returns-4 c =
-    let e = sym c.before.before.answer2.given.1 in
-    let s = c.stopped3.ensures in
-    (s.0 ∙ ap elsewhere_on e, (s.1.0 ∙ ap elsewhere_by e, s.1.1 ∙ ap (elsewhere_next c.before.before.before.before.args.before c.before.before.before.before.args.next) e))
+    let e = sym c.in-Refused.is in
+    let s = c.stopped-in-Refused.ensures in
+    (s.0 ∙ ap elsewhere_on e, (s.1.0 ∙ ap elsewhere_by e, s.1.1 ∙ ap (elsewhere_next c.args.before c.args.next) e))
 
-pub elsewhere-spec : {M : Type 1} → statement M
-elsewhere-spec =
+pub elsewhere_spec : {M : Type 1} → statement M
+elsewhere_spec =
     tie.close
     (tie.spec
     (search rules)

@@ -8,13 +8,13 @@ use borrow.Author.Rules.{rules}
 use Rattle.replay.proofs.frame_offset.Statement.{statement}
 use Rattle.replay.proofs.frame_offset.Tie as tie
 
-returns : tie.Need-returns
+returns : tie.Need-returns-then-body-lt-HEADER_LENGTH
 returns c =
-    let e = c.before.natural.ensures.0 ∙ ap natural (to_z-of_z c.before.before.ranges.entry) in (omega (arith, e), omega arith)
+    let e = c.natural-body.ensures.0 ∙ ap natural (to_z-of_z c.ranges.entry) in (omega (arith, e), omega arith)
 
-returns-2 : tie.Need-returns-2
+returns-2 : tie.Need-returns-else-body-lt-HEADER_LENGTH
 returns-2 c =
-    let e = c.before.natural.ensures.0 ∙ ap natural (to_z-of_z c.before.before.ranges.entry) in (ap (λ (x : ℕ). x - 32) e, omega (arith, c.before.natural.ensures.1))
+    let e = c.natural-body.ensures.0 ∙ ap natural (to_z-of_z c.ranges.entry) in (ap (λ (x : ℕ). x - 32) e, omega (arith, c.natural-body.ensures.1))
 
-pub frame-offset-spec : {M : Type 1} → statement M
-frame-offset-spec = tie.close (tie.spec (search rules) returns returns-2)
+pub frame_offset_spec : {M : Type 1} → statement M
+frame_offset_spec = tie.close (tie.spec (search rules) returns returns-2)

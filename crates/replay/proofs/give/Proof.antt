@@ -27,48 +27,48 @@ use borrow.Author.Rules.{rules}
 use Rattle.replay.proofs.give.Statement.{statement}
 use Rattle.replay.proofs.give.Tie as tie
 
-abbrev st : tie.After-on-fragment → tie.Start
+abbrev st : tie.After-on_fragment-reply → tie.Start
 st c = c.before.before.before.before.before.before.before
 
-abbrev base : tie.After-on-fragment → ℕ
-base c = (st c).args.k * c.before.before.before.before.read-active.result.term
+abbrev base : tie.After-on_fragment-reply → ℕ
+base c = (st c).args.k * c.read_active-v.result.term
 
-part : (c : tie.After-on-fragment) → to_z w32 (st c).args.k ≡ pos (st c).args.k
+part : (c : tie.After-on_fragment-reply) → to_z w32 (st c).args.k ≡ pos (st c).args.k
 part c = to_z_pos w32 (omega (arith, (st c).requires))
 
-offset : (c : tie.After-on-fragment) → to_z w32 c.before.frame-offset.result ≡ pos (natural (st c).args.entry - 32)
+offset : (c : tie.After-on_fragment-reply) → to_z w32 c.frame_offset.result ≡ pos (natural (st c).args.entry - 32)
 offset c =
-    to_z_pos w32 (omega (arith, c.before.frame-offset.ensures.1))
-    ∙ ap pos (c.before.frame-offset.ensures.0 ∙ ap (λ (z : ℤ). natural z - 32) (to_z-of_z (st c).ranges.entry))
+    to_z_pos w32 (omega (arith, c.frame_offset.ensures.1))
+    ∙ ap pos (c.frame_offset.ensures.0 ∙ ap (λ (z : ℤ). natural z - 32) (to_z-of_z (st c).ranges.entry))
 
 -- the state before the fragment, and behind it
-abbrev S : tie.After-on-fragment → ReplayState
+abbrev S : tie.After-on_fragment-reply → ReplayState
 S c = state_of (st c).args.before (st c).args.buffer.now
 
-abbrev left : tie.After-on-fragment → List ℕ
-left c = c.on-fragment.new.1.1.1.0
+abbrev left : tie.After-on_fragment-reply → List ℕ
+left c = c.on_fragment-reply.new.buffer.1.1.0
 
-abbrev behind : tie.After-on-fragment → ReplayState
-behind c = record { image = image_state (st c).args.passed; sessions = sessions_of c.on-fragment.result.next; buffer = left c }
+abbrev behind : tie.After-on_fragment-reply → ReplayState
+behind c = record { image = image_state (st c).args.passed; sessions = sessions_of c.on_fragment-reply.result.next; buffer = left c }
 
 -- what is made of the assembler's answer
-is : (c : tie.After-on-fragment) (a : Assembled) → c.on-fragment.result.answer ≡ a
+is : (c : tie.After-on_fragment-reply) (a : Assembled) → c.on_fragment-reply.result.answer ≡ a
     → fragment_turn (base c) (S c) (behind c) a
     ≡ fragment_given (st c).args.rec (st c).args.log.now (S c) (image_state (st c).args.passed) (st c).args.k (st c).args.entry
 is c a e =
     fragment-is (st c).args.rec (st c).args.log.now (S c) (image_state (st c).args.passed) (st c).args.k (st c).args.entry
-    _ _ (base c) _ _ a (part c) (offset c) (ap (λ (v : Reading). (st c).args.k * v.term) c.before.before.before.before.read-active.ensures)
-    (sym e ∙ c.on-fragment.ensures.0.0) c.on-fragment.ensures.0.1 c.on-fragment.ensures.1
+    _ _ (base c) _ _ a (part c) (offset c) (ap (λ (v : Reading). (st c).args.k * v.term) c.read_active-v.ensures)
+    (sym e ∙ c.on_fragment-reply.ensures.0.0) c.on_fragment-reply.ensures.0.1 c.on_fragment-reply.ensures.1
 
 -- where the fragment is refused the buffer is as it was
-kept : (c : tie.After-on-fragment) (e : Error) → c.on-fragment.result.answer ≡ Refused e → left c ≡ (st c).args.buffer.now
-kept c e h = c.on-fragment.ensures.1 ∙ refused-keeps (st c).args.rec (st c).args.log.now (S c).sessions (st c).args.buffer.now _ _ e (sym c.on-fragment.ensures.0.0 ∙ h)
+kept : (c : tie.After-on_fragment-reply) (e : Error) → c.on_fragment-reply.result.answer ≡ Refused e → left c ≡ (st c).args.buffer.now
+kept c e h = c.on_fragment-reply.ensures.1 ∙ refused-keeps (st c).args.rec (st c).args.log.now (S c).sessions (st c).args.buffer.now _ _ e (sym c.on_fragment-reply.ensures.0.0 ∙ h)
 
-inside : (c : tie.After-on-fragment) (at n : ℕ) → c.on-fragment.result.answer ≡ Fragment at n → base c + at ≤ length (st c).args.log.now
+inside : (c : tie.After-on_fragment-reply) (at n : ℕ) → c.on_fragment-reply.result.answer ≡ Fragment at n → base c + at ≤ length (st c).args.log.now
 inside c at n e =
-    let t = ap (λ (v : Reading). (st c).args.k * v.term) c.before.before.before.before.read-active.ensures in
+    let t = ap (λ (v : Reading). (st c).args.k * v.term) c.read_active-v.ensures in
     let s = fragment-in (st c).args.rec (st c).args.log.now (S c).sessions (st c).args.buffer.now (st c).args.k (natural (st c).args.entry - 32) at n in
-    let f = s (ap₂ (λ (p o : ℤ). (assemble_of (st c).args.rec (st c).args.log.now (S c).sessions (st c).args.buffer.now p o).answer) (sym (part c)) (sym (offset c)) ∙ sym c.on-fragment.ensures.0.0 ∙ e) in
+    let f = s (ap₂ (λ (p o : ℤ). (assemble_of (st c).args.rec (st c).args.log.now (S c).sessions (st c).args.buffer.now p o).answer-1) (sym (part c)) (sym (offset c)) ∙ sym c.on_fragment-reply.ensures.0.0 ∙ e) in
     omega (arith, t, f)
 
 -- the turn by an answer that is no part of the log
@@ -80,24 +80,24 @@ elsewhere-is base before next buffer left (Message at n) h k = refl
 elsewhere-is base before next buffer left (Refused e) h k =
     ap (λ (b : List ℕ). fragment_turn base (state_of before b) (state_of next left) (Refused e)) (k e refl)
 
-returns : tie.Need-returns
+returns : tie.Need-returns-in_default
 returns c =
-    let f = c.before.before.before.before.before in
-    let a = f.on-fragment.result.answer in
-    turned_as c.elsewhere.result (elsewhere_on a) (elsewhere_by a) _ (left f) c.elsewhere.ensures
-    ∙ elsewhere-is (base f) (st f).args.before _ (st f).args.buffer.now (left f) a c.before.match.keys2 (kept f) ∙ is f a refl
+    let f = c in
+    let a = f.on_fragment-reply.result.answer in
+    turned_as c.elsewhere.result (elsewhere_on a) (elsewhere_by a) _ (left c.before.before.before.before.before) c.elsewhere.ensures
+    ∙ elsewhere-is (base c.before.before.before.before.before) (st c.before.before.before.before.before).args.before _ (st c.before.before.before.before.before).args.buffer.now (left c.before.before.before.before.before) a c.in_default.in_default-own.keys2 (kept c.before.before.before.before.before) ∙ is c.before.before.before.before.before a refl
 
-mul-t19 : tie.Need-overflow-mul-t19
+mul-t19 : tie.Need-overflow_mul-result
 mul-t19 c =
-    record { fits = omega (arith, inside c.before.before.before.before.before.before.before c.before.before.answer.given.0.0 c.before.before.answer.given.0.1.0 c.before.before.answer.given.1, (st c.before.before.before.before.before.before.before).well-formed) }
+    record { fits = omega (arith, inside c.before.before.before.before.before c.in-Fragment.at c.in-Fragment.n c.in-Fragment.is, (st c.before.before.before.before.before).well_formed) }
 
-add-t21 : tie.Need-overflow-add-t21
+add-t21 : tie.Need-overflow_add-result
 add-t21 c =
-    record { fits = omega (arith, inside c.before.before.before.before.before.before.before c.before.before.answer.given.0.0 c.before.before.answer.given.0.1.0 c.before.before.answer.given.1, (st c.before.before.before.before.before.before.before).well-formed) }
+    record { fits = omega (arith, inside c.before.before.before.before.before c.in-Fragment.at c.in-Fragment.n c.in-Fragment.is, (st c.before.before.before.before.before).well_formed) }
 
-returns-2 : tie.Need-returns-2
+returns-2 : tie.Need-returns
 returns-2 c =
-    is c.before.before.before.before.before.before.before (Fragment c.before.before.answer.given.0.0 c.before.before.answer.given.0.1.0) c.before.before.answer.given.1
+    is c.before.before.before.before.before (Fragment c.in-Fragment.at c.in-Fragment.n) c.in-Fragment.is
 
 pub give_spec : {M : Type 1} → statement M
 give_spec =

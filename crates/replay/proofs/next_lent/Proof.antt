@@ -32,9 +32,9 @@ use Rattle.replay.proofs.next_lent.Tie as tie
 abbrev S : tie.Start → ReplayState
 S s = state_of (replay_of s.args.start s.args.count s.args.ids.now s.args.held.now) s.args.buffer.now
 
-gather-requires : tie.Need-gather-requires
+gather-requires : tie.Need-gather-gathered-requires
 gather-requires c κs =
-    let s = c.before.before.before.before.before.before.before.before.before in
+    let s = c in
     let t = s.requires.1.0 in (
       (
         subst (TermsOf (length s.args.log.now)) (sym t) (open-terms _ _ _ _),
@@ -47,12 +47,12 @@ gather-requires c κs =
 term_fits : (s : tie.Start) → SFits w32 s.args.rec.term_length
 term_fits s = search rules
 
-module _ (f : tie.After-gather) where
+module _ (f : tie.After-gather-gathered) where
   abbrev s : tie.Start
   s = f.before.before.before.before.before.before.before.before.before.before
 
   abbrev G : Gathering
-  G = gathering_of f.gather.result f.gather.last.1.0 f.gather.last.1.1.0 f.gather.last.1.1.1.1.0
+  G = gathering_of f.gather-gathered.result f.gather-gathered.last.1.0 f.gather-gathered.last.1.1.0 f.gather-gathered.last.1.1.1.1.0
 
   fits : SFits w64 s.args.start.position
   fits = search rules
@@ -63,42 +63,42 @@ module _ (f : tie.After-gather) where
   -- from where it stands now, all comes as was asked
   comes : resumed s.args.rec s.args.log.now (image_state s.args.start) G ≡ next_of s.args.rec s.args.log.now (S s)
   comes =
-      let w = f.before.before.before.before.before.before.word in
+      let w = f.word in
       let a = s.args in
-      let p = long-by a.start.position f.before.before.before.before.long.ensures.0 fits in
+      let p = long-by a.start.position f.long-p.ensures.0 fits in
       ap (resumed a.rec a.log.now (image_state a.start))
-      (f.gather.ensures ∙ ap₂ (λ (x y : ℕ). gather_from (3 * w.result + 1) a.log.now a.reach.term x y (S s).sessions a.buffer.now) s.pre.1.1 p)
+      (f.gather-gathered.ensures ∙ ap₂ (λ (x y : ℕ). gather_from (3 * w.result + 1) a.log.now a.reach.term x y (S s).sessions a.buffer.now) s.pre.1.1 p)
       ∙ gather-next a.rec a.log.now (3 * w.result + 1) (S s) a.reach.term s.pre.1.0 ids-16 fits
       ∙ next-starts a.rec a.log.now (S s) w.result (word-by a.rec.term_length w.ensures.0 (term_fits s)) s.pre.0
 
 -- the position behind the frames, as the image has it
-placed : (c : tie.After-to-i64) → let f = c.before.before.before in to_z w64 (of_z w64 c.to-i64.result) ≡ to_z w64 f.gather.result.position
-placed c = to_z-of_z {w = w64} {z = c.to-i64.result} (search rules) ∙ c.to-i64.ensures
+placed : (c : tie.After-to_i64-position) → let f = c.before.before.before in to_z w64 (of_z w64 c.to_i64-position.result) ≡ to_z w64 f.gather-gathered.result.position
+placed c = to_z-of_z {w = w64} {z = c.to_i64-position.result} (search rules) ∙ c.to_i64-position.ensures
 
-returns : tie.Need-returns
+returns : tie.Need-returns-then-not-is_end
 returns c =
-    let f = c.before.before.before.before.before in
-    let a = (s f).args in
-    let g = f.gather.result in
-    let e : is_end g.answer ≡ false = sym c.before.is-end.ensures ∙ not-true _ c.if1.true in
-    ap (λ (z : ℤ). giving (record { image = moved_to (image_state a.start) z; sessions = (G f).sessions; buffer = (G f).buffer }) g.answer) (placed c.before.before)
-    ∙ sym (cond-false (is_end g.answer) (next_from g.left a.rec a.log.now (behind a.rec a.log.now (image_state a.start) (G f))) _ e) ∙ comes f
+    let f = c in
+    let a = (s c.before.before.before.before.before).args in
+    let g = f.gather-gathered.result in
+    let e : is_end g.answer ≡ false = sym c.is_end.ensures ∙ not-true _ c.if-not-is_end.true-raw in
+    ap (λ (z : ℤ). giving (record { image = moved_to (image_state a.start) z; sessions = (G c.before.before.before.before.before).sessions; buffer = (G c.before.before.before.before.before).buffer }) g.answer) (placed c.before.before)
+    ∙ sym (cond-false (is_end g.answer) (next_from g.left a.rec a.log.now (behind a.rec a.log.now (image_state a.start) (G c.before.before.before.before.before))) _ e) ∙ comes c.before.before.before.before.before
 
-returns-2 : tie.Need-returns-2
+returns-2 : tie.Need-returns
 returns-2 c =
-    let u = c.before.before.before.before.before.before.before in
-    let f = c.before.before.before.before.before.before.before.before.before.before.before.before.before.before.before.before.before in
-    let a = (s f).args in
-    let g = f.gather.result in
-    let k = c.before.before.before.before.before.before.before.before.before.before.before.before in
-    let e : is_end g.answer ≡ true = sym k.before.is-end.ensures ∙ not-false _ k.if1.false in
-    u.turns.ensures
-    ∙ ap (λ (x : Replay). next_from g.left a.rec a.log.now (state_of x f.gather.new.1.1.1.1.0)) u.before.before.replay-of.ensures
-    ∙ ap (λ (z : ℤ). next_from g.left a.rec a.log.now (record { image = moved_to (image_state a.start) z; sessions = (G f).sessions; buffer = (G f).buffer })) (placed k.before.before)
-    ∙ sym (cond-true (is_end g.answer) _ (giving (behind a.rec a.log.now (image_state a.start) (G f)) g.answer) e) ∙ comes f
+    let u = c in
+    let f = c in
+    let a = (s c.before.before.before.before.before.before.before.before.before.before.before.before.before.before.before.before.before).args in
+    let g = f.gather-gathered.result in
+    let k = c in
+    let e : is_end g.answer ≡ true = sym k.is_end.ensures ∙ not-false _ k.if-not-is_end.false-raw in
+    u.turns-reply.ensures
+    ∙ ap (λ (x : Replay). next_from g.left a.rec a.log.now (state_of x f.gather-gathered.new.held.1.1.1.0)) u.replay_of-replay.ensures
+    ∙ ap (λ (z : ℤ). next_from g.left a.rec a.log.now (record { image = moved_to (image_state a.start) z; sessions = (G c.before.before.before.before.before.before.before.before.before.before.before.before.before.before.before.before.before).sessions; buffer = (G c.before.before.before.before.before.before.before.before.before.before.before.before.before.before.before.before.before).buffer })) (placed c.before.before.before.before.before.before.before.before.before.before.before.before.before.before)
+    ∙ sym (cond-true (is_end g.answer) _ (giving (behind a.rec a.log.now (image_state a.start) (G c.before.before.before.before.before.before.before.before.before.before.before.before.before.before.before.before.before)) g.answer) e) ∙ comes c.before.before.before.before.before.before.before.before.before.before.before.before.before.before.before.before.before
 
-pub next-lent-spec : {M : Type 1} → statement M
-next-lent-spec =
+pub next_lent_spec : {M : Type 1} → statement M
+next_lent_spec =
     tie.close
     (tie.spec
     (search rules)

@@ -5,8 +5,8 @@ use borrow.Author.Rules.{rules}
 use Rattle.replay.proofs.refusal.Statement.{statement}
 use Rattle.replay.proofs.refusal.Tie as tie
 
-returns-2 : tie.Need-returns-2
-returns-2 c = ap refusal_by (sym c.before.answer.given.1)
+returns-2 : tie.Need-returns-in-Refused
+returns-2 c = ap refusal_by (sym c.in-Refused.is)
 
-pub refusal-spec : {M : Type 1} → statement M
-refusal-spec = tie.close (tie.spec (search rules) (search rules) (λ c. search rules) returns-2)
+pub refusal_spec : {M : Type 1} → statement M
+refusal_spec = tie.close (tie.spec (search rules) (search rules) (λ c. search rules) returns-2)

@@ -5,13 +5,13 @@ use Rattle.shelf.specs.Calls.{error_number}
 use Rattle.shelf.proofs.error_number.Statement.{statement}
 use Rattle.shelf.proofs.error_number.Tie as tie
 
-pub error-number-spec : {M : Type 1} → statement M
-error-number-spec =
+pub error_number_spec : {M : Type 1} → statement M
+error_number_spec =
     tie.close
     (tie.spec
     (search rules)
     (search rules)
     (search rules)
-    (λ c. ap error_number (sym c.enum_told.given.1))
-    (λ c. ap error_number (sym c.enum-told2.given.1))
-    (λ c. ap error_number (sym c.enum-told3.given.1)))
+    (λ c. ap error_number (sym c.in-IllegalArgument.is))
+    (λ c. ap error_number (sym c.in-IllegalRecord.is))
+    (λ c. ap error_number (sym c.in-NotFilled.is)))

@@ -13,66 +13,66 @@ use Rattle.shelf.proofs.Calls.{term-size, row-1, row-2, row-26, no_row, unshelve
 use Rattle.shelf.proofs.unshelve.Statement.{statement}
 use Rattle.shelf.proofs.unshelve.Tie as tie
 
-abbrev st : tie.After-good-unshelve → tie.Start
+abbrev st : tie.After-good_unshelve → tie.Start
 st g = g.before.before.before.before
 
-abbrev v : tie.After-good-unshelve → Reading
-v g = g.before.read-active.result
+abbrev v : tie.After-good_unshelve → Reading
+v g = g.read_active-v.result
 
-abbrev good : tie.After-good-unshelve → Bool
+abbrev good : tie.After-good_unshelve → Bool
 good g = good_unshelve (v g) (length (st g).args.shelf.now) (length (st g).args.out.now)
 
-abbrev fit : tie.After-good-unshelve → Bool
+abbrev fit : tie.After-good_unshelve → Bool
 fit g = accepted (length (st g).args.out.now) (st g).args.shelf.now
 
-told : (g : tie.After-good-unshelve) {a : Shelved} → rows (good g) (sound_record (v g)) (fit g) ≡ a → let s = (st g).args in
+told : (g : tie.After-good_unshelve) {a : Shelved} → rows (good g) (sound_record (v g)) (fit g) ≡ a → let s = (st g).args in
     (a ≡ unshelve_of s.rec s.shelf.now (length s.out.now)) × (output_by a (term_of (length s.out.now) s.shelf.now) s.out.now ≡ unshelve_bytes s.rec s.shelf.now s.out.now)
-told g h = let s = (st g).args in unshelve-by s.rec s.shelf.now s.out.now (v g) g.before.read-active.ensures h
+told g h = let s = (st g).args in unshelve-by s.rec s.shelf.now s.out.now (v g) g.read_active-v.ensures h
 
-passed : (c : tie.Else2) → let g = c.before.before.before in (good g ≡ true) × (sound_record (v g) ≡ true)
+passed : (c : tie.Else-not-is_sound_record) → let g = c in (good c.before.before.before ≡ true) × (sound_record (v c.before.before.before) ≡ true)
 passed c = (
-  sym c.before.before.before.good-unshelve.ensures ∙ not-false _ c.before.before.if1.false,
-  sym c.before.is-sound-record.ensures ∙ not-false _ c.if2.false,
+  sym c.good_unshelve.ensures ∙ not-false _ c.if-not-good_unshelve.false-raw,
+  sym c.is_sound_record.ensures ∙ not-false _ c.if-not-is_sound_record.false-raw,
 )
 
-returns : tie.Need-returns
+returns : tie.Need-returns-then-not-good_unshelve
 returns c =
-    let g = c.before in
-    told g (row-1 (good g) (sound_record (v g)) (fit g) (sym g.good-unshelve.ensures ∙ not-true _ c.if1.true))
+    let g = c in
+    told c.before (row-1 (good c.before) (sound_record (v c.before)) (fit c.before) (sym g.good_unshelve.ensures ∙ not-true _ c.if-not-good_unshelve.true-raw))
 
-returns-2 : tie.Need-returns-2
+returns-2 : tie.Need-returns-then-not-is_sound_record
 returns-2 c =
-    let g = c.before.before.before in
-    told g (row-2 (good g) (sound_record (v g)) (fit g) (sym g.good-unshelve.ensures ∙ not-false _ c.before.before.if1.false) (sym c.before.is-sound-record.ensures ∙ not-true _ c.if2.true))
+    let g = c in
+    told c.before.before.before (row-2 (good c.before.before.before) (sound_record (v c.before.before.before)) (fit c.before.before.before) (sym g.good_unshelve.ensures ∙ not-false _ c.if-not-good_unshelve.false-raw) (sym c.is_sound_record.ensures ∙ not-true _ c.if-not-is_sound_record.true-raw))
 
-unshelve-term-requires : tie.Need-unshelve-term-requires
+unshelve-term-requires : tie.Need-unshelve_term-requires
 unshelve-term-requires c κs =
-    let e = c.before in
-    let g = e.before.before.before in
-    term-size (v g) (length (st g).args.shelf.now) (length (st g).args.out.now) (passed e).0 (passed e).1
+    let e = c in
+    let g = c in
+    term-size (v c.before.before.before.before) (length (st c.before.before.before.before).args.shelf.now) (length (st c.before.before.before.before).args.out.now) (passed c.before).0 (passed c.before).1
 
-returns-3 : tie.Need-returns-3
+returns-3 : tie.Need-returns-then-not-unshelve_term
 returns-3 c =
-    let d = c.before.before.before in
-    let e = d.before.before in
-    let g = e.before.before.before in
-    let f = sym d.unshelve-term.ensures.0 ∙ not-true _ c.if3.true in
-    let u = told g (row-26 (good g) (sound_record (v g)) (fit g) (passed e).0 (passed e).1 f) in
-    let s = (st g).args in
-    (u.0, d.unshelve-term.ensures.1 ∙ ap (λ (b : Bool). cond b (term_of (length s.out.now) s.shelf.now) s.out.now) f ∙ u.1)
+    let d = c in
+    let e = c in
+    let g = c in
+    let f = sym d.unshelve_term.ensures.0 ∙ not-true _ c.if-not-unshelve_term.true-raw in
+    let u = told c.before.before.before.before.before.before.before.before (row-26 (good c.before.before.before.before.before.before.before.before) (sound_record (v c.before.before.before.before.before.before.before.before)) (fit c.before.before.before.before.before.before.before.before) (passed c.before.before.before.before.before).0 (passed c.before.before.before.before.before).1 f) in
+    let s = (st c.before.before.before.before.before.before.before.before).args in
+    (u.0, d.unshelve_term.ensures.1 ∙ ap (λ (b : Bool). cond b (term_of (length s.out.now) s.shelf.now) s.out.now) f ∙ u.1)
 
-returns-4 : tie.Need-returns-4
+returns-4 : tie.Need-returns
 returns-4 c =
-    let d = c.before.before.before in
-    let e = d.before.before in
-    let g = e.before.before.before in
-    let f = sym d.unshelve-term.ensures.0 ∙ not-false _ c.if3.false in
-    let u = told g (no_row (good g) (sound_record (v g)) (fit g) (passed e).0 (passed e).1 f) in
-    let s = (st g).args in
-    (u.0, d.unshelve-term.ensures.1 ∙ ap (λ (b : Bool). cond b (term_of (length s.out.now) s.shelf.now) s.out.now) f ∙ u.1)
+    let d = c in
+    let e = c in
+    let g = c in
+    let f = sym d.unshelve_term.ensures.0 ∙ not-false _ c.if-not-unshelve_term.false-raw in
+    let u = told c.before.before.before.before.before.before.before.before (no_row (good c.before.before.before.before.before.before.before.before) (sound_record (v c.before.before.before.before.before.before.before.before)) (fit c.before.before.before.before.before.before.before.before) (passed c.before.before.before.before.before).0 (passed c.before.before.before.before.before).1 f) in
+    let s = (st c.before.before.before.before.before.before.before.before).args in
+    (u.0, d.unshelve_term.ensures.1 ∙ ap (λ (b : Bool). cond b (term_of (length s.out.now) s.shelf.now) s.out.now) f ∙ u.1)
 
-pub unshelve-spec : {M : Type 1} → statement M
-unshelve-spec =
+pub unshelve_spec : {M : Type 1} → statement M
+unshelve_spec =
     tie.close
     (tie.spec
     (search rules)

@@ -21,111 +21,111 @@ use Rattle.tally.proofs.Answering.{Taken, taken, partition-refused, partition-by
 use Rattle.tally.proofs.tally_by_partition.Statement.{statement}
 use Rattle.tally.proofs.tally_by_partition.Tie as tie
 
-rows : (c : tie.After-rows) → let a = c.before.before.args in c.rows.result ≡ span_rows a.rec (length a.log.now) a.from a.to Pass
+rows : (c : tie.After-rows) → let a = c.args in c.rows.result ≡ span_rows a.rec (length a.log.now) a.from a.to Pass
 rows c = c.rows.ensures ∙ search rules
 
 -- the place of the rows, and the entry
-abbrev judged : tie.After-long2 → tie.After-rows
-judged c = c.before.before.before.before.before.before.before.before
+abbrev judged : tie.After-long-end → tie.After-rows
+judged c = c.before.before.before.before.before.before.before
 
-abbrev st : tie.After-long2 → tie.Start
+abbrev st : tie.After-long-end → tie.Start
 st c = (judged c).before.before
 
 -- what was read: the bits to shift, and the two positions
-abbrev bits : tie.After-long2 → ℕ
-bits c = c.before.before.before.position-bits-to-shift.result
+abbrev bits : tie.After-long-end → ℕ
+bits c = c.position_bits_to_shift-bits.result
 
-abbrev start : tie.After-long2 → ℕ
-start c = c.before.long.result
+abbrev start : tie.After-long-end → ℕ
+start c = c.long-start.result
 
-abbrev stream : tie.After-long2 → Stream
+abbrev stream : tie.After-long-end → Stream
 stream c = stream_by (bits c) (word (st c).args.rec.initial_term_id) (st c).args.log.now
 
-take : (c : tie.After-long2) → let a = (st c).args in Taken a.rec a.log.now a.from a.to (bits c) (start c) c.long2.result
+take : (c : tie.After-long-end) → let a = (st c).args in Taken a.rec a.log.now a.from a.to (bits c) (start c) c.long-end.result
 take c =
     let s = st c in
     let a = s.args in
-    let b = c.before.before.before in
-    taken a.rec a.log.now a.from a.to s.fits.from s.fits.to (sym b.before.before.before.enum_told.given.1 ∙ rows (judged c)) _ _ _ _
-    (b.before.word.ensures.0 ∙ search rules) b.position-bits-to-shift.ensures
-    (long-by a.from c.before.long.ensures.0 s.fits.from) (long-by a.to c.long2.ensures.0 s.fits.to)
+    let b = c in
+    taken a.rec a.log.now a.from a.to s.fits.from s.fits.to (sym b.in-Pass.is ∙ rows (judged c)) _ _ _ _
+    (b.word.ensures.0 ∙ search rules) b.position_bits_to_shift-bits.ensures
+    (long-by a.from c.long-start.ensures.0 s.fits.from) (long-by a.to c.long-end.ensures.0 s.fits.to)
 
 -- the first term's id is one of 32 bits
-first-id : (c : tie.After-long2) → SFits w32 (st c).args.rec.initial_term_id
+first-id : (c : tie.After-long-end) → SFits w32 (st c).args.rec.initial_term_id
 first-id c = search rules
 
 -- the answer, by the third test and the first frame's verdict
-answer : (c : tie.After-in-three) (b : Bool) (y : Verdict) → let l = c.before in let a = (st l).args in
-    c.in_three_lem.result ≡ b → y ≡ first_frame (2 ^ min (bits l) 30) a.log.now (start l) l.long2.result
-    → partitioned_by (stream l) (start l) l.long2.result (cond b y (Refuse IllegalArgument)) ≡ partition_tally_of a.rec a.log.now a.from a.to
+answer : (c : tie.After-in_three) (b : Bool) (y : Verdict) → let l = c in let a = (st c.before).args in
+    c.in_three_lem.result ≡ b → y ≡ first_frame (2 ^ min (bits c.before) 30) a.log.now (start c.before) l.long-end.result
+    → partitioned_by (stream c.before) (start c.before) l.long-end.result (cond b y (Refuse IllegalArgument)) ≡ partition_tally_of a.rec a.log.now a.from a.to
 answer c b y eb ey =
-    let l = c.before in
-    let a = (st l).args in
-    partition-by a.rec a.log.now a.from a.to (bits l) (start l) l.long2.result (take l) b y (sym c.in_three_lem.ensures ∙ eb) ey
+    let l = c in
+    let a = (st c.before).args in
+    partition-by a.rec a.log.now a.from a.to (bits c.before) (start c.before) l.long-end.result (take c.before) b y (sym c.in_three_lem.ensures ∙ eb) ey
 
 -- where the test passes
-in_three_lem : (c : tie.Else1) → let l = c.before.before in in_three (2 ^ min (bits l) 30) (start l) l.long2.result ≡ true
-in_three_lem c = sym c.before.in_three_lem.ensures ∙ not-false _ c.if1.false
+in_three_lem : (c : tie.Else-not-in_three) → let l = c in in_three (2 ^ min (bits c.before.before) 30) (start c.before.before) l.long-end.result ≡ true
+in_three_lem c = sym c.in_three_lem.ensures ∙ not-false _ c.if-not-in_three.false-raw
 
-three : (c : tie.Else1) → let l = c.before.before in l.long2.result ≤ (start l / (stream l).term + 3) * (stream l).term
+three : (c : tie.Else-not-in_three) → let l = c in l.long-end.result ≤ (start c.before.before / (stream c.before.before).term + 3) * (stream c.before.before).term
 unfolding stream_by
 three c = leb-true _ _ (in_three_lem c)
 
-returns : tie.Need-returns
-returns c = answer c.before false _ (not-true _ c.if1.true) refl
+returns : tie.Need-returns-then-not-in_three
+returns c = answer c.before false _ (not-true _ c.if-not-in_three.true-raw) refl
 
-returns-2 : tie.Need-returns-2
+returns-2 : tie.Need-returns-in-Refuse
 returns-2 c =
-    let p = c.before.before.before in
-    let a = p.before.before.args in
-    partition-refused a.rec a.log.now a.from a.to _ (sym c.before.e.given.1 ∙ rows p)
+    let p = c in
+    let a = p.args in
+    partition-refused a.rec a.log.now a.from a.to _ (sym c.in-Refuse.is ∙ rows c.before)
 
-returns-3 : tie.Need-returns-3
+returns-3 : tie.Need-returns-in-Refuse-first_frame
 returns-3 c =
-    let f = c.before.before.before in
-    answer f.before.before true _ (not-false _ f.before.if1.false) (sym c.before.e2.given.1 ∙ f.first_frame.ensures)
+    let f = c in
+    answer c.before.before.before true _ (not-false _ f.if-not-in_three.false-raw) (sym c.in-Refuse-first_frame.is ∙ f.first_frame.ensures)
 
 -- the parts; their end and their totals are below the second position
-abbrev tested : tie.After-by-partition → tie.Else1
-tested c = c.before.before.before.before
+abbrev tested : tie.After-by_partition-w → tie.Else-not-in_three
+tested c = c.before.before.before
 
-abbrev read : tie.After-by-partition → tie.After-long2
+abbrev read : tie.After-by_partition-w → tie.After-long-end
 read c = (tested c).before.before
 
-parted : (c : tie.After-by-partition) → let l = read c in c.by-partition.result ≡ parted_of (stream l) (start l) l.long2.result
-parted c = c.by-partition.ensures ∙ ap (λ (z : ℤ). let l = read c in parted_of (stream_by (bits l) (word z) (st l).args.log.now) (start l) l.long2.result) (to_z-of_z (first-id (read c)))
+parted : (c : tie.After-by_partition-w) → let l = read c in c.by_partition-w.result ≡ parted_of (stream l) (start l) l.long-end.result
+parted c = c.by_partition-w.ensures ∙ ap (λ (z : ℤ). let l = read c in parted_of (stream_by (bits l) (word z) (st l).args.log.now) (start l) l.long-end.result) (to_z-of_z (first-id (read c)))
 
-ended : (c : tie.After-by-partition) → c.by-partition.result.end < 9223372036854775808
+ended : (c : tie.After-by_partition-w) → c.by_partition-w.result.end < 9223372036854775808
 ended c =
     let l = read c in
     let o = (take l).ordered in
-    omega (arith, ap (λ (x : Parted). x.end) (parted c), end_low (stream l) (start l) l.long2.result o.0 (three (tested c)), o.1)
+    omega (arith, ap (λ (x : Parted). x.end) (parted c), end_low (stream l) (start l) l.long-end.result o.0 (three (tested c)), o.1)
 
-added : (c : tie.After-by-partition) → total (all_of c.by-partition.result.sums) < 18446744073709551616
+added : (c : tie.After-by_partition-w) → total (all_of c.by_partition-w.result.sums) < 18446744073709551616
 added c =
     let l = read c in
     let o = (take l).ordered in
-    omega (arith, ap (λ (x : Parted). total (all_of x.sums)) (parted c), total-low (stream l) (start l) l.long2.result o.0 (three (tested c)), o.1)
+    omega (arith, ap (λ (x : Parted). total (all_of x.sums-1)) (parted c), total-low (stream l) (start l) l.long-end.result o.0 (three (tested c)), o.1)
 
-returns-4 : tie.Need-returns-4
+returns-4 : tie.Need-returns-in-Pass-first_frame
 returns-4 c =
-    let t = c.before in
-    let y = t.before in
-    let w = y.before.before in
-    let l = read w in
+    let t = c in
+    let y = c in
+    let w = c in
+    let l = read c.before.before.before.before in
     let s = stream l in
-    let n = l.long2.result in
-    let x = w.by-partition.result in
-    let r : y.why.result ≡ why s n x.end = y.why.ensures ∙ ap (λ (z : ℤ). why (stream_by (bits l) (word z) (st l).args.log.now) n x.end) (to_z-of_z (first-id l)) in
-    let f = w.before.before.before in
-    ap (λ (q : Stop). Tally x.sums t.together.result (to_z w64 x.end) q) r
-    ∙ ap (λ (q : Sums). Tally x.sums q (to_z w64 x.end) (why s n x.end)) t.together.ensures
-    ∙ ap (λ (q : ℤ). Tally x.sums (all_of x.sums) q (why s n x.end)) (to_z_pos w64 (ended w))
-    ∙ ap (λ (q : Parted). Tally q.sums (all_of q.sums) (pos q.end) (why s n q.end)) (parted w)
-    ∙ answer f.before.before true Pass (not-false _ f.before.if1.false) (sym w.before.enum-told2.given.1 ∙ f.first_frame.ensures)
+    let n = l.long-end.result in
+    let x = w.by_partition-w.result in
+    let r : y.why-stop.result ≡ why s n x.end = y.why-stop.ensures ∙ ap (λ (z : ℤ). why (stream_by (bits l) (word z) (st l).args.log.now) n x.end) (to_z-of_z (first-id l)) in
+    let f = c in
+    ap (λ (q : Stop). Tally x.sums-1 t.together.result (to_z w64 x.end) q) r
+    ∙ ap (λ (q : Sums). Tally x.sums-1 q (to_z w64 x.end) (why s n x.end)) t.together.ensures
+    ∙ ap (λ (q : ℤ). Tally x.sums-1 (all_of x.sums-1) q (why s n x.end)) (to_z_pos w64 (ended c.before.before.before.before))
+    ∙ ap (λ (q : Parted). Tally q.sums-1 (all_of q.sums-1) (pos q.end) (why s n q.end)) (parted c.before.before.before.before)
+    ∙ answer c.before.before.before.before.before.before.before.before true Pass (not-false _ f.if-not-in_three.false-raw) (sym w.in-Pass-first_frame.is ∙ f.first_frame.ensures)
 
-pub tally-by-partition-spec : {M : Type 1} → statement M
-tally-by-partition-spec =
+pub tally_by_partition_spec : {M : Type 1} → statement M
+tally_by_partition_spec =
     tie.close
     (tie.spec
     (search rules)
@@ -141,7 +141,7 @@ tally-by-partition-spec =
     (search rules)
     (search rules)
     (search rules)
-    (λ c κs. let e = c.before.before.before in ((take e.before.before).ordered, in_three_lem e))
+    (λ c κs. let e = c in ((take c.before.before.before.before).ordered, in_three_lem c.before.before))
     (search rules)
     (λ c κs. added c.before.before)
     (λ c. omega (arith, ended c.before.before.before.before))

@@ -3,14 +3,14 @@ use borrow.Author.Rules.{rules}
 use Rattle.capi.proofs.cards.card_read.Statement.{statement}
 use Rattle.capi.proofs.cards.card_read.Tie as tie
 
-returns : tie.Need-returns
-returns c = rw c.before.answer.given.1
+returns : tie.Need-returns-in-Found
+returns c = rw c.in-Found.is
 
-returns-2 : tie.Need-returns-2
-returns-2 c = search (rules, ← c.before.error-number.ensures, c.no-card.ensures, c.before.before.before.answer2.given.1)
+returns-2 : tie.Need-returns-in-Refused
+returns-2 c = search (rules, ← c.error_number.ensures, c.no_card.ensures, c.in-Refused.is)
 
-pub card-read-spec : {M : Type 1} → statement M
-card-read-spec =
+pub card_read_spec : {M : Type 1} → statement M
+card_read_spec =
     tie.close
     (tie.spec
     (search rules)

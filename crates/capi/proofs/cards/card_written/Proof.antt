@@ -3,12 +3,12 @@ use borrow.Author.Rules.{rules}
 use Rattle.capi.proofs.cards.card_written.Statement.{statement}
 use Rattle.capi.proofs.cards.card_written.Tie as tie
 
-returns : tie.Need-returns
-returns c = rw c.before.answer.given.1
+returns : tie.Need-returns-in-Length
+returns c = rw c.in-Length.is
 
-returns-2 : tie.Need-returns-2
-returns-2 c = search (rules, ← c.error-number.ensures, c.before.before.answer2.given.1)
+returns-2 : tie.Need-returns-in-Refused
+returns-2 c = search (rules, ← c.error_number.ensures, c.in-Refused.is)
 
-pub card-written-spec : {M : Type 1} → statement M
-card-written-spec =
+pub card_written_spec : {M : Type 1} → statement M
+card_written_spec =
     tie.close (tie.spec (search rules) (search rules) (search rules) returns returns-2)

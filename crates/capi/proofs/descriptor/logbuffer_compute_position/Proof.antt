@@ -4,8 +4,8 @@ use Rattle.capi.proofs.descriptor.logbuffer_compute_position.Statement.{statemen
 use Rattle.capi.proofs.descriptor.logbuffer_compute_position.Tie as tie
 
 returns : tie.Need-returns
-returns c = rw (c.positioned.ensures, c.before.compute-position.ensures) (search rules)
+returns c = rw (c.positioned.ensures, c.compute_position.ensures) (search rules)
 
-pub logbuffer-compute-position-spec : {M : Type 1} → statement M
-logbuffer-compute-position-spec =
+pub logbuffer_compute_position_spec : {M : Type 1} → statement M
+logbuffer_compute_position_spec =
     tie.close (tie.spec (search rules) (search rules) returns)

@@ -5,7 +5,7 @@ use Rattle.capi.proofs.descriptor.logbuffer_term_id.Statement.{statement}
 use Rattle.capi.proofs.descriptor.logbuffer_term_id.Tie as tie
 
 returns : tie.Need-returns
-returns c = search (promised c.term-id.ensures, rules)
+returns c = search (promised c.term_id.ensures, rules)
 
-pub logbuffer-term-id-spec : {M : Type 1} → statement M
-logbuffer-term-id-spec = tie.close (tie.spec (search rules) returns)
+pub logbuffer_term_id_spec : {M : Type 1} → statement M
+logbuffer_term_id_spec = tie.close (tie.spec (search rules) returns)

@@ -4,7 +4,7 @@ use Rattle.capi.proofs.descriptor.logbuffer_term_offset.Statement.{statement}
 use Rattle.capi.proofs.descriptor.logbuffer_term_offset.Tie as tie
 
 returns : tie.Need-returns
-returns c = rw c.term-offset.ensures (search rules)
+returns c = rw c.term_offset.ensures (search rules)
 
-pub logbuffer-term-offset-spec : {M : Type 1} → statement M
-logbuffer-term-offset-spec = tie.close (tie.spec (search rules) returns)
+pub logbuffer_term_offset_spec : {M : Type 1} → statement M
+logbuffer_term_offset_spec = tie.close (tie.spec (search rules) returns)

@@ -5,8 +5,8 @@ use Rattle.capi.proofs.holdings.logbuffer_holding.Tie as tie
 
 returns : tie.Need-returns
 returns c =
-    let f = c.before.card-that-holds.ensures in rw (c.replied.ensures, f, c.before.before.record-in.ensures) (search rules)
+    let f = c.card_that_holds.ensures in rw (c.replied.ensures, f, c.record_in.ensures) (search rules)
 
-pub logbuffer-holding-spec : {M : Type 1} → statement M
-logbuffer-holding-spec =
+pub logbuffer_holding_spec : {M : Type 1} → statement M
+logbuffer_holding_spec =
     tie.close (tie.spec (search rules) (search rules) (search rules) returns)

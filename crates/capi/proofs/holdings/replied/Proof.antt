@@ -10,11 +10,11 @@ use Rattle.capi.proofs.holdings.replied.Tie as tie
 
 returns : tie.Need-returns
 returns c =
-    let n = c.before.told.result in
+    let n = c.told-n.result in
     let p : to_z w32 (of_z w32 n.code) ≡ n.code = search rules in
     let q : to_z w32 (of_z w32 n.stop) ≡ n.stop = search rules in
     let r : to_z w64 (of_z w64 n.position) ≡ n.position = search rules in
-    rw (p, q, r) (ap (λ (x : Numbers). reply_with x c.before.before.before.before.before.args.held) c.before.told.ensures)
+    rw (p, q, r) (ap (λ (x : Numbers). reply_with x c.args.held) c.told-n.ensures)
 
-pub replied-spec : {M : Type 1} → statement M
-replied-spec = tie.close (tie.spec (search rules) returns)
+pub replied_spec : {M : Type 1} → statement M
+replied_spec = tie.close (tie.spec (search rules) returns)

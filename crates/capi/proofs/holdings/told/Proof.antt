@@ -9,27 +9,27 @@ use mir.Val.{to_z, of_z}
 use Rattle.capi.proofs.holdings.told.Statement.{statement}
 use Rattle.capi.proofs.holdings.told.Tie as tie
 
-returns : tie.Need-returns
+returns : tie.Need-returns-in-Holds
 returns c =
-    let n = c.before.before.before.answer.given in
+    let n = c.answer-1.given in
     let p : to_z w64 (of_z w64 n.0.0) ≡ n.0.0 = search rules in
-    let q : to_z w32 (of_z w32 c.before.stop-number.result) ≡ c.before.stop-number.result = search rules in
-    rw (n.1, p, q, c.before.stop-number.ensures, c.writing-size.ensures)
+    let q : to_z w32 (of_z w32 c.stop_number.result) ≡ c.stop_number.result = search rules in
+    rw (n.1, p, q, c.stop_number.ensures, c.writing_size.ensures)
 
-returns-2 : tie.Need-returns-2
+returns-2 : tie.Need-returns-in-NoCard
 returns-2 c =
-    let n = c.before.before.before.answer2.given in
+    let n = c.answer-in-NoCard-1.given in
     let p : to_z w64 (of_z w64 n.0.0) ≡ n.0.0 = search rules in
-    let q : to_z w32 (of_z w32 c.before.stop-number2.result) ≡ c.before.stop-number2.result = search rules in
-    rw (n.1, p, q, c.before.stop-number2.ensures, c.writing-size2.ensures)
+    let q : to_z w32 (of_z w32 c.stop_number-in-NoCard.result) ≡ c.stop_number-in-NoCard.result = search rules in
+    rw (n.1, p, q, c.stop_number-in-NoCard.ensures, c.writing_size-in-NoCard.ensures)
 
-returns-3 : tie.Need-returns-3
+returns-3 : tie.Need-returns-in-Refused
 returns-3 c =
     let z : to_z w64 c.place.result ≡ pos c.place.result = to_z_pos w64 (omega arith) in
-    search (rules, z, ← c.before.number.ensures, ← c.place.ensures, c.before.before.before.answer3.given.1)
+    search (rules, z, ← c.number.ensures, ← c.place.ensures, c.in-Refused.is)
 
-pub told-spec : {M : Type 1} → statement M
-told-spec =
+pub told_spec : {M : Type 1} → statement M
+told_spec =
     tie.close
     (tie.spec
     (search rules)

@@ -19,26 +19,26 @@ use borrow.Author.Rules.{rules}
 use Rattle.capi.proofs.images.logbuffer_image_block_poll.Statement.{statement}
 use Rattle.capi.proofs.images.logbuffer_image_block_poll.Tie as tie
 
-term_fits : (c : tie.After-record-in) → SFits w32 c.record-in.result.term_length
+term_fits : (c : tie.After-record_in-r) → SFits w32 c.record_in-r.result.term_length
 term_fits c = search rules
 
 returns : tie.Need-returns
 returns c =
-    let kp = c.before in
-    let kc = kp.before.before.before.before in
-    let kr = kc.before.before.before in
-    let ki = kr.before in
-    let s = ki.before.before.before in
+    let kp = c in
+    let kc = c in
+    let kr = c in
+    let ki = c in
+    let s = c in
     let a = s.args in
-    let r = kr.record-in.ensures in
-    let i = ki.image-in.ensures in
-    let f = kc.block-poll.ensures in
+    let r = kr.record_in-r.ensures in
+    let i = ki.image_in-i.ensures in
+    let f = kc.block_poll-o.ensures in
     let q0 = of-3 (λ (r : LogRecord) (i : Image) (y : ℤ). block_reply_of (block_poll_of r a.log.now (state_of i) y)) (f) r i (to_z-of_z s.ranges.limit) in
-    let k : kp.partition-at.result ≡ shifted (record_in a.rec.now) a.log.now (image_in a.image.now).position =
-    of-2 (λ (t p : ℤ). pos (index_by_position (long p) (bits_to_shift (word t)))) kp.partition-at.ensures (promised (ap (λ (x : LogRecord). x.term_length) r) (term_fits kr)) (promised64 (ap (λ (x : Image). x.position) i) (let h = ki.image-in.type-inv in search (rules, h))) in
-    let e = c.block-polled.ensures ∙ ap₂ (λ (x : ℤ) (o : BlockReply). block_reply x o.answer) (promised k (let h = kp.partition-at.type-inv in search (rules, h))) q0 ∙ block_in (record_in a.rec.now) a.log.now (state_of (image_in a.image.now)) a.limit in
-    (e, kp.before.image-out.ensures ∙ ap (λ (o : BlockReply). image_out a.image.now (state_of o.next)) q0)
+    let k : kp.partition_at-partition.result ≡ shifted (record_in a.rec.now) a.log.now (image_in a.image.now).position =
+    of-2 (λ (t p : ℤ). pos (index_by_position (long p) (bits_to_shift (word t)))) kp.partition_at-partition.ensures (promised (ap (λ (x : LogRecord). x.term_length) r) (term_fits c.before.before.before.before.before.before.before.before)) (promised64 (ap (λ (x : Image). x.position) i) (let h = ki.image_in-i.type_inv in search (rules, h))) in
+    let e = c.block_polled.ensures ∙ ap₂ (λ (x : ℤ) (o : BlockReply). block_reply x o.answer) (promised k (let h = kp.partition_at-partition.type_inv in search (rules, h))) q0 ∙ block_in (record_in a.rec.now) a.log.now (state_of (image_in a.image.now)) a.limit in
+    (e, kp.image_out.ensures ∙ ap (λ (o : BlockReply). image_out a.image.now (state_of o.next-1)) q0)
 
-pub logbuffer-image-block-poll-spec : {M : Type 1} → statement M
-logbuffer-image-block-poll-spec =
+pub logbuffer_image_block_poll_spec : {M : Type 1} → statement M
+logbuffer_image_block_poll_spec =
     tie.close (tie.spec (search rules) (search rules) (search rules) (search rules) (search rules) (search rules) returns)

@@ -6,8 +6,8 @@ use Rattle.capi.proofs.images.logbuffer_image_close.Tie as tie
 
 returns : tie.Need-returns
 returns c =
-    let f = c.before.before.before.before.close.ensures in rw (promised c.outcome-code.ensures (search rules), c.before.shut_out.ensures, f, c.before.before.before.before.before.record-in.ensures, c.before.before.before.before.before.before.image-in.ensures) (search rules)
+    let f = c.close-o.ensures in rw (promised c.outcome_code.ensures (search rules), c.shut_out.ensures, f, c.record_in.ensures, c.image_in-i.ensures) (search rules)
 
-pub logbuffer-image-close-spec : {M : Type 1} → statement M
-logbuffer-image-close-spec =
+pub logbuffer_image_close_spec : {M : Type 1} → statement M
+logbuffer_image_close_spec =
     tie.close (tie.spec (search rules) (search rules) (search rules) (search rules) (search rules) returns)

@@ -19,27 +19,27 @@ use borrow.Author.Rules.{rules}
 use Rattle.capi.proofs.images.logbuffer_image_controlled_peek.Statement.{statement}
 use Rattle.capi.proofs.images.logbuffer_image_controlled_peek.Tie as tie
 
-term_fits : (c : tie.After-record-in) → SFits w32 c.record-in.result.term_length
+term_fits : (c : tie.After-record_in-r) → SFits w32 c.record_in-r.result.term_length
 term_fits c = search rules
 
 returns : tie.Need-returns
 returns c =
-    let kp = c.before in
-    let kc = kp.before.before in
-    let kr = kc.before.before.before in
-    let ki = kr.before in
-    let s = ki.before.before.before in
+    let kp = c in
+    let kc = c in
+    let kr = c in
+    let ki = c in
+    let s = c in
     let a = s.args in
-    let r = kr.record-in.ensures in
-    let i = ki.image-in.ensures in
-    let f = kc.controlled-peek.ensures in
-    let q0 = of-4 (λ (r : LogRecord) (i : Image) (x : ℤ) (y : ℤ). peek_reply_of (state_of i) (peek_of r a.log.now (state_of i) a.entries.now a.actions.now x y)) f.0 r i (to_z-of_z s.ranges.start) (to_z-of_z s.ranges.limit-position) in
-    let q1 = of-4 (λ (r : LogRecord) (i : Image) (x : ℤ) (y : ℤ). peek_slots r a.log.now (state_of i) a.entries.now a.actions.now x y) f.1 r i (to_z-of_z s.ranges.start) (to_z-of_z s.ranges.limit-position) in
-    let k : kp.partition-at.result ≡ shifted (record_in a.rec.now) a.log.now a.start =
-    of-2 (λ (t p : ℤ). pos (index_by_position (long p) (bits_to_shift (word t)))) kp.partition-at.ensures (promised (ap (λ (x : LogRecord). x.term_length) r) (term_fits kr)) (to_z-of_z s.ranges.start) in
-    let e = c.peeked.ensures ∙ ap₂ (λ (x : ℤ) (o : PeekReply). peek_reply x o.answer) (promised k (let h = kp.partition-at.type-inv in search (rules, h))) q0 ∙ peek-in (record_in a.rec.now) a.log.now (state_of (image_in a.image.now)) a.entries.now a.actions.now a.start a.limit-position in
+    let r = kr.record_in-r.ensures in
+    let i = ki.image_in-i.ensures in
+    let f = kc.controlled_peek-o.ensures in
+    let q0 = of-4 (λ (r : LogRecord) (i : Image) (x : ℤ) (y : ℤ). peek_reply_of (state_of i) (peek_of r a.log.now (state_of i) a.entries.now a.actions.now x y)) f.0 r i (to_z-of_z s.ranges.start) (to_z-of_z s.ranges.limit_position) in
+    let q1 = of-4 (λ (r : LogRecord) (i : Image) (x : ℤ) (y : ℤ). peek_slots r a.log.now (state_of i) a.entries.now a.actions.now x y) f.1 r i (to_z-of_z s.ranges.start) (to_z-of_z s.ranges.limit_position) in
+    let k : kp.partition_at-partition.result ≡ shifted (record_in a.rec.now) a.log.now a.start =
+    of-2 (λ (t p : ℤ). pos (index_by_position (long p) (bits_to_shift (word t)))) kp.partition_at-partition.ensures (promised (ap (λ (x : LogRecord). x.term_length) r) (term_fits c.before.before.before.before.before.before)) (to_z-of_z s.ranges.start) in
+    let e = c.peeked.ensures ∙ ap₂ (λ (x : ℤ) (o : PeekReply). peek_reply x o.answer) (promised k (let h = kp.partition_at-partition.type_inv in search (rules, h))) q0 ∙ peek-in (record_in a.rec.now) a.log.now (state_of (image_in a.image.now)) a.entries.now a.actions.now a.start a.limit_position in
     (e, q1)
 
-pub logbuffer-image-controlled-peek-spec : {M : Type 1} → statement M
-logbuffer-image-controlled-peek-spec =
+pub logbuffer_image_controlled_peek_spec : {M : Type 1} → statement M
+logbuffer_image_controlled_peek_spec =
     tie.close (tie.spec (search rules) (search rules) (search rules) (search rules) (search rules) (search rules) returns)

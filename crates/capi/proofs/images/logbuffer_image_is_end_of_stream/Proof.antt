@@ -5,8 +5,8 @@ use Rattle.capi.proofs.images.logbuffer_image_is_end_of_stream.Tie as tie
 
 returns : tie.Need-returns
 returns c =
-    let f = c.before.is-end-of-stream.ensures in rw (c.end-of-stream.ensures, f, c.before.before.record-in.ensures, c.before.before.before.image-in.ensures) (search rules)
+    let f = c.is_end_of_stream.ensures in rw (c.end_of_stream.ensures, f, c.record_in.ensures, c.image_in-i.ensures) (search rules)
 
-pub logbuffer-image-is-end-of-stream-spec : {M : Type 1} → statement M
-logbuffer-image-is-end-of-stream-spec =
+pub logbuffer_image_is_end_of_stream_spec : {M : Type 1} → statement M
+logbuffer_image_is_end_of_stream_spec =
     tie.close (tie.spec (search rules) (search rules) (search rules) (search rules) returns)

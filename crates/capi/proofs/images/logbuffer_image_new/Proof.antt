@@ -13,12 +13,12 @@ use Rattle.capi.proofs.images.logbuffer_image_new.Tie as tie
 
 returns : tie.Need-returns
 returns c =
-    let s = c.before.before.before in
+    let s = c in
     let a = s.args in
-    let f = c.before.new.ensures in
-    let q0 = of-2 (λ (x : ℤ) (y : ℤ). image_of (new_image x y)) (f) (to_z-of_z s.ranges.position) (to_z-of_z s.ranges.session-id) in
-    c.image-filled.ensures ∙ ap (λ (i : Image). image_filled a.image.now (state_of i)) q0
+    let f = c.new.ensures in
+    let q0 = of-2 (λ (x : ℤ) (y : ℤ). image_of (new_image x y)) (f) (to_z-of_z s.ranges.position) (to_z-of_z s.ranges.session_id) in
+    c.image_filled.ensures ∙ ap (λ (i : Image). image_filled a.image.now (state_of i)) q0
 
-pub logbuffer-image-new-spec : {M : Type 1} → statement M
-logbuffer-image-new-spec =
+pub logbuffer_image_new_spec : {M : Type 1} → statement M
+logbuffer_image_new_spec =
     tie.close (tie.spec (search rules) (search rules) returns)

@@ -11,17 +11,17 @@ use Rattle.logbuffer.proofs.Signed.{word-by, long-by}
 use Rattle.capi.proofs.images.partition_at.Statement.{statement}
 use Rattle.capi.proofs.images.partition_at.Tie as tie
 
-cast-result : tie.Need-overflow-cast-result
-cast-result c = record { sfits = omega (arith, c.index-by-position.ensures) }
+cast-result : tie.Need-overflow_cast-result
+cast-result c = record { sfits = omega (arith, c.index_by_position.ensures) }
 
 returns : tie.Need-returns
 returns c =
-    let s = c.before.before.before.before in
+    let s = c in
     let a = s.args in
-    let e : c.index-by-position.result ≡ index_by_position (long a.position) (bits_to_shift (word a.term-length)) =
-    c.index-by-position.ensures ∙ ap₂ index_by_position (long-by a.position c.before.long.ensures.0 s.ranges.position) (c.before.before.position-bits-to-shift.ensures ∙ ap bits_to_shift (word-by a.term-length c.before.before.before.word.ensures.0 s.ranges.term-length)) in
-    to_z_pos w32 (omega (arith, c.index-by-position.ensures)) ∙ ap pos e
+    let e : c.index_by_position.result ≡ index_by_position (long a.position) (bits_to_shift (word a.term_length)) =
+    c.index_by_position.ensures ∙ ap₂ index_by_position (long-by a.position c.long.ensures.0 s.ranges.position) (c.position_bits_to_shift-bits.ensures ∙ ap bits_to_shift (word-by a.term_length c.word.ensures.0 s.ranges.term_length)) in
+    to_z_pos w32 (omega (arith, c.index_by_position.ensures)) ∙ ap pos e
 
-pub partition-at-spec : {M : Type 1} → statement M
-partition-at-spec =
+pub partition_at_spec : {M : Type 1} → statement M
+partition_at_spec =
     tie.close (tie.spec (search rules) (search rules) (search rules) (search rules) (search rules) cast-result returns)

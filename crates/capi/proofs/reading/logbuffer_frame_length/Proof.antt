@@ -5,8 +5,8 @@ use Rattle.capi.proofs.reading.logbuffer_frame_length.Tie as tie
 
 returns : tie.Need-returns
 returns c =
-    let f = c.before.frame-length-at.ensures in rw (c.frame-length-read.ensures, f, c.before.before.record-in.ensures) (search rules)
+    let f = c.frame_length_at.ensures in rw (c.frame_length_read.ensures, f, c.record_in.ensures) (search rules)
 
-pub logbuffer-frame-length-spec : {M : Type 1} → statement M
-logbuffer-frame-length-spec =
+pub logbuffer_frame_length_spec : {M : Type 1} → statement M
+logbuffer_frame_length_spec =
     tie.close (tie.spec (search rules) (search rules) (search rules) returns)

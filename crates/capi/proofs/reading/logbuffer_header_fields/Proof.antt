@@ -5,8 +5,8 @@ use Rattle.capi.proofs.reading.logbuffer_header_fields.Tie as tie
 
 returns : tie.Need-returns
 returns c =
-    let f = c.before.fields.ensures in rw (c.header_read.ensures, f, c.before.before.record-in.ensures) (search rules)
+    let f = c.fields.ensures in rw (c.header_read.ensures, f, c.record_in.ensures) (search rules)
 
-pub logbuffer-header-fields-spec : {M : Type 1} → statement M
-logbuffer-header-fields-spec =
+pub logbuffer_header_fields_spec : {M : Type 1} → statement M
+logbuffer_header_fields_spec =
     tie.close (tie.spec (search rules) (search rules) (search rules) returns)

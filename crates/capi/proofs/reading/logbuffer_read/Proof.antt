@@ -12,13 +12,13 @@ use Rattle.capi.proofs.reading.logbuffer_read.Tie as tie
 
 returns : tie.Need-returns
 returns c =
-    let s = c.before.before.before.before.before.before in
+    let s = c in
     let a = s.args in
-    let f = c.before.before.read.ensures in
-    let q0 = of-4 (λ (r : LogRecord) (x : ℤ) (y : ℤ) (z : ℤ). read_of r a.log.now x y z a.entries.now) f.0 c.before.before.before.before.record-in.ensures (to_z-of_z s.ranges.partition) (to_z-of_z s.ranges.offset) (to_z-of_z s.ranges.fragment-limit) in
-    let q1 = of-4 (λ (r : LogRecord) (x : ℤ) (y : ℤ) (z : ℤ). read_entries r a.log.now x y z a.entries.now) f.1 c.before.before.before.before.record-in.ensures (to_z-of_z s.ranges.partition) (to_z-of_z s.ranges.offset) (to_z-of_z s.ranges.fragment-limit) in
-    (c.term-read.ensures ∙ ap read_reply q0, q1)
+    let f = c.read.ensures in
+    let q0 = of-4 (λ (r : LogRecord) (x : ℤ) (y : ℤ) (z : ℤ). read_of r a.log.now x y z a.entries.now) f.0 c.record_in.ensures (to_z-of_z s.ranges.partition) (to_z-of_z s.ranges.offset) (to_z-of_z s.ranges.fragment_limit) in
+    let q1 = of-4 (λ (r : LogRecord) (x : ℤ) (y : ℤ) (z : ℤ). read_entries r a.log.now x y z a.entries.now) f.1 c.record_in.ensures (to_z-of_z s.ranges.partition) (to_z-of_z s.ranges.offset) (to_z-of_z s.ranges.fragment_limit) in
+    (c.term_read.ensures ∙ ap read_reply q0, q1)
 
-pub logbuffer-read-spec : {M : Type 1} → statement M
-logbuffer-read-spec =
+pub logbuffer_read_spec : {M : Type 1} → statement M
+logbuffer_read_spec =
     tie.close (tie.spec (search rules) (search rules) (search rules) (search rules) returns)

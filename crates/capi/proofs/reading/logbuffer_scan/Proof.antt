@@ -5,8 +5,8 @@ use Rattle.capi.proofs.reading.logbuffer_scan.Tie as tie
 
 returns : tie.Need-returns
 returns c =
-    let f = c.before.scan.ensures in rw (c.scanned.ensures, f, c.before.before.record-in.ensures) (search rules)
+    let f = c.scan.ensures in rw (c.scanned.ensures, f, c.record_in.ensures) (search rules)
 
-pub logbuffer-scan-spec : {M : Type 1} → statement M
-logbuffer-scan-spec =
+pub logbuffer_scan_spec : {M : Type 1} → statement M
+logbuffer_scan_spec =
     tie.close (tie.spec (search rules) (search rules) (search rules) returns)

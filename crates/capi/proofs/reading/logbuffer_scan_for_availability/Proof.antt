@@ -5,8 +5,8 @@ use Rattle.capi.proofs.reading.logbuffer_scan_for_availability.Tie as tie
 
 returns : tie.Need-returns
 returns c =
-    let f = c.before.scan-for-availability.ensures in rw (c.availability-scanned.ensures, f, c.before.before.record-in.ensures) (search rules)
+    let f = c.scan_for_availability.ensures in rw (c.availability_scanned.ensures, f, c.record_in.ensures) (search rules)
 
-pub logbuffer-scan-for-availability-spec : {M : Type 1} → statement M
-logbuffer-scan-for-availability-spec =
+pub logbuffer_scan_for_availability_spec : {M : Type 1} → statement M
+logbuffer_scan_for_availability_spec =
     tie.close (tie.spec (search rules) (search rules) (search rules) returns)

@@ -5,8 +5,8 @@ use Rattle.capi.proofs.reading.logbuffer_scan_for_gap.Tie as tie
 
 returns : tie.Need-returns
 returns c =
-    let f = c.before.scan-for-gap.ensures in rw (c.gap-scanned.ensures, f, c.before.before.record-in.ensures) (search rules)
+    let f = c.scan_for_gap.ensures in rw (c.gap_scanned.ensures, f, c.record_in.ensures) (search rules)
 
-pub logbuffer-scan-for-gap-spec : {M : Type 1} → statement M
-logbuffer-scan-for-gap-spec =
+pub logbuffer_scan_for_gap_spec : {M : Type 1} → statement M
+logbuffer_scan_for_gap_spec =
     tie.close (tie.spec (search rules) (search rules) (search rules) returns)

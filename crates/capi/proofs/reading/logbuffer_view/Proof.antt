@@ -5,8 +5,8 @@ use Rattle.capi.proofs.reading.logbuffer_view.Tie as tie
 
 returns : tie.Need-returns
 returns c =
-    let f = c.before.view-span.ensures in rw (c.located.ensures, f, c.before.before.record-in.ensures) (search rules)
+    let f = c.view_span.ensures in rw (c.located.ensures, f, c.record_in.ensures) (search rules)
 
-pub logbuffer-view-spec : {M : Type 1} → statement M
-logbuffer-view-spec =
+pub logbuffer_view_spec : {M : Type 1} → statement M
+logbuffer_view_spec =
     tie.close (tie.spec (search rules) (search rules) (search rules) returns)

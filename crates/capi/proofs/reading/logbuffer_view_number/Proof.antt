@@ -11,12 +11,12 @@ use Rattle.capi.proofs.reading.logbuffer_view_number.Tie as tie
 
 returns : tie.Need-returns
 returns c =
-    let s = c.before.before.before in
+    let s = c in
     let a = s.args in
-    let f = c.view-number.ensures in
-    let q0 = of-4 (λ (r : LogRecord) (x : ℤ) (y : ℤ) (z : ℤ). located_number (view_of r a.log.now x y z)) (f) c.before.record-in.ensures (to_z-of_z s.ranges.partition) (to_z-of_z s.ranges.offset) (to_z-of_z s.ranges.length) in
+    let f = c.view_number.ensures in
+    let q0 = of-4 (λ (r : LogRecord) (x : ℤ) (y : ℤ) (z : ℤ). located_number (view_of r a.log.now x y z)) (f) c.record_in.ensures (to_z-of_z s.ranges.partition) (to_z-of_z s.ranges.offset) (to_z-of_z s.ranges.length) in
     promised q0 (search rules)
 
-pub logbuffer-view-number-spec : {M : Type 1} → statement M
-logbuffer-view-number-spec =
+pub logbuffer_view_number_spec : {M : Type 1} → statement M
+logbuffer_view_number_spec =
     tie.close (tie.spec (search rules) (search rules) returns)

@@ -6,8 +6,8 @@ use Rattle.capi.proofs.replays.logbuffer_assembler_new.Statement.{statement}
 use Rattle.capi.proofs.replays.logbuffer_assembler_new.Tie as tie
 
 returns : tie.Need-returns
-returns c = c.assembler-out.ensures ∙ ap (assembler_out c.before.before.before.args.assembler.now) c.before.new.ensures
+returns c = c.assembler_out.ensures ∙ ap (assembler_out c.args.assembler.now) c.new.ensures
 
-pub logbuffer-assembler-new-spec : {M : Type 1} → statement M
-logbuffer-assembler-new-spec =
+pub logbuffer_assembler_new_spec : {M : Type 1} → statement M
+logbuffer_assembler_new_spec =
     tie.close (tie.spec (search rules) (search rules) returns)

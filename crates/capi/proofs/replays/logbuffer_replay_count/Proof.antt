@@ -5,8 +5,8 @@ use Rattle.capi.proofs.replays.logbuffer_replay_count.Tie as tie
 
 returns : tie.Need-returns
 returns c =
-    let f = c.before.before.before.count.ensures in rw (c.counted.ensures, f.0, f.1, c.before.before.before.before.before.record-in.ensures) (search rules)
+    let f = c.count.ensures in rw (c.counted.ensures, f.0, f.1, c.record_in.ensures) (search rules)
 
-pub logbuffer-replay-count-spec : {M : Type 1} → statement M
-logbuffer-replay-count-spec =
+pub logbuffer_replay_count_spec : {M : Type 1} → statement M
+logbuffer_replay_count_spec =
     tie.close (tie.spec (search rules) (search rules) (search rules) (search rules) returns)

@@ -11,10 +11,10 @@ use Rattle.capi.proofs.replays.logbuffer_replay_new.Tie as tie
 
 returns : tie.Need-returns
 returns c =
-    let s = c.before.before.before in
-    let f = c.before.new.ensures in
-    c.replay-filled.ensures ∙ ap₂ (λ (i : ImageState) (n : Sessions). assembler_to (image_filled s.args.replay.now i) 2 n) (of-2 new_image f.0 (to_z-of_z s.ranges.position) (to_z-of_z s.ranges.session-id)) f.1
+    let s = c in
+    let f = c.new.ensures in
+    c.replay_filled.ensures ∙ ap₂ (λ (i : ImageState) (n : Sessions). assembler_to (image_filled s.args.replay.now i) 2 n) (of-2 new_image f.0 (to_z-of_z s.ranges.position) (to_z-of_z s.ranges.session_id)) f.1
 
-pub logbuffer-replay-new-spec : {M : Type 1} → statement M
-logbuffer-replay-new-spec =
+pub logbuffer_replay_new_spec : {M : Type 1} → statement M
+logbuffer_replay_new_spec =
     tie.close (tie.spec (search rules) (search rules) returns)

@@ -27,12 +27,12 @@ use Rattle.capi.proofs.Promised.{of-2}
 use Rattle.capi.proofs.replays.logbuffer_replay_next.Statement.{statement}
 use Rattle.capi.proofs.replays.logbuffer_replay_next.Tie as tie
 
-module _ (c : tie.After-long) where
+module _ (c : tie.After-long-p) where
   abbrev s : tie.Start
-  s = c.before.before.before.before.before.before.before.before.before.before
+  s = c.before.before.before.before.before.before.before.before.before
 
   abbrev n : ℕ
-  n = c.before.before.before.next-whole.result.length
+  n = c.next_whole-whole.result.length
 
   abbrev r : LogRecord
   r = record_in s.args.rec.now
@@ -40,20 +40,20 @@ module _ (c : tie.After-long) where
   abbrev i : Image
   i = image_in s.args.replay.now
 
-  image-is : c.before.before.before.before.before.replay-image.result ≡ i
-  image-is = c.before.before.before.before.before.replay-image.ensures
+  image-is : c.replay_image-image.result ≡ i
+  image-is = c.replay_image-image.ensures
 
   -- the call's answer, of the words as they were given
-  found : c.before.before.before.next-whole.result ≡ whole_in r s.args.log.now (image_state i) (length s.args.buffer.now)
+  found : c.next_whole-whole.result ≡ whole_in r s.args.log.now (image_state i) (length s.args.buffer.now)
   found =
       of-2 (λ (x : LogRecord) (y : Image). whole_in x s.args.log.now (image_state y) (length s.args.buffer.now))
-      c.before.before.before.next-whole.ensures c.before.before.before.before.record-in.ensures image-is
+      c.next_whole-whole.ensures c.record_in.ensures image-is
 
-  p-is : c.long.result ≡ long i.position
-  p-is = long-by c.before.before.before.before.before.replay-image.result.position c.long.ensures.0 (search rules) ∙ ap (λ (x : Image). long x.position) image-is
+  p-is : c.long-p.result ≡ long i.position
+  p-is = long-by c.replay_image-image.result.position c.long-p.ensures.0 (search rules) ∙ ap (λ (x : Image). long x.position) image-is
 
   some : 0 < n
-  some = omega (arith, c.before.before.if2.false)
+  some = omega (arith, c.if-n-eq0.false)
 
   abbrev m : ℕ
   m = whole_of r s.args.log.now (image_state i) (length s.args.buffer.now)
@@ -64,32 +64,32 @@ module _ (c : tie.After-long) where
   length-is : m ≡ n
   length-is = sym (ap (λ (x : Whole). x.length) found ∙ whole_length X m)
 
-  index_is : c.before.before.before.next-whole.result.index ≡ X
+  index_is : c.next_whole-whole.result.index ≡ X
   index_is = ap (λ (x : Whole). x.index) found ∙ whole-index X m (λ e. omega (arith, length-is, some))
 
-  near : (c.long.result < 2305843009213693952) × ((32 ≤ n) × ((n < 2147483648) × (c.before.before.before.next-whole.result.index < 3221225472)))
+  near : (c.long-p.result < 2305843009213693952) × ((32 ≤ n) × ((n < 2147483648) × (c.next_whole-whole.result.index < 3221225472)))
   near =
       let h = whole-near r s.args.log.now (image_state i) (length s.args.buffer.now) n length-is some in
       let x : X ≡ index_at (open_term (image_state i) (reading r) (length s.args.log.now) (length s.args.buffer.now)) (long i.position) = ap (λ (t : ℕ). index_at t (long i.position)) (sym h.term_is) in
       (omega (arith, h.position, p-is), (h.header, (h.small, omega (arith, index_is, x, h.index))))
 
-returns-3 : tie.Need-returns-3
+returns-3 : tie.Need-returns
 returns-3 d =
-    let c = d.before.before.before in
-    let a = (s c).args in
+    let c = d in
+    let a = (s d.before.before.before).args in
     let t = state_of (replay_in a.replay.now) a.buffer.now in
-    let k = n c in
-    let e : whole_reply (reading (r c)).term t k ≡ next_of (r c) a.log.now t = whole_says (r c) a.log.now t k (length-is c) (some c) in
-    let z : to_z w64 (c.long.result + (k + 31) / 32 * 32) ≡ pos (long (i c).position + (k + 31) / 32 * 32) = to_z_pos w64 (omega (arith, near c)) ∙ ap (λ (x : ℕ). pos (x + (k + 31) / 32 * 32)) (p-is c) in (
-      ap (λ (x : ℕ). next_reply (InLog (x + 32) (k - 32))) (index_is c) ∙ ap (λ (y : NextReply). next_reply y.answer) e,
+    let k = n d.before.before.before in
+    let e : whole_reply (reading (r d.before.before.before)).term t k ≡ next_of (r d.before.before.before) a.log.now t = whole_says (r d.before.before.before) a.log.now t k (length-is d.before.before.before) (some d.before.before.before) in
+    let z : to_z w64 (c.long-p.result + (k + 31) / 32 * 32) ≡ pos (long (i d.before.before.before).position + (k + 31) / 32 * 32) = to_z_pos w64 (omega (arith, near d.before.before.before)) ∙ ap (λ (x : ℕ). pos (x + (k + 31) / 32 * 32)) (p-is d.before.before.before) in (
+      ap (λ (x : ℕ). next_reply (InLog (x + 32) (k - 32))) (index_is d.before.before.before) ∙ ap (λ (y : NextReply). next_reply y.answer) e,
       (
-        d.before.position-out.ensures ∙ ap (λ (x : ℤ). assembler_to (set a.replay.now 0 x) 2 (sessions_of (assembler_from a.replay.now 2))) z ∙ ap (λ (y : NextReply). replay_out a.replay.now y.next) e,
+        d.position_out.ensures ∙ ap (λ (x : ℤ). assembler_to (set a.replay.now 0 x) 2 (sessions_of (assembler_from a.replay.now 2))) z ∙ ap (λ (y : NextReply). replay_out a.replay.now y.next) e,
         ap (λ (y : NextReply). y.next.buffer) e,
       ),
     )
 
-pub logbuffer-replay-next-spec : {M : Type 1} → statement M
-logbuffer-replay-next-spec =
+pub logbuffer_replay_next_spec : {M : Type 1} → statement M
+logbuffer_replay_next_spec =
     tie.close
     (tie.spec
     (search rules)

@@ -13,12 +13,12 @@ use Rattle.capi.proofs.replays.next_by_all.Tie as tie
 
 returns : tie.Need-returns
 returns c =
-    let s = c.before.before.before.before.before.before.before.before.before.before.before.before.before in
+    let s = c in
     let a = s.args in
-    let f = c.before.before.before.before.before.before.next-by-turns.ensures in
-    let q0 = of-2 (λ (r : LogRecord) (p : Replay). next_of r a.log.now (state_of p a.buffer.now)) (f) c.before.before.before.before.before.before.before.before.record-in.ensures c.before.before.before.before.before.before.before.before.before.replay-in.ensures in
-    (c.replayed.ensures ∙ ap (λ (n : NextReply). next_reply n.answer) q0, (c.before.replay-out.ensures ∙ ap (λ (n : NextReply). replay_out a.replay.now n.next) q0, ap (λ (n : NextReply). n.next.buffer) q0))
+    let f = c.next_by_turns-o.ensures in
+    let q0 = of-2 (λ (r : LogRecord) (p : Replay). next_of r a.log.now (state_of p a.buffer.now)) (f) c.record_in.ensures c.replay_in-one.ensures in
+    (c.replayed.ensures ∙ ap (λ (n : NextReply). next_reply n.answer) q0, (c.replay_out.ensures ∙ ap (λ (n : NextReply). replay_out a.replay.now n.next-1) q0, ap (λ (n : NextReply). n.next-1.buffer) q0))
 
-pub next-by-all-spec : {M : Type 1} → statement M
-next-by-all-spec =
+pub next_by_all_spec : {M : Type 1} → statement M
+next_by_all_spec =
     tie.close (tie.spec (search rules) (search rules) (search rules) (search rules) (search rules) (search rules) returns)

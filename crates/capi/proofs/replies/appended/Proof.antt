@@ -3,17 +3,17 @@ use borrow.Author.Rules.{rules}
 use Rattle.capi.proofs.replies.appended.Statement.{statement}
 use Rattle.capi.proofs.replies.appended.Tie as tie
 
-returns : tie.Need-returns
-returns c = rw c.before.answer.given.1
+returns : tie.Need-returns-in-Offset
+returns c = rw c.in-Offset.is
 
-returns-2 : tie.Need-returns-2
-returns-2 c = rw c.enum_told.given.1
+returns-2 : tie.Need-returns-in-Tripped
+returns-2 c = rw c.in-Tripped.is
 
-returns-3 : tie.Need-returns-3
-returns-3 c = search (rules, ← c.number.ensures, c.before.before.answer2.given.1)
+returns-3 : tie.Need-returns-in-Refused
+returns-3 c = search (rules, ← c.number.ensures, c.in-Refused.is)
 
-pub appended-spec : {M : Type 1} → statement M
-appended-spec =
+pub appended_spec : {M : Type 1} → statement M
+appended_spec =
     tie.close
     (tie.spec
     (search rules)

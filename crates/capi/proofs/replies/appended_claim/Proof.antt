@@ -3,15 +3,15 @@ use borrow.Author.Rules.{rules}
 use Rattle.capi.proofs.replies.appended_claim.Statement.{statement}
 use Rattle.capi.proofs.replies.appended_claim.Tie as tie
 
-returns : tie.Need-returns
-returns c = search (rules, c.claim-words.ensures, c.before.before.answer.given.1)
+returns : tie.Need-returns-in-Claimed
+returns c = search (rules, c.claim_words.ensures, c.in-Claimed.is)
 
-returns-2 : tie.Need-returns-2
-returns-2 c = rw c.enum_told.given.1
+returns-2 : tie.Need-returns-in-Tripped
+returns-2 c = rw c.in-Tripped.is
 
-returns-3 : tie.Need-returns-3
-returns-3 c = search (rules, ← c.number.ensures, c.before.before.answer2.given.1)
+returns-3 : tie.Need-returns-in-Refused
+returns-3 c = search (rules, ← c.number.ensures, c.in-Refused.is)
 
-pub appended-claim-spec : {M : Type 1} → statement M
-appended-claim-spec =
+pub appended_claim_spec : {M : Type 1} → statement M
+appended_claim_spec =
     tie.close (tie.spec (search rules) (search rules) (search rules) (search rules) (search rules) returns returns-2 returns-3)

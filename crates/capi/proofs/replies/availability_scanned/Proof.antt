@@ -8,15 +8,15 @@ use Rattle.capi.specs.declared.replies.AvailabilityReply.{AvailabilityReply}
 use Rattle.capi.proofs.replies.availability_scanned.Statement.{statement}
 use Rattle.capi.proofs.replies.availability_scanned.Tie as tie
 
-cast-t7 : tie.Need-overflow-cast-t7
-cast-t7 c = search (rules, c.long.ensures.1)
+cast-t7 : tie.Need-overflow_cast-result
+cast-t7 c = search (rules, c.long-bits.ensures.1)
 
-returns : tie.Need-returns
-returns c = search (rules, c.long.ensures.0, c.before.before.answer.given.1)
+returns : tie.Need-returns-in-Outcome
+returns c = search (rules, c.long-bits.ensures.0, c.in-Outcome.is)
 
-returns-2 : tie.Need-returns-2
-returns-2 c = search (rules, ← c.before.number.ensures, ← c.place.ensures, c.before.before.before.answer2.given.1)
+returns-2 : tie.Need-returns-in-Refused
+returns-2 c = search (rules, ← c.number.ensures, ← c.place.ensures, c.in-Refused.is)
 
-pub availability-scanned-spec : {M : Type 1} → statement M
-availability-scanned-spec =
+pub availability_scanned_spec : {M : Type 1} → statement M
+availability_scanned_spec =
     tie.close (tie.spec (search rules) (search rules) (search rules) (search rules) (search rules) (search rules) (search rules) returns returns-2)

@@ -3,12 +3,12 @@ use borrow.Author.Rules.{rules}
 use Rattle.capi.proofs.replies.batched.Statement.{statement}
 use Rattle.capi.proofs.replies.batched.Tie as tie
 
-returns : tie.Need-returns
-returns c = rw c.before.answer.given.1
+returns : tie.Need-returns-in-Laid
+returns c = rw c.in-Laid.is
 
-returns-2 : tie.Need-returns-2
-returns-2 c = search (rules, ← c.before.number.ensures, ← c.place.ensures, c.before.before.before.answer2.given.1)
+returns-2 : tie.Need-returns-in-Refused
+returns-2 c = search (rules, ← c.number.ensures, ← c.place.ensures, c.in-Refused.is)
 
-pub batched-spec : {M : Type 1} → statement M
-batched-spec =
+pub batched_spec : {M : Type 1} → statement M
+batched_spec =
     tie.close (tie.spec (search rules) (search rules) (search rules) (search rules) (search rules) returns returns-2)

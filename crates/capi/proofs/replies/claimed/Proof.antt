@@ -3,12 +3,12 @@ use borrow.Author.Rules.{rules}
 use Rattle.capi.proofs.replies.claimed.Statement.{statement}
 use Rattle.capi.proofs.replies.claimed.Tie as tie
 
-returns : tie.Need-returns
-returns c = search (rules, c.before.before.before.before.place.ensures, c.claim-words.ensures, c.before.before.answer.given.1)
+returns : tie.Need-returns-in-Position
+returns c = search (rules, c.place-place.ensures, c.claim_words.ensures, c.in-Position.is)
 
-returns-2 : tie.Need-returns-2
-returns-2 c = search (rules, c.before.before.before.before.place.ensures, ← c.number.ensures, c.before.before.answer2.given.1)
+returns-2 : tie.Need-returns-in-Refused
+returns-2 c = search (rules, c.place-place.ensures, ← c.number.ensures, c.in-Refused.is)
 
-pub claimed-spec : {M : Type 1} → statement M
-claimed-spec =
+pub claimed_spec : {M : Type 1} → statement M
+claimed_spec =
     tie.close (tie.spec (search rules) (search rules) (search rules) (search rules) (search rules) returns returns-2)

@@ -3,11 +3,11 @@ use borrow.Author.Rules.{rules}
 use Rattle.capi.proofs.replies.counted.Statement.{statement}
 use Rattle.capi.proofs.replies.counted.Tie as tie
 
-returns : tie.Need-returns
-returns c = rw c.before.answer.given.1
+returns : tie.Need-returns-in-Counts
+returns c = rw c.in-Counts.is
 
-returns-2 : tie.Need-returns-2
-returns-2 c = search (rules, ← c.before.number.ensures, ← c.place.ensures, c.before.before.before.answer2.given.1)
+returns-2 : tie.Need-returns-in-Refused
+returns-2 c = search (rules, ← c.number.ensures, ← c.place.ensures, c.in-Refused.is)
 
 pub counted_spec : {M : Type 1} → statement M
 counted_spec =

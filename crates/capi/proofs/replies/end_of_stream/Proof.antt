@@ -3,12 +3,12 @@ use borrow.Author.Rules.{rules}
 use Rattle.capi.proofs.replies.end_of_stream.Statement.{statement}
 use Rattle.capi.proofs.replies.end_of_stream.Tie as tie
 
-returns : tie.Need-returns
-returns c = rw c.before.answer.given.1
+returns : tie.Need-returns-in-Is
+returns c = rw c.in-Is.is
 
-returns-2 : tie.Need-returns-2
-returns-2 c = search (rules, ← c.number.ensures, c.before.before.answer2.given.1)
+returns-2 : tie.Need-returns-in-Refused
+returns-2 c = search (rules, ← c.number.ensures, c.in-Refused.is)
 
-pub end-of-stream-spec : {M : Type 1} → statement M
-end-of-stream-spec =
+pub end_of_stream_spec : {M : Type 1} → statement M
+end_of_stream_spec =
     tie.close (tie.spec (search rules) (search rules) (search rules) returns returns-2)

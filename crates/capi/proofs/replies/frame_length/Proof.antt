@@ -3,15 +3,15 @@ use borrow.Author.Rules.{rules}
 use Rattle.capi.proofs.replies.frame_length.Statement.{statement}
 use Rattle.capi.proofs.replies.frame_length.Tie as tie
 
-returns : tie.Need-returns
-returns c = rw c.enum_told.given.1
+returns : tie.Need-returns-in-Free
+returns c = rw c.in-Free.is
 
-returns-2 : tie.Need-returns-2
-returns-2 c = rw c.before.length.given.1
+returns-2 : tie.Need-returns-in-Writing
+returns-2 c = rw c.in-Writing.is
 
-returns-3 : tie.Need-returns-3
-returns-3 c = rw c.before.length2.given.1
+returns-3 : tie.Need-returns-in-Finished
+returns-3 c = rw c.in-Finished.is
 
-pub frame-length-spec : {M : Type 1} → statement M
-frame-length-spec =
+pub frame_length_spec : {M : Type 1} → statement M
+frame_length_spec =
     tie.close (tie.spec (search rules) (search rules) (search rules) returns returns-2 returns-3)

@@ -5,14 +5,14 @@ use Rattle.capi.specs.Replies.{frame_length_reply}
 use Rattle.capi.proofs.replies.frame_length_read.Statement.{statement}
 use Rattle.capi.proofs.replies.frame_length_read.Tie as tie
 
-returns : tie.Need-returns
-returns c = c.frame-length.ensures ∙ ap frame_length_reply (sym c.before.before.answer.given.1)
+returns : tie.Need-returns-in-Length
+returns c = c.frame_length.ensures ∙ ap frame_length_reply (sym c.in-Length.is)
 
-returns-2 : tie.Need-returns-2
-returns-2 c = search (rules, ← c.number.ensures, c.before.before.answer2.given.1)
+returns-2 : tie.Need-returns-in-Refused
+returns-2 c = search (rules, ← c.number.ensures, c.in-Refused.is)
 
-pub frame-length-read-spec : {M : Type 1} → statement M
-frame-length-read-spec =
+pub frame_length_read_spec : {M : Type 1} → statement M
+frame_length_read_spec =
     tie.close
     (tie.spec
     (search rules)

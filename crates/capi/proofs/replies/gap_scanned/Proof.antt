@@ -3,17 +3,17 @@ use borrow.Author.Rules.{rules}
 use Rattle.capi.proofs.replies.gap_scanned.Statement.{statement}
 use Rattle.capi.proofs.replies.gap_scanned.Tie as tie
 
-returns : tie.Need-returns
-returns c = search (rules, c.before.answer.given.1)
+returns : tie.Need-returns-in-Gap
+returns c = search (rules, c.in-Gap.is)
 
-returns-2 : tie.Need-returns-2
-returns-2 c = rw c.before.answer2.given.1
+returns-2 : tie.Need-returns-in-NoGap
+returns-2 c = rw c.in-NoGap.is
 
-returns-3 : tie.Need-returns-3
-returns-3 c = search (rules, ← c.before.number.ensures, ← c.place.ensures, c.before.before.before.answer3.given.1)
+returns-3 : tie.Need-returns-in-Refused
+returns-3 c = search (rules, ← c.number.ensures, ← c.place.ensures, c.in-Refused.is)
 
-pub gap-scanned-spec : {M : Type 1} → statement M
-gap-scanned-spec =
+pub gap_scanned_spec : {M : Type 1} → statement M
+gap_scanned_spec =
     tie.close
     (tie.spec
     (search rules)

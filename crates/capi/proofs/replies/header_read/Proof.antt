@@ -3,14 +3,14 @@ use borrow.Author.Rules.{rules}
 use Rattle.capi.proofs.replies.header_read.Statement.{statement}
 use Rattle.capi.proofs.replies.header_read.Tie as tie
 
-returns : tie.Need-returns
-returns c = rw c.before.answer.given.1
+returns : tie.Need-returns-in-Fields
+returns c = rw c.in-Fields.is
 
-returns-2 : tie.Need-returns-2
-returns-2 c = search (rules, ← c.before.number.ensures, c.no_fields.ensures, c.before.before.before.answer2.given.1)
+returns-2 : tie.Need-returns-in-Refused
+returns-2 c = search (rules, ← c.number.ensures, c.no_fields.ensures, c.in-Refused.is)
 
-pub header-read-spec : {M : Type 1} → statement M
-header-read-spec =
+pub header_read_spec : {M : Type 1} → statement M
+header_read_spec =
     tie.close
     (tie.spec
     (search rules)

@@ -3,14 +3,14 @@ use borrow.Author.Rules.{rules}
 use Rattle.capi.proofs.replies.located.Statement.{statement}
 use Rattle.capi.proofs.replies.located.Tie as tie
 
-returns : tie.Need-returns
-returns c = rw (c.difference.ensures, c.before.before.answer.given.1)
+returns : tie.Need-returns-in-Span
+returns c = rw (c.difference.ensures, c.in-Span.is)
 
-returns-2 : tie.Need-returns-2
-returns-2 c = search (rules, ← c.number.ensures, c.before.before.answer2.given.1)
+returns-2 : tie.Need-returns-in-Refused
+returns-2 c = search (rules, ← c.number.ensures, c.in-Refused.is)
 
-pub located-spec : {M : Type 1} → statement M
-located-spec =
+pub located_spec : {M : Type 1} → statement M
+located_spec =
     tie.close
     (tie.spec
     (search rules)

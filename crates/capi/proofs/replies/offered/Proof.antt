@@ -3,12 +3,12 @@ use borrow.Author.Rules.{rules}
 use Rattle.capi.proofs.replies.offered.Statement.{statement}
 use Rattle.capi.proofs.replies.offered.Tie as tie
 
-returns : tie.Need-returns
-returns c = search (rules, c.before.before.before.place.ensures, c.before.answer.given.1)
+returns : tie.Need-returns-in-Position
+returns c = search (rules, c.place-place.ensures, c.in-Position.is)
 
-returns-2 : tie.Need-returns-2
-returns-2 c = search (rules, c.before.before.before.before.place.ensures, ← c.number.ensures, c.before.before.answer2.given.1)
+returns-2 : tie.Need-returns-in-Refused
+returns-2 c = search (rules, c.place-place.ensures, ← c.number.ensures, c.in-Refused.is)
 
-pub offered-spec : {M : Type 1} → statement M
-offered-spec =
+pub offered_spec : {M : Type 1} → statement M
+offered_spec =
     tie.close (tie.spec (search rules) (search rules) (search rules) (search rules) returns returns-2)

@@ -9,14 +9,14 @@ use borrow.Author.Rules.{rules}
 use Rattle.capi.proofs.replies.peeked.Statement.{statement}
 use Rattle.capi.proofs.replies.peeked.Tie as tie
 
-returns : tie.Need-returns
-returns c = search (rules, c.narrow.ensures, c.before.before.answer.given.1)
+returns : tie.Need-returns-in-Position
+returns c = search (rules, c.narrow.ensures, c.in-Position.is)
 
-returns-2 : tie.Need-returns-2
+returns-2 : tie.Need-returns-in-Refused
 returns-2 c =
     let z : to_z w64 c.place.result ≡ pos c.place.result = to_z_pos w64 (omega arith) in
-    search (rules, z, ← c.before.number.ensures, ← c.place.ensures, c.before.before.before.answer2.given.1)
+    search (rules, z, ← c.number.ensures, ← c.place.ensures, c.in-Refused.is)
 
-pub peeked-spec : {M : Type 1} → statement M
-peeked-spec =
+pub peeked_spec : {M : Type 1} → statement M
+peeked_spec =
     tie.close (tie.spec (search rules) (search rules) (search rules) (search rules) (search rules) (search rules) returns returns-2)

@@ -3,12 +3,12 @@ use borrow.Author.Rules.{rules}
 use Rattle.capi.proofs.replies.positioned.Statement.{statement}
 use Rattle.capi.proofs.replies.positioned.Tie as tie
 
-returns : tie.Need-returns
-returns c = search (rules, c.before.answer.given.1)
+returns : tie.Need-returns-in-Position
+returns c = search (rules, c.in-Position.is)
 
-returns-2 : tie.Need-returns-2
-returns-2 c = search (rules, ← c.number.ensures, c.before.before.answer2.given.1)
+returns-2 : tie.Need-returns-in-Refused
+returns-2 c = search (rules, ← c.number.ensures, c.in-Refused.is)
 
-pub positioned-spec : {M : Type 1} → statement M
-positioned-spec =
+pub positioned_spec : {M : Type 1} → statement M
+positioned_spec =
     tie.close (tie.spec (search rules) (search rules) (search rules) returns returns-2)

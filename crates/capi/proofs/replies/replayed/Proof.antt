@@ -3,20 +3,20 @@ use borrow.Author.Rules.{rules}
 use Rattle.capi.proofs.replies.replayed.Statement.{statement}
 use Rattle.capi.proofs.replies.replayed.Tie as tie
 
-returns : tie.Need-returns
-returns c = rw c.enum_told.given.1
+returns : tie.Need-returns-in-End
+returns c = rw c.in-End.is
 
-returns-2 : tie.Need-returns-2
-returns-2 c = rw c.before.answer.given.1
+returns-2 : tie.Need-returns-in-InLog
+returns-2 c = rw c.in-InLog.is
 
-returns-3 : tie.Need-returns-3
-returns-3 c = rw c.before.answer2.given.1
+returns-3 : tie.Need-returns-in-InBuffer
+returns-3 c = rw c.in-InBuffer.is
 
-returns-4 : tie.Need-returns-4
-returns-4 c = search (rules, ← c.before.number.ensures, ← c.place.ensures, c.before.before.before.answer3.given.1)
+returns-4 : tie.Need-returns-in-Refused
+returns-4 c = search (rules, ← c.number.ensures, ← c.place.ensures, c.in-Refused.is)
 
-pub replayed-spec : {M : Type 1} → statement M
-replayed-spec =
+pub replayed_spec : {M : Type 1} → statement M
+replayed_spec =
     tie.close
     (tie.spec
     (search rules)

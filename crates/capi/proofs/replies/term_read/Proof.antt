@@ -3,12 +3,12 @@ use borrow.Author.Rules.{rules}
 use Rattle.capi.proofs.replies.term_read.Statement.{statement}
 use Rattle.capi.proofs.replies.term_read.Tie as tie
 
-returns : tie.Need-returns
-returns c = search (rules, c.narrow.ensures, c.before.before.answer.given.1)
+returns : tie.Need-returns-in-Outcome
+returns c = search (rules, c.narrow.ensures, c.in-Outcome.is)
 
-returns-2 : tie.Need-returns-2
-returns-2 c = search (rules, ← c.before.number.ensures, ← c.place.ensures, c.before.before.before.answer2.given.1)
+returns-2 : tie.Need-returns-in-Refused
+returns-2 c = search (rules, ← c.number.ensures, ← c.place.ensures, c.in-Refused.is)
 
-pub term-read-spec : {M : Type 1} → statement M
-term-read-spec =
+pub term_read_spec : {M : Type 1} → statement M
+term_read_spec =
     tie.close (tie.spec (search rules) (search rules) (search rules) (search rules) (search rules) (search rules) returns returns-2)

@@ -16,10 +16,10 @@ unfolding beside_of
 rebuilt r a b c d ea eb ec ed = cc
 
 returns : tie.Need-returns
-returns c = let r = c.before.before.args.rec in
+returns c = let r = c.args.rec in
     rebuilt r _ _ _ _
     (to_z-of_z {w = w32} {z = r.session_id} (search rules)) (to_z-of_z {w = w32} {z = r.stream_id} (search rules))
     (to_z-of_z {w = w64} {z = r.publication_limit} (search rules)) (to_z-of_z {w = w64} {z = r.slowest_position} (search rules))
 
-pub beside-of-spec : {M : Type 1} → statement M
-beside-of-spec = tie.close (tie.spec returns)
+pub beside_of_spec : {M : Type 1} → statement M
+beside_of_spec = tie.close (tie.spec returns)

@@ -17,26 +17,26 @@ use Rattle.capi.proofs.sections.logbuffer_read_metadata.Statement.{statement}
 use Rattle.capi.proofs.sections.logbuffer_read_metadata.Tie as tie
 
 -- what an answer, met in an arm, says of the call's reply
-done : (w : List ℤ) (o p : MetadataReply) → o ≡ p → o.answer ≡ Done → (pos 0 ≡ answer_number p.answer) × (record_filled w o.next ≡ read_out w p)
-done w o p q e = (ap answer_number (sym e) ∙ ap (λ (x : MetadataReply). answer_number x.answer) q, ap (read_by w o.next) (sym e) ∙ ap (read_out w) q)
+done : (w : List ℤ) (o p : MetadataReply) → o ≡ p → o.answer-1 ≡ Done → (pos 0 ≡ answer_number p.answer-1) × (record_filled w o.next-1 ≡ read_out w p)
+done w o p q e = (ap answer_number (sym e) ∙ ap (λ (x : MetadataReply). answer_number x.answer-1) q, ap (read_by w o.next-1) (sym e) ∙ ap (read_out w) q)
 
-refused : (w : List ℤ) (o p : MetadataReply) (r : MetadataError) → o ≡ p → o.answer ≡ Refused r → (error_number r ≡ answer_number p.answer) × (w ≡ read_out w p)
-refused w o p r q e = (ap answer_number (sym e) ∙ ap (λ (x : MetadataReply). answer_number x.answer) q, ap (read_by w o.next) (sym e) ∙ ap (read_out w) q)
+refused : (w : List ℤ) (o p : MetadataReply) (r : MetadataError) → o ≡ p → o.answer-1 ≡ Refused r → (error_number r ≡ answer_number p.answer-1) × (w ≡ read_out w p)
+refused w o p r q e = (ap answer_number (sym e) ∙ ap (λ (x : MetadataReply). answer_number x.answer-1) q, ap (read_by w o.next-1) (sym e) ∙ ap (read_out w) q)
 
-returns : tie.Need-returns
+returns : tie.Need-returns-in-Done
 returns c =
-    let a = c.before.before.before.before.before.before.before.before.before.before.args in
-    let q = of-1 (read_of a.bytes.now) c.before.before.before.before.before.read-metadata.ensures (of-1 beside_of c.before.before.before.before.before.before.beside-of.ensures c.before.before.before.before.before.before.before.record-in.ensures) in
-    let d = done a.rec.now _ _ q c.before.before.enum_told.given.1 in
-    (d.0, c.record-filled.ensures ∙ d.1)
+    let a = c.args in
+    let q = of-1 (read_of a.bytes.now) c.read_metadata-o.ensures (of-1 beside_of c.beside_of-beside.ensures c.record_in.ensures) in
+    let d = done a.rec.now _ _ q c.in-Done.is in
+    (d.0, c.record_filled.ensures ∙ d.1)
 
-returns-2 : tie.Need-returns-2
+returns-2 : tie.Need-returns-in-Refused
 returns-2 c =
-    let a = c.before.before.before.before.before.before.before.before.before.before.args in
-    let q = of-1 (read_of a.bytes.now) c.before.before.before.before.before.read-metadata.ensures (of-1 beside_of c.before.before.before.before.before.before.beside-of.ensures c.before.before.before.before.before.before.before.record-in.ensures) in
-    let d = refused a.rec.now _ _ _ q c.before.before.answer.given.1 in
-    (promised (c.error-number.ensures ∙ d.0) (search rules), d.1)
+    let a = c.args in
+    let q = of-1 (read_of a.bytes.now) c.read_metadata-o.ensures (of-1 beside_of c.beside_of-beside.ensures c.record_in.ensures) in
+    let d = refused a.rec.now _ _ _ q c.in-Refused.is in
+    (promised (c.error_number.ensures ∙ d.0) (search rules), d.1)
 
-pub logbuffer-read-metadata-spec : {M : Type 1} → statement M
-logbuffer-read-metadata-spec =
+pub logbuffer_read_metadata_spec : {M : Type 1} → statement M
+logbuffer_read_metadata_spec =
     tie.close (tie.spec (search rules) (search rules) (search rules) (search rules) (search rules) (search rules) (search rules) returns returns-2)

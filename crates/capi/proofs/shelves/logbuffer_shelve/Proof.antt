@@ -6,8 +6,8 @@ use Rattle.capi.proofs.shelves.logbuffer_shelve.Tie as tie
 
 returns : tie.Need-returns
 returns c =
-    let f = c.before.before.before.shelve.ensures in rw (promised c.shelved-code.ensures (search rules), f.0, f.1, c.before.before.before.before.before.record-in.ensures) (search rules)
+    let f = c.shelve.ensures in rw (promised c.shelved_code.ensures (search rules), f.0, f.1, c.record_in.ensures) (search rules)
 
-pub logbuffer-shelve-spec : {M : Type 1} → statement M
-logbuffer-shelve-spec =
+pub logbuffer_shelve_spec : {M : Type 1} → statement M
+logbuffer_shelve_spec =
     tie.close (tie.spec (search rules) (search rules) (search rules) (search rules) returns)

@@ -6,8 +6,8 @@ use Rattle.capi.proofs.shelves.logbuffer_unshelve.Tie as tie
 
 returns : tie.Need-returns
 returns c =
-    let f = c.before.before.before.unshelve.ensures in rw (promised c.shelved-code.ensures (search rules), f.0, f.1, c.before.before.before.before.before.record-in.ensures) (search rules)
+    let f = c.unshelve.ensures in rw (promised c.shelved_code.ensures (search rules), f.0, f.1, c.record_in.ensures) (search rules)
 
-pub logbuffer-unshelve-spec : {M : Type 1} → statement M
-logbuffer-unshelve-spec =
+pub logbuffer_unshelve_spec : {M : Type 1} → statement M
+logbuffer_unshelve_spec =
     tie.close (tie.spec (search rules) (search rules) (search rules) (search rules) returns)

@@ -3,12 +3,12 @@ use borrow.Author.Rules.{rules}
 use Rattle.capi.proofs.shelves.shelved_code.Statement.{statement}
 use Rattle.capi.proofs.shelves.shelved_code.Tie as tie
 
-returns : tie.Need-returns
-returns c = rw c.enum_told.given.1
+returns : tie.Need-returns-in-Done
+returns c = rw c.in-Done.is
 
-returns-2 : tie.Need-returns-2
-returns-2 c = search (rules, ← c.error-number.ensures, c.before.before.answer.given.1)
+returns-2 : tie.Need-returns-in-Refused
+returns-2 c = search (rules, ← c.error_number.ensures, c.in-Refused.is)
 
-pub shelved-code-spec : {M : Type 1} → statement M
-shelved-code-spec =
+pub shelved_code_spec : {M : Type 1} → statement M
+shelved_code_spec =
     tie.close (tie.spec (search rules) (search rules) (search rules) returns returns-2)

@@ -5,8 +5,8 @@ use Rattle.capi.proofs.tallies.logbuffer_tally.Tie as tie
 
 returns : tie.Need-returns
 returns c =
-    let f = c.before.tally.ensures in rw (c.tallied.ensures, f, c.before.before.record-in.ensures) (search rules)
+    let f = c.tally.ensures in rw (c.tallied.ensures, f, c.record_in.ensures) (search rules)
 
-pub logbuffer-tally-spec : {M : Type 1} → statement M
-logbuffer-tally-spec =
+pub logbuffer_tally_spec : {M : Type 1} → statement M
+logbuffer_tally_spec =
     tie.close (tie.spec (search rules) (search rules) (search rules) returns)

@@ -5,8 +5,8 @@ use Rattle.capi.proofs.tallies.logbuffer_tally_by_partition.Tie as tie
 
 returns : tie.Need-returns
 returns c =
-    let f = c.before.tally-by-partition.ensures in rw (c.tallied-by-partition.ensures, f, c.before.before.record-in.ensures) (search rules)
+    let f = c.tally_by_partition.ensures in rw (c.tallied_by_partition.ensures, f, c.record_in.ensures) (search rules)
 
-pub logbuffer-tally-by-partition-spec : {M : Type 1} → statement M
-logbuffer-tally-by-partition-spec =
+pub logbuffer_tally_by_partition_spec : {M : Type 1} → statement M
+logbuffer_tally_by_partition_spec =
     tie.close (tie.spec (search rules) (search rules) (search rules) returns)

@@ -15,11 +15,11 @@ of_three a b c = record { p0 = a; p1 = b; p2 = c }
 returns : tie.Need-returns
 returns c =
     let none = sums_at 0 (answered []) in
-    let b = c.before in
-    let a = b.before in
-    ap (λ (s : Sums). of_three s b.no-sums2.result c.no-sums3.result) a.no-sums.ensures
-    ∙ ap (λ (s : Sums). of_three none s c.no-sums3.result) b.no-sums2.ensures
-    ∙ ap (λ (s : Sums). of_three none none s) c.no-sums3.ensures
+    let b = c in
+    let a = c in
+    ap (λ (s : Sums). of_three s b.no_sums-2.result c.no_sums-3.result) a.no_sums.ensures
+    ∙ ap (λ (s : Sums). of_three none s c.no_sums-3.result) b.no_sums-2.ensures
+    ∙ ap (λ (s : Sums). of_three none none s) c.no_sums-3.ensures
 
-pub no-partitions-spec : {M : Type 1} → statement M
-no-partitions-spec = tie.close (tie.spec (search rules) (search rules) (search rules) returns)
+pub no_partitions_spec : {M : Type 1} → statement M
+no_partitions_spec = tie.close (tie.spec (search rules) (search rules) (search rules) returns)

@@ -7,8 +7,8 @@ use Rattle.tally.specs.Tally.{stop_number}
 use Rattle.capi.proofs.tallies.stop_number.Statement.{statement}
 use Rattle.capi.proofs.tallies.stop_number.Tie as tie
 
-pub stop-number-spec : {M : Type 1} → statement M
-stop-number-spec =
+pub stop_number_spec : {M : Type 1} → statement M
+stop_number_spec =
     tie.close
     (tie.spec
     (search rules)
@@ -17,9 +17,9 @@ stop-number-spec =
     (search rules)
     (search rules)
     (search rules)
-    (λ c. ap (λ (s : Stop). pos (stop_number s)) (sym c.enum_told.given.1))
-    (λ c. ap (λ (s : Stop). pos (stop_number s)) (sym c.enum-told2.given.1))
-    (λ c. ap (λ (s : Stop). pos (stop_number s)) (sym c.enum-told3.given.1))
-    (λ c. ap (λ (s : Stop). pos (stop_number s)) (sym c.enum-told4.given.1))
-    (λ c. ap (λ (s : Stop). pos (stop_number s)) (sym c.enum-told5.given.1))
-    (λ c. ap (λ (s : Stop). pos (stop_number s)) (sym c.enum-told6.given.1)))
+    (λ c. ap (λ (s : Stop). pos (stop_number s)) (sym c.in-Reached.is))
+    (λ c. ap (λ (s : Stop). pos (stop_number s)) (sym c.in-Writing.is))
+    (λ c. ap (λ (s : Stop). pos (stop_number s)) (sym c.in-Free.is))
+    (λ c. ap (λ (s : Stop). pos (stop_number s)) (sym c.in-OtherTerm.is))
+    (λ c. ap (λ (s : Stop). pos (stop_number s)) (sym c.in-PastSecond.is))
+    (λ c. ap (λ (s : Stop). pos (stop_number s)) (sym c.in-UnsoundFrame.is)))

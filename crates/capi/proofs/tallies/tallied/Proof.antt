@@ -9,20 +9,20 @@ use mir.Val.{to_z, of_z}
 use Rattle.capi.proofs.tallies.tallied.Statement.{statement}
 use Rattle.capi.proofs.tallies.tallied.Tie as tie
 
-returns : tie.Need-returns
+returns : tie.Need-returns-in-Tally
 returns c =
-    let n = c.before.before.before.answer.given in
+    let n = c.answer-1.given in
     let p : to_z w64 (of_z w64 n.0.1.0) ≡ n.0.1.0 = search rules in
-    let q : to_z w32 (of_z w32 c.before.stop-number.result) ≡ c.before.stop-number.result = search rules in
-    rw (n.1, p, q, c.before.stop-number.ensures, c.writing-size.ensures)
+    let q : to_z w32 (of_z w32 c.stop_number.result) ≡ c.stop_number.result = search rules in
+    rw (n.1, p, q, c.stop_number.ensures, c.writing_size.ensures)
 
-returns-2 : tie.Need-returns-2
+returns-2 : tie.Need-returns-in-Refused
 returns-2 c =
-    let z : to_z w64 c.before.place.result ≡ pos c.before.place.result = to_z_pos w64 (omega arith) in
-    search (rules, z, ← c.before.before.number.ensures, ← c.before.place.ensures, c.no-sums.ensures, c.before.before.before.before.answer2.given.1)
+    let z : to_z w64 c.place.result ≡ pos c.place.result = to_z_pos w64 (omega arith) in
+    search (rules, z, ← c.number.ensures, ← c.place.ensures, c.no_sums.ensures, c.in-Refused.is)
 
-pub tallied-spec : {M : Type 1} → statement M
-tallied-spec =
+pub tallied_spec : {M : Type 1} → statement M
+tallied_spec =
     tie.close
     (tie.spec
     (search rules)

@@ -9,21 +9,21 @@ use mir.Val.{to_z, of_z}
 use Rattle.capi.proofs.tallies.tallied_by_partition.Statement.{statement}
 use Rattle.capi.proofs.tallies.tallied_by_partition.Tie as tie
 
-returns : tie.Need-returns
+returns : tie.Need-returns-in-Tally
 returns c =
-    let n = c.before.before.before.answer.given in
+    let n = c.answer-1.given in
     let p : to_z w64 (of_z w64 n.0.1.1.0) ≡ n.0.1.1.0 = search rules in
-    let q : to_z w32 (of_z w32 c.before.stop-number.result) ≡ c.before.stop-number.result = search rules in
-    rw (n.1, p, q, c.before.stop-number.ensures, c.writing-size.ensures)
+    let q : to_z w32 (of_z w32 c.stop_number.result) ≡ c.stop_number.result = search rules in
+    rw (n.1, p, q, c.stop_number.ensures, c.writing_size.ensures)
 
-returns-2 : tie.Need-returns-2
+returns-2 : tie.Need-returns-in-Refused
 returns-2 c =
-    let z : to_z w64 c.before.before.place.result ≡ pos c.before.before.place.result = to_z_pos w64 (omega arith) in
-    let b = c.before in
-    search (rules, z, ← b.before.before.number.ensures, ← b.before.place.ensures, b.no-sums.ensures, c.no-partitions.ensures, b.before.before.before.before.answer2.given.1)
+    let z : to_z w64 c.place.result ≡ pos c.place.result = to_z_pos w64 (omega arith) in
+    let b = c in
+    search (rules, z, ← b.number.ensures, ← b.place.ensures, b.no_sums.ensures, c.no_partitions.ensures, b.in-Refused.is)
 
-pub tallied-by-partition-spec : {M : Type 1} → statement M
-tallied-by-partition-spec =
+pub tallied_by_partition_spec : {M : Type 1} → statement M
+tallied_by_partition_spec =
     tie.close
     (tie.spec
     (search rules)

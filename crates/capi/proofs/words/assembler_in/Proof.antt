@@ -17,9 +17,9 @@ same w n ids held e f g = cc
 
 returns : tie.Need-returns
 returns c =
-    let w = c.before.before.before.before.args.w.now in
-    same w _ _ _ (long-by (at w 0) c.before.before.long.ensures.0 (search (rules, c.before.before.before.long-arg.given))) c.before.ids-in.ensures c.held_in.ensures
+    let w = c.args.w.now in
+    same w _ _ _ (long-by (at w 0) c.long.ensures.0 (search (rules, c.long-arg-1.given))) c.ids_in.ensures c.held_in.ensures
 
-pub assembler-in-spec : {M : Type 1} → statement M
-assembler-in-spec =
+pub assembler_in_spec : {M : Type 1} → statement M
+assembler_in_spec =
     tie.close (tie.spec (search rules) (search rules) (search rules) (search rules) returns)

@@ -13,10 +13,10 @@ same x y a b l i ea eb el ei = cc
 
 returns : tie.Need-returns
 returns c =
-    let s = c.before.before.before.before in
-    same s.args.first s.args.second _ _ _ _ (low_by s.args.first c.before.before.before.low.ensures s.ranges.first (search rules)) (high-by s.args.first c.before.before.high.ensures s.ranges.first (search rules))
-    (low_by s.args.second c.before.low2.ensures s.ranges.second (search rules)) (high-by s.args.second c.high2.ensures s.ranges.second (search rules))
+    let s = c in
+    same s.args.first s.args.second _ _ _ _ (low_by s.args.first c.low.ensures s.ranges.first (search rules)) (high-by s.args.first c.high.ensures s.ranges.first (search rules))
+    (low_by s.args.second c.low-2.ensures s.ranges.second (search rules)) (high-by s.args.second c.high-2.ensures s.ranges.second (search rules))
 
-pub claim-in-spec : {M : Type 1} → statement M
-claim-in-spec =
+pub claim_in_spec : {M : Type 1} → statement M
+claim_in_spec =
     tie.close (tie.spec (search rules) (search rules) (search rules) (search rules) returns)

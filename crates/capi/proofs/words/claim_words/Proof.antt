@@ -9,9 +9,9 @@ use Rattle.capi.proofs.words.claim_words.Tie as tie
 
 returns : tie.Need-returns
 returns c =
-    let k = c.before.before.before.before.before.before.args.claim in
-    ap₂ (λ (a b : ℤ). a ∷ b ∷ []) (pair-by k.partition k.offset c.before.before.before.pair.ensures (search rules) (search rules) (search rules)) (pair-by k.length k.term_id c.pair2.ensures (search rules) (search rules) (search rules))
+    let k = c.args.claim in
+    ap₂ (λ (a b : ℤ). a ∷ b ∷ []) (pair-by k.partition k.offset c.pair.ensures (search rules) (search rules) (search rules)) (pair-by k.length k.term_id c.pair-2.ensures (search rules) (search rules) (search rules))
 
-pub claim-words-spec : {M : Type 1} → statement M
-claim-words-spec =
+pub claim_words_spec : {M : Type 1} → statement M
+claim_words_spec =
     tie.close (tie.spec (search rules) (search rules) returns)

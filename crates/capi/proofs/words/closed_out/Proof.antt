@@ -28,23 +28,23 @@ left w r e f = rw (e, f)
 now-closed : (w : List ℤ) (r : LogRecord) (x : ℤ) → flag_of (long (at w 9)) ≡ false → r.is_closed ≡ true → x ≡ to_z w64 (long (at w 9) + 1) → set w 9 x ≡ closed_out w r
 now-closed w r x e f g = rw (e, f, g)
 
-returns : tie.Need-returns
+returns : tie.Need-returns-then-flag
 returns c =
-    let w = c.before.before.before.before.args.w.now in
-    let l = long-by (at w 9) c.before.before.long.ensures.0 (search (rules, c.before.before.before.long-arg.given)) in
-    closed w c.before.before.before.before.args.next (sym (ap flag_of l) ∙ sym c.before.flag.ensures ∙ c.if1.true)
+    let w = c.args.w.now in
+    let l = long-by (at w 9) c.long-bits.ensures.0 (search (rules, c.long-arg-1.given)) in
+    closed w c.args.next (sym (ap flag_of l) ∙ sym c.flag.ensures ∙ c.if-flag.true)
 
-returns-2 : tie.Need-returns-2
+returns-2 : tie.Need-returns-then-next
 returns-2 c =
-    let w = c.before.before.before.before.before.before.args.w.now in
-    let l = long-by (at w 9) c.before.before.before.before.long.ensures.0 (search (rules, c.before.before.before.before.before.long-arg.given)) in
-    now-closed w c.before.before.before.before.before.before.args.next _ (sym (ap flag_of l) ∙ sym c.before.before.before.flag.ensures ∙ c.before.before.if1.false) c.before.if2.true (promised64 (c.to-i64.ensures ∙ ap (λ (n : ℕ). to_z w64 (n + 1)) l) (search rules))
+    let w = c.args.w.now in
+    let l = long-by (at w 9) c.long-bits.ensures.0 (search (rules, c.long-arg-1.given)) in
+    now-closed w c.args.next _ (sym (ap flag_of l) ∙ sym c.flag.ensures ∙ c.if-flag.false) c.if-next.true (promised64 (c.to_i64.ensures ∙ ap (λ (n : ℕ). to_z w64 (n + 1)) l) (search rules))
 
-returns-3 : tie.Need-returns-3
+returns-3 : tie.Need-returns-else-next
 returns-3 c =
-    let w = c.before.before.before.before.before.args.w.now in
-    let l = long-by (at w 9) c.before.before.before.long.ensures.0 (search (rules, c.before.before.before.before.long-arg.given)) in
-    left w c.before.before.before.before.before.args.next (sym (ap flag_of l) ∙ sym c.before.before.flag.ensures ∙ c.before.if1.false) c.if2.false
+    let w = c.args.w.now in
+    let l = long-by (at w 9) c.long-bits.ensures.0 (search (rules, c.long-arg-1.given)) in
+    left w c.args.next (sym (ap flag_of l) ∙ sym c.flag.ensures ∙ c.if-flag.false) c.if-next.false
 
 even : (n : ℕ) → n < 18446744073709551616 → flag_of n ≡ false → n + 1 < 18446744073709551616
 even n h e = go (eqb (n % 256) 0) refl e
@@ -53,9 +53,9 @@ even n h e = go (eqb (n % 256) 0) refl e
     go true q t = omega (arith, eqb-true (n % 256) 0 q)
     go false q t = absurd (let z : ◌≡◌ {A = ℕ} 0 1 = cc in omega arith)
 
-add-to-i64 : tie.Need-overflow-add-to-i64
-add-to-i64 c = record { fits = even c.before.before.before.long.result c.before.before.before.long.ensures.1 (sym c.before.before.flag.ensures ∙ c.before.if1.false) }
+add-to-i64 : tie.Need-overflow_add-bits
+add-to-i64 c = record { fits = even c.long-bits.result c.long-bits.ensures.1 (sym c.flag.ensures ∙ c.if-flag.false) }
 
-pub closed-out-spec : {M : Type 1} → statement M
-closed-out-spec =
+pub closed_out_spec : {M : Type 1} → statement M
+closed_out_spec =
     tie.close (tie.spec (search rules) (search rules) (search rules) returns add-to-i64 (search rules) (search rules) returns-2 returns-3)

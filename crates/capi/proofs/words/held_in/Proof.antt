@@ -20,27 +20,27 @@ same w n0 n1 n2 n3 n4 n5 n6 n7 n8 n9 n10 n11 n12 n13 n14 n15 h0 h1 h2 h3 h4 h5 h
 
 returns : tie.Need-returns
 returns c =
-    let w = c.before.before.before.before.before.before.before.before.before.before.before.before.before.before.before.before.before.before.before.before.before.before.before.before.before.before.before.before.before.before.before.before.args.w.now in
+    let w = c.args.w.now in
     same w _ _ _ _ _ _ _ _ _ _ _ _ _ _ _ _
-    (long-by (at w 9) c.before.before.before.before.before.before.before.before.before.before.before.before.before.before.before.before.before.before.before.before.before.before.before.before.before.before.before.before.before.before.long.ensures.0 (search (rules, c.before.before.before.before.before.before.before.before.before.before.before.before.before.before.before.before.before.before.before.before.before.before.before.before.before.before.before.before.before.before.before.long-arg.given)))
-    (long-by (at w 10) c.before.before.before.before.before.before.before.before.before.before.before.before.before.before.before.before.before.before.before.before.before.before.before.before.before.before.before.before.long2.ensures.0 (search (rules, c.before.before.before.before.before.before.before.before.before.before.before.before.before.before.before.before.before.before.before.before.before.before.before.before.before.before.before.before.before.long-arg2.given)))
-    (long-by (at w 11) c.before.before.before.before.before.before.before.before.before.before.before.before.before.before.before.before.before.before.before.before.before.before.before.before.before.before.long3.ensures.0 (search (rules, c.before.before.before.before.before.before.before.before.before.before.before.before.before.before.before.before.before.before.before.before.before.before.before.before.before.before.before.long-arg3.given)))
-    (long-by (at w 12) c.before.before.before.before.before.before.before.before.before.before.before.before.before.before.before.before.before.before.before.before.before.before.before.before.long4.ensures.0 (search (rules, c.before.before.before.before.before.before.before.before.before.before.before.before.before.before.before.before.before.before.before.before.before.before.before.before.before.long-arg4.given)))
-    (long-by (at w 13) c.before.before.before.before.before.before.before.before.before.before.before.before.before.before.before.before.before.before.before.before.before.before.long5.ensures.0 (search (rules, c.before.before.before.before.before.before.before.before.before.before.before.before.before.before.before.before.before.before.before.before.before.before.before.long-arg5.given)))
-    (long-by (at w 14) c.before.before.before.before.before.before.before.before.before.before.before.before.before.before.before.before.before.before.before.before.long6.ensures.0 (search (rules, c.before.before.before.before.before.before.before.before.before.before.before.before.before.before.before.before.before.before.before.before.before.long-arg6.given)))
-    (long-by (at w 15) c.before.before.before.before.before.before.before.before.before.before.before.before.before.before.before.before.before.before.long7.ensures.0 (search (rules, c.before.before.before.before.before.before.before.before.before.before.before.before.before.before.before.before.before.before.before.long-arg7.given)))
-    (long-by (at w 16) c.before.before.before.before.before.before.before.before.before.before.before.before.before.before.before.before.long8.ensures.0 (search (rules, c.before.before.before.before.before.before.before.before.before.before.before.before.before.before.before.before.before.long-arg8.given)))
-    (long-by (at w 17) c.before.before.before.before.before.before.before.before.before.before.before.before.before.before.long9.ensures.0 (search (rules, c.before.before.before.before.before.before.before.before.before.before.before.before.before.before.before.long-arg9.given)))
-    (long-by (at w 18) c.before.before.before.before.before.before.before.before.before.before.before.before.long10.ensures.0 (search (rules, c.before.before.before.before.before.before.before.before.before.before.before.before.before.long-arg10.given)))
-    (long-by (at w 19) c.before.before.before.before.before.before.before.before.before.before.long11.ensures.0 (search (rules, c.before.before.before.before.before.before.before.before.before.before.before.long-arg11.given)))
-    (long-by (at w 20) c.before.before.before.before.before.before.before.before.long12.ensures.0 (search (rules, c.before.before.before.before.before.before.before.before.before.long-arg12.given)))
-    (long-by (at w 21) c.before.before.before.before.before.before.long13.ensures.0 (search (rules, c.before.before.before.before.before.before.before.long-arg13.given)))
-    (long-by (at w 22) c.before.before.before.before.long14.ensures.0 (search (rules, c.before.before.before.before.before.long-arg14.given)))
-    (long-by (at w 23) c.before.before.long15.ensures.0 (search (rules, c.before.before.before.long-arg15.given)))
-    (long-by (at w 24) c.long16.ensures.0 (search (rules, c.before.long-arg16.given)))
+    (long-by (at w 9) c.long.ensures.0 (search (rules, c.long-arg-1.given)))
+    (long-by (at w 10) c.long-2.ensures.0 (search (rules, c.long-arg-2-1.given)))
+    (long-by (at w 11) c.long-3.ensures.0 (search (rules, c.long-arg-3-1.given)))
+    (long-by (at w 12) c.long-4.ensures.0 (search (rules, c.long-arg-4-1.given)))
+    (long-by (at w 13) c.long-5.ensures.0 (search (rules, c.long-arg-5-1.given)))
+    (long-by (at w 14) c.long-6.ensures.0 (search (rules, c.long-arg-6-1.given)))
+    (long-by (at w 15) c.long-7.ensures.0 (search (rules, c.long-arg-7-1.given)))
+    (long-by (at w 16) c.long-8.ensures.0 (search (rules, c.long-arg-8-1.given)))
+    (long-by (at w 17) c.long-9.ensures.0 (search (rules, c.long-arg-9-1.given)))
+    (long-by (at w 18) c.long-10.ensures.0 (search (rules, c.long-arg-10-1.given)))
+    (long-by (at w 19) c.long-11.ensures.0 (search (rules, c.long-arg-11-1.given)))
+    (long-by (at w 20) c.long-12.ensures.0 (search (rules, c.long-arg-12-1.given)))
+    (long-by (at w 21) c.long-13.ensures.0 (search (rules, c.long-arg-13-1.given)))
+    (long-by (at w 22) c.long-14.ensures.0 (search (rules, c.long-arg-14-1.given)))
+    (long-by (at w 23) c.long-15.ensures.0 (search (rules, c.long-arg-15-1.given)))
+    (long-by (at w 24) c.long-16.ensures.0 (search (rules, c.long-arg-16-1.given)))
 
-pub held-in-spec : {M : Type 1} → statement M
-held-in-spec =
+pub held_in_spec : {M : Type 1} → statement M
+held_in_spec =
     tie.close
     (tie.spec
     (search rules) (search rules) (search rules) (search rules) (search rules) (search rules) (search rules) (search rules) (search rules)

@@ -20,27 +20,27 @@ same w held a0 a1 a2 a3 a4 a5 a6 a7 a8 a9 a10 a11 a12 a13 a14 a15 h0 h1 h2 h3 h4
 
 returns : tie.Need-returns
 returns c =
-    let s = c.before.before.before.before.before.before.before.before.before.before.before.before.before.before.before.before.before.before.before.before.before.before.before.before.before.before.before.before.before.before.before.before.args in
+    let s = c.args in
     same s.w.now s.held.now _ _ _ _ _ _ _ _ _ _ _ _ _ _ _ _
-    (promised64 c.before.before.before.before.before.before.before.before.before.before.before.before.before.before.before.before.before.before.before.before.before.before.before.before.before.before.before.before.before.before.to-i64.ensures (search (rules, c.before.before.before.before.before.before.before.before.before.before.before.before.before.before.before.before.before.before.before.before.before.before.before.before.before.before.before.before.before.before.to-i64.type-inv)))
-    (promised64 c.before.before.before.before.before.before.before.before.before.before.before.before.before.before.before.before.before.before.before.before.before.before.before.before.before.before.before.before.to-i642.ensures (search (rules, c.before.before.before.before.before.before.before.before.before.before.before.before.before.before.before.before.before.before.before.before.before.before.before.before.before.before.before.before.to-i642.type-inv)))
-    (promised64 c.before.before.before.before.before.before.before.before.before.before.before.before.before.before.before.before.before.before.before.before.before.before.before.before.before.before.to-i643.ensures (search (rules, c.before.before.before.before.before.before.before.before.before.before.before.before.before.before.before.before.before.before.before.before.before.before.before.before.before.before.to-i643.type-inv)))
-    (promised64 c.before.before.before.before.before.before.before.before.before.before.before.before.before.before.before.before.before.before.before.before.before.before.before.before.to-i644.ensures (search (rules, c.before.before.before.before.before.before.before.before.before.before.before.before.before.before.before.before.before.before.before.before.before.before.before.before.to-i644.type-inv)))
-    (promised64 c.before.before.before.before.before.before.before.before.before.before.before.before.before.before.before.before.before.before.before.before.before.before.to-i645.ensures (search (rules, c.before.before.before.before.before.before.before.before.before.before.before.before.before.before.before.before.before.before.before.before.before.before.to-i645.type-inv)))
-    (promised64 c.before.before.before.before.before.before.before.before.before.before.before.before.before.before.before.before.before.before.before.before.to-i646.ensures (search (rules, c.before.before.before.before.before.before.before.before.before.before.before.before.before.before.before.before.before.before.before.before.to-i646.type-inv)))
-    (promised64 c.before.before.before.before.before.before.before.before.before.before.before.before.before.before.before.before.before.before.to-i647.ensures (search (rules, c.before.before.before.before.before.before.before.before.before.before.before.before.before.before.before.before.before.before.to-i647.type-inv)))
-    (promised64 c.before.before.before.before.before.before.before.before.before.before.before.before.before.before.before.before.to-i648.ensures (search (rules, c.before.before.before.before.before.before.before.before.before.before.before.before.before.before.before.before.to-i648.type-inv)))
-    (promised64 c.before.before.before.before.before.before.before.before.before.before.before.before.before.before.to-i649.ensures (search (rules, c.before.before.before.before.before.before.before.before.before.before.before.before.before.before.to-i649.type-inv)))
-    (promised64 c.before.before.before.before.before.before.before.before.before.before.before.before.to-i6410.ensures (search (rules, c.before.before.before.before.before.before.before.before.before.before.before.before.to-i6410.type-inv)))
-    (promised64 c.before.before.before.before.before.before.before.before.before.before.to-i6411.ensures (search (rules, c.before.before.before.before.before.before.before.before.before.before.to-i6411.type-inv)))
-    (promised64 c.before.before.before.before.before.before.before.before.to-i6412.ensures (search (rules, c.before.before.before.before.before.before.before.before.to-i6412.type-inv)))
-    (promised64 c.before.before.before.before.before.before.to-i6413.ensures (search (rules, c.before.before.before.before.before.before.to-i6413.type-inv)))
-    (promised64 c.before.before.before.before.to-i6414.ensures (search (rules, c.before.before.before.before.to-i6414.type-inv)))
-    (promised64 c.before.before.to-i6415.ensures (search (rules, c.before.before.to-i6415.type-inv)))
-    (promised64 c.to-i6416.ensures (search (rules, c.to-i6416.type-inv)))
+    (promised64 c.to_i64.ensures (search (rules, c.to_i64.type_inv)))
+    (promised64 c.to_i64-2.ensures (search (rules, c.to_i64-2.type_inv)))
+    (promised64 c.to_i64-3.ensures (search (rules, c.to_i64-3.type_inv)))
+    (promised64 c.to_i64-4.ensures (search (rules, c.to_i64-4.type_inv)))
+    (promised64 c.to_i64-5.ensures (search (rules, c.to_i64-5.type_inv)))
+    (promised64 c.to_i64-6.ensures (search (rules, c.to_i64-6.type_inv)))
+    (promised64 c.to_i64-7.ensures (search (rules, c.to_i64-7.type_inv)))
+    (promised64 c.to_i64-8.ensures (search (rules, c.to_i64-8.type_inv)))
+    (promised64 c.to_i64-9.ensures (search (rules, c.to_i64-9.type_inv)))
+    (promised64 c.to_i64-10.ensures (search (rules, c.to_i64-10.type_inv)))
+    (promised64 c.to_i64-11.ensures (search (rules, c.to_i64-11.type_inv)))
+    (promised64 c.to_i64-12.ensures (search (rules, c.to_i64-12.type_inv)))
+    (promised64 c.to_i64-13.ensures (search (rules, c.to_i64-13.type_inv)))
+    (promised64 c.to_i64-14.ensures (search (rules, c.to_i64-14.type_inv)))
+    (promised64 c.to_i64-15.ensures (search (rules, c.to_i64-15.type_inv)))
+    (promised64 c.to_i64-16.ensures (search (rules, c.to_i64-16.type_inv)))
 
-pub held-out-spec : {M : Type 1} → statement M
-held-out-spec =
+pub held_out_spec : {M : Type 1} → statement M
+held_out_spec =
     tie.close
     (tie.spec
     (search rules) (search rules) (search rules) (search rules) (search rules) (search rules) (search rules) (search rules) (search rules)

@@ -5,7 +5,7 @@ use Rattle.capi.proofs.words.high.Statement.{statement}
 use Rattle.capi.proofs.words.high.Tie as tie
 
 returns : tie.Need-returns
-returns c = search (promised c.term-id.ensures, rules)
+returns c = search (promised c.term_id.ensures, rules)
 
-pub high-spec : {M : Type 1} → statement M
-high-spec = tie.close (tie.spec (search rules) returns)
+pub high_spec : {M : Type 1} → statement M
+high_spec = tie.close (tie.spec (search rules) returns)

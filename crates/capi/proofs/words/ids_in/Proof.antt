@@ -22,27 +22,27 @@ same w a1 b1 a2 b2 a3 b3 a4 b4 a5 b5 a6 b6 a7 b7 a8 b8 h1 i1 h2 i2 h3 i3 h4 i4 h
 
 returns : tie.Need-returns
 returns c =
-    let w = c.before.before.before.before.before.before.before.before.before.before.before.before.before.before.before.before.before.before.before.before.before.before.before.before.before.before.before.before.before.before.before.before.args.w.now in
+    let w = c.args.w.now in
     same w _ _ _ _ _ _ _ _ _ _ _ _ _ _ _ _
-    (low_by (at w 1) c.before.before.before.before.before.before.before.before.before.before.before.before.before.before.before.before.before.before.before.before.before.before.before.before.before.before.before.before.before.before.low.ensures (search (rules, c.before.before.before.before.before.before.before.before.before.before.before.before.before.before.before.before.before.before.before.before.before.before.before.before.before.before.before.before.before.before.before.low-arg.given)) (search (rules, c.before.before.before.before.before.before.before.before.before.before.before.before.before.before.before.before.before.before.before.before.before.before.before.before.before.before.before.before.before.before.low.type-inv)))
-    (high-by (at w 1) c.before.before.before.before.before.before.before.before.before.before.before.before.before.before.before.before.before.before.before.before.before.before.before.before.before.before.before.before.high.ensures (search (rules, c.before.before.before.before.before.before.before.before.before.before.before.before.before.before.before.before.before.before.before.before.before.before.before.before.before.before.before.before.before.high-arg.given)) (search (rules, c.before.before.before.before.before.before.before.before.before.before.before.before.before.before.before.before.before.before.before.before.before.before.before.before.before.before.before.before.high.type-inv)))
-    (low_by (at w 2) c.before.before.before.before.before.before.before.before.before.before.before.before.before.before.before.before.before.before.before.before.before.before.before.before.before.before.low2.ensures (search (rules, c.before.before.before.before.before.before.before.before.before.before.before.before.before.before.before.before.before.before.before.before.before.before.before.before.before.before.before.low-arg2.given)) (search (rules, c.before.before.before.before.before.before.before.before.before.before.before.before.before.before.before.before.before.before.before.before.before.before.before.before.before.before.low2.type-inv)))
-    (high-by (at w 2) c.before.before.before.before.before.before.before.before.before.before.before.before.before.before.before.before.before.before.before.before.before.before.before.before.high2.ensures (search (rules, c.before.before.before.before.before.before.before.before.before.before.before.before.before.before.before.before.before.before.before.before.before.before.before.before.before.high-arg2.given)) (search (rules, c.before.before.before.before.before.before.before.before.before.before.before.before.before.before.before.before.before.before.before.before.before.before.before.before.high2.type-inv)))
-    (low_by (at w 3) c.before.before.before.before.before.before.before.before.before.before.before.before.before.before.before.before.before.before.before.before.before.before.low3.ensures (search (rules, c.before.before.before.before.before.before.before.before.before.before.before.before.before.before.before.before.before.before.before.before.before.before.before.low-arg3.given)) (search (rules, c.before.before.before.before.before.before.before.before.before.before.before.before.before.before.before.before.before.before.before.before.before.before.low3.type-inv)))
-    (high-by (at w 3) c.before.before.before.before.before.before.before.before.before.before.before.before.before.before.before.before.before.before.before.before.high3.ensures (search (rules, c.before.before.before.before.before.before.before.before.before.before.before.before.before.before.before.before.before.before.before.before.before.high-arg3.given)) (search (rules, c.before.before.before.before.before.before.before.before.before.before.before.before.before.before.before.before.before.before.before.before.high3.type-inv)))
-    (low_by (at w 4) c.before.before.before.before.before.before.before.before.before.before.before.before.before.before.before.before.before.before.low4.ensures (search (rules, c.before.before.before.before.before.before.before.before.before.before.before.before.before.before.before.before.before.before.before.low-arg4.given)) (search (rules, c.before.before.before.before.before.before.before.before.before.before.before.before.before.before.before.before.before.before.low4.type-inv)))
-    (high-by (at w 4) c.before.before.before.before.before.before.before.before.before.before.before.before.before.before.before.before.high4.ensures (search (rules, c.before.before.before.before.before.before.before.before.before.before.before.before.before.before.before.before.before.high-arg4.given)) (search (rules, c.before.before.before.before.before.before.before.before.before.before.before.before.before.before.before.before.high4.type-inv)))
-    (low_by (at w 5) c.before.before.before.before.before.before.before.before.before.before.before.before.before.before.low5.ensures (search (rules, c.before.before.before.before.before.before.before.before.before.before.before.before.before.before.before.low-arg5.given)) (search (rules, c.before.before.before.before.before.before.before.before.before.before.before.before.before.before.low5.type-inv)))
-    (high-by (at w 5) c.before.before.before.before.before.before.before.before.before.before.before.before.high5.ensures (search (rules, c.before.before.before.before.before.before.before.before.before.before.before.before.before.high-arg5.given)) (search (rules, c.before.before.before.before.before.before.before.before.before.before.before.before.high5.type-inv)))
-    (low_by (at w 6) c.before.before.before.before.before.before.before.before.before.before.low6.ensures (search (rules, c.before.before.before.before.before.before.before.before.before.before.before.low-arg6.given)) (search (rules, c.before.before.before.before.before.before.before.before.before.before.low6.type-inv)))
-    (high-by (at w 6) c.before.before.before.before.before.before.before.before.high6.ensures (search (rules, c.before.before.before.before.before.before.before.before.before.high-arg6.given)) (search (rules, c.before.before.before.before.before.before.before.before.high6.type-inv)))
-    (low_by (at w 7) c.before.before.before.before.before.before.low7.ensures (search (rules, c.before.before.before.before.before.before.before.low-arg7.given)) (search (rules, c.before.before.before.before.before.before.low7.type-inv)))
-    (high-by (at w 7) c.before.before.before.before.high7.ensures (search (rules, c.before.before.before.before.before.high-arg7.given)) (search (rules, c.before.before.before.before.high7.type-inv)))
-    (low_by (at w 8) c.before.before.low8.ensures (search (rules, c.before.before.before.low-arg8.given)) (search (rules, c.before.before.low8.type-inv)))
-    (high-by (at w 8) c.high8.ensures (search (rules, c.before.high-arg8.given)) (search (rules, c.high8.type-inv)))
+    (low_by (at w 1) c.low.ensures (search (rules, c.low-arg-1.given)) (search (rules, c.low.type_inv)))
+    (high-by (at w 1) c.high.ensures (search (rules, c.high-arg-1.given)) (search (rules, c.high.type_inv)))
+    (low_by (at w 2) c.low-2.ensures (search (rules, c.low-arg-2-1.given)) (search (rules, c.low-2.type_inv)))
+    (high-by (at w 2) c.high-2.ensures (search (rules, c.high-arg-2-1.given)) (search (rules, c.high-2.type_inv)))
+    (low_by (at w 3) c.low-3.ensures (search (rules, c.low-arg-3-1.given)) (search (rules, c.low-3.type_inv)))
+    (high-by (at w 3) c.high-3.ensures (search (rules, c.high-arg-3-1.given)) (search (rules, c.high-3.type_inv)))
+    (low_by (at w 4) c.low-4.ensures (search (rules, c.low-arg-4-1.given)) (search (rules, c.low-4.type_inv)))
+    (high-by (at w 4) c.high-4.ensures (search (rules, c.high-arg-4-1.given)) (search (rules, c.high-4.type_inv)))
+    (low_by (at w 5) c.low-5.ensures (search (rules, c.low-arg-5-1.given)) (search (rules, c.low-5.type_inv)))
+    (high-by (at w 5) c.high-5.ensures (search (rules, c.high-arg-5-1.given)) (search (rules, c.high-5.type_inv)))
+    (low_by (at w 6) c.low-6.ensures (search (rules, c.low-arg-6-1.given)) (search (rules, c.low-6.type_inv)))
+    (high-by (at w 6) c.high-6.ensures (search (rules, c.high-arg-6-1.given)) (search (rules, c.high-6.type_inv)))
+    (low_by (at w 7) c.low-7.ensures (search (rules, c.low-arg-7-1.given)) (search (rules, c.low-7.type_inv)))
+    (high-by (at w 7) c.high-7.ensures (search (rules, c.high-arg-7-1.given)) (search (rules, c.high-7.type_inv)))
+    (low_by (at w 8) c.low-8.ensures (search (rules, c.low-arg-8-1.given)) (search (rules, c.low-8.type_inv)))
+    (high-by (at w 8) c.high-8.ensures (search (rules, c.high-arg-8-1.given)) (search (rules, c.high-8.type_inv)))
 
-pub ids-in-spec : {M : Type 1} → statement M
-ids-in-spec =
+pub ids_in_spec : {M : Type 1} → statement M
+ids_in_spec =
     tie.close
     (tie.spec
     (search rules) (search rules) (search rules) (search rules) (search rules) (search rules) (search rules) (search rules) (search rules)

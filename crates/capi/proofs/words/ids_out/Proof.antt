@@ -19,20 +19,20 @@ same w ids a0 a1 a2 a3 a4 a5 a6 a7 h0 h1 h2 h3 h4 h5 h6 h7 = cc
 
 returns : tie.Need-returns
 returns c =
-    let s = c.before.before.before.before.before.before.before.before.before.before.before.before.before.before.before.before.before.before.before.before.before.before.before.before.args in
+    let s = c.args in
     let ids = s.ids.now in
     same s.w.now ids _ _ _ _ _ _ _ _
-    (pair-by (at ids 0) (at ids 1) c.before.before.before.before.before.before.before.before.before.before.before.before.before.before.before.before.before.before.before.before.before.pair.ensures (search (rules, c.before.before.before.before.before.before.before.before.before.before.before.before.before.before.before.before.before.before.before.before.before.before.before.pair-arg.given)) (search (rules, c.before.before.before.before.before.before.before.before.before.before.before.before.before.before.before.before.before.before.before.before.before.before.pair-arg2.given)) (search (rules, c.before.before.before.before.before.before.before.before.before.before.before.before.before.before.before.before.before.before.before.before.before.pair.type-inv)))
-    (pair-by (at ids 2) (at ids 3) c.before.before.before.before.before.before.before.before.before.before.before.before.before.before.before.before.before.before.pair2.ensures (search (rules, c.before.before.before.before.before.before.before.before.before.before.before.before.before.before.before.before.before.before.before.before.pair-arg3.given)) (search (rules, c.before.before.before.before.before.before.before.before.before.before.before.before.before.before.before.before.before.before.before.pair-arg4.given)) (search (rules, c.before.before.before.before.before.before.before.before.before.before.before.before.before.before.before.before.before.before.pair2.type-inv)))
-    (pair-by (at ids 4) (at ids 5) c.before.before.before.before.before.before.before.before.before.before.before.before.before.before.before.pair3.ensures (search (rules, c.before.before.before.before.before.before.before.before.before.before.before.before.before.before.before.before.before.pair-arg5.given)) (search (rules, c.before.before.before.before.before.before.before.before.before.before.before.before.before.before.before.before.pair-arg6.given)) (search (rules, c.before.before.before.before.before.before.before.before.before.before.before.before.before.before.before.pair3.type-inv)))
-    (pair-by (at ids 6) (at ids 7) c.before.before.before.before.before.before.before.before.before.before.before.before.pair4.ensures (search (rules, c.before.before.before.before.before.before.before.before.before.before.before.before.before.before.pair-arg7.given)) (search (rules, c.before.before.before.before.before.before.before.before.before.before.before.before.before.pair-arg8.given)) (search (rules, c.before.before.before.before.before.before.before.before.before.before.before.before.pair4.type-inv)))
-    (pair-by (at ids 8) (at ids 9) c.before.before.before.before.before.before.before.before.before.pair5.ensures (search (rules, c.before.before.before.before.before.before.before.before.before.before.before.pair-arg9.given)) (search (rules, c.before.before.before.before.before.before.before.before.before.before.pair-arg10.given)) (search (rules, c.before.before.before.before.before.before.before.before.before.pair5.type-inv)))
-    (pair-by (at ids 10) (at ids 11) c.before.before.before.before.before.before.pair6.ensures (search (rules, c.before.before.before.before.before.before.before.before.pair-arg11.given)) (search (rules, c.before.before.before.before.before.before.before.pair-arg12.given)) (search (rules, c.before.before.before.before.before.before.pair6.type-inv)))
-    (pair-by (at ids 12) (at ids 13) c.before.before.before.pair7.ensures (search (rules, c.before.before.before.before.before.pair-arg13.given)) (search (rules, c.before.before.before.before.pair-arg14.given)) (search (rules, c.before.before.before.pair7.type-inv)))
-    (pair-by (at ids 14) (at ids 15) c.pair8.ensures (search (rules, c.before.before.pair-arg15.given)) (search (rules, c.before.pair-arg16.given)) (search (rules, c.pair8.type-inv)))
+    (pair-by (at ids 0) (at ids 1) c.pair.ensures (search (rules, c.pair-arg-1.given)) (search (rules, c.pair-arg-2-1.given)) (search (rules, c.pair.type_inv)))
+    (pair-by (at ids 2) (at ids 3) c.pair-2.ensures (search (rules, c.pair-arg-3-1.given)) (search (rules, c.pair-arg-4-1.given)) (search (rules, c.pair-2.type_inv)))
+    (pair-by (at ids 4) (at ids 5) c.pair-3.ensures (search (rules, c.pair-arg-5-1.given)) (search (rules, c.pair-arg-6-1.given)) (search (rules, c.pair-3.type_inv)))
+    (pair-by (at ids 6) (at ids 7) c.pair-4.ensures (search (rules, c.pair-arg-7-1.given)) (search (rules, c.pair-arg-8-1.given)) (search (rules, c.pair-4.type_inv)))
+    (pair-by (at ids 8) (at ids 9) c.pair-5.ensures (search (rules, c.pair-arg-9-1.given)) (search (rules, c.pair-arg-10-1.given)) (search (rules, c.pair-5.type_inv)))
+    (pair-by (at ids 10) (at ids 11) c.pair-6.ensures (search (rules, c.pair-arg-11-1.given)) (search (rules, c.pair-arg-12-1.given)) (search (rules, c.pair-6.type_inv)))
+    (pair-by (at ids 12) (at ids 13) c.pair-7.ensures (search (rules, c.pair-arg-13-1.given)) (search (rules, c.pair-arg-14-1.given)) (search (rules, c.pair-7.type_inv)))
+    (pair-by (at ids 14) (at ids 15) c.pair-8.ensures (search (rules, c.pair-arg-15-1.given)) (search (rules, c.pair-arg-16-1.given)) (search (rules, c.pair-8.type_inv)))
 
-pub ids-out-spec : {M : Type 1} → statement M
-ids-out-spec =
+pub ids_out_spec : {M : Type 1} → statement M
+ids_out_spec =
     tie.close
     (tie.spec
     (search rules) (search rules) (search rules) (search rules) (search rules) (search rules) (search rules) (search rules) (search rules)

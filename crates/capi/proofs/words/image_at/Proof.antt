@@ -19,12 +19,12 @@ same p w x y a b e f g h = cc
 
 returns : tie.Need-returns
 returns c =
-    let s = c.before.before.before.before in
+    let s = c in
     let w = s.args.w in
-    let l = long-by w c.before.before.before.long.ensures.0 s.ranges.w in
-    same s.args.position w _ _ _ _ (to_z-of_z s.ranges.position) (low_by w c.before.before.low.ensures s.ranges.w (search rules))
-    (c.before.flag.ensures ∙ ap (λ (n : ℕ). flag_of (n / 4294967296)) l) (c.flag2.ensures ∙ ap (λ (n : ℕ). flag_of (n / 1099511627776)) l)
+    let l = long-by w c.long-bits.ensures.0 s.ranges.w in
+    same s.args.position w _ _ _ _ (to_z-of_z s.ranges.position) (low_by w c.low.ensures s.ranges.w (search rules))
+    (c.flag.ensures ∙ ap (λ (n : ℕ). flag_of (n / 4294967296)) l) (c.flag-2.ensures ∙ ap (λ (n : ℕ). flag_of (n / 1099511627776)) l)
 
-pub image-at-spec : {M : Type 1} → statement M
-image-at-spec =
+pub image_at_spec : {M : Type 1} → statement M
+image_at_spec =
     tie.close (tie.spec (search rules) (search rules) (search rules) (search rules) returns)

@@ -13,9 +13,9 @@ same w p q x y e f = cc
 
 returns : tie.Need-returns
 returns c =
-    let i = c.before.before.before.args.next in
-    same c.before.before.before.args.w.now i.position _ _ _ (search rules) (pair-by i.session_id (pos 0) c.pair.ensures (search rules) (search rules) (search rules))
+    let i = c.args.next in
+    same c.args.w.now i.position _ _ _ (search rules) (pair-by i.session_id (pos 0) c.pair.ensures (search rules) (search rules) (search rules))
 
-pub image-filled-spec : {M : Type 1} → statement M
-image-filled-spec =
+pub image_filled_spec : {M : Type 1} → statement M
+image_filled_spec =
     tie.close (tie.spec (search rules) (search rules) (search rules) returns)

@@ -12,9 +12,9 @@ same p w x y e f = cc
 
 returns : tie.Need-returns
 returns c =
-    let w = c.before.before.before.args.w.now in
-    c.image-at.ensures ∙ same (at w 0) (at w 1) _ _ (to_z-of_z (search rules)) (to_z-of_z (search rules))
+    let w = c.args.w.now in
+    c.image_at.ensures ∙ same (at w 0) (at w 1) _ _ (to_z-of_z (search rules)) (to_z-of_z (search rules))
 
-pub image-in-spec : {M : Type 1} → statement M
-image-in-spec =
+pub image_in_spec : {M : Type 1} → statement M
+image_in_spec =
     tie.close (tie.spec (search rules) (search rules) (search rules) returns)

@@ -13,11 +13,11 @@ use Rattle.capi.proofs.words.marks_out.Tie as tie
 
 returns : tie.Need-returns
 returns c =
-    let a = c.before.before.before.args in
+    let a = c.args in
     let w = a.w.now in
-    let bits = long-by (at w 11) c.before.long.ensures.0 (search (rules, c.before.before.long-arg.given)) in
-    ap (set w 11) (promised64 (c.marks-word.ensures ∙ ap (λ (n : ℕ). marks_word n a.next) bits) (search rules))
+    let bits = long-by (at w 11) c.long-bits.ensures.0 (search (rules, c.long-arg-1.given)) in
+    ap (set w 11) (promised64 (c.marks_word.ensures ∙ ap (λ (n : ℕ). marks_word n a.next) bits) (search rules))
 
-pub marks-out-spec : {M : Type 1} → statement M
-marks-out-spec =
+pub marks_out_spec : {M : Type 1} → statement M
+marks_out_spec =
     tie.close (tie.spec (search rules) (search rules) (search rules) (search rules) returns)

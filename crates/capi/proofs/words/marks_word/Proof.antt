@@ -21,36 +21,36 @@ bit-low : (b : Bool) → bit_number b ≤ 1
 bit-low true = omega arith
 bit-low false = omega arith
 
-module _ (c : tie.After-bit-number3) where
+module _ (c : tie.After-bit_number-third) where
   abbrev n : ℕ
-  n = c.before.before.before.before.args.bits
+  n = c.args.bits
 
   abbrev r : LogRecord
-  r = c.before.before.before.before.args.next
+  r = c.args.next
 
-  first-is : c.before.before.bit-number.result ≡ mark_bit r 0
-  first-is = c.before.before.bit-number.ensures
+  first-is : c.bit_number-first.result ≡ mark_bit r 0
+  first-is = c.bit_number-first.ensures
 
-  second_is : c.before.bit-number2.result ≡ mark_bit r 1
-  second_is = c.before.bit-number2.ensures
+  second_is : c.bit_number-second.result ≡ mark_bit r 1
+  second_is = c.bit_number-second.ensures
 
-  third-is : c.bit-number3.result ≡ mark_bit r 2
-  third-is = c.bit-number3.ensures
+  third-is : c.bit_number-third.result ≡ mark_bit r 2
+  third-is = c.bit_number-third.ensures
 
   low : (k : ℕ) → mark_bit r k ≤ 1
   low k = bit-low (get_or r.is_cleared k false)
 
-  lows : (n / 8 < 2305843009213693952) × ((c.before.before.bit-number.result ≤ 1) × ((c.before.bit-number2.result ≤ 1) × (c.bit-number3.result ≤ 1)))
+  lows : (n / 8 < 2305843009213693952) × ((c.bit_number-first.result ≤ 1) × ((c.bit_number-second.result ≤ 1) × (c.bit_number-third.result ≤ 1)))
   lows =
-      (omega (arith, c.before.before.before.before.ranges.bits), (omega (arith, first-is, low 0), (omega (arith, second_is, low 1), omega (arith, third-is, low 2))))
+      (omega (arith, c.ranges.bits), (omega (arith, first-is, low 0), (omega (arith, second_is, low 1), omega (arith, third-is, low 2))))
 
 returns : tie.Need-returns
 returns c =
-    let d = c.before in
-    same (n d) (r d) _ _ _ _ (promised64 c.to-i64.ensures (search rules)) (first-is d) (second_is d) (third-is d)
+    let d = c in
+    same (n c.before) (r c.before) _ _ _ _ (promised64 c.to_i64.ensures (search rules)) (first-is c.before) (second_is c.before) (third-is c.before)
 
-pub marks-word-spec : {M : Type 1} → statement M
-marks-word-spec =
+pub marks_word_spec : {M : Type 1} → statement M
+marks_word_spec =
     tie.close
     (tie.spec
     (search rules) (search rules) (search rules) (search rules) (search rules) (search rules)

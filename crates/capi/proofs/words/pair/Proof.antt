@@ -11,8 +11,8 @@ use Rattle.capi.proofs.words.pair.Statement.{statement}
 use Rattle.capi.proofs.words.pair.Tie as tie
 
 returns : tie.Need-returns
-returns c = let s = c.before.before.before in
-    promised64 (c.to-i64.ensures ∙ ap₂ (λ (a b : ℕ). to_z w64 (a + b * 4294967296)) (word-by s.args.low c.before.before.word.ensures.0 s.ranges.low) (word-by s.args.high c.before.word2.ensures.0 s.ranges.high)) (search rules)
+returns c = let s = c in
+    promised64 (c.to_i64.ensures ∙ ap₂ (λ (a b : ℕ). to_z w64 (a + b * 4294967296)) (word-by s.args.low c.word.ensures.0 s.ranges.low) (word-by s.args.high c.word-2.ensures.0 s.ranges.high)) (search rules)
 
 pub pair_spec : {M : Type 1} → statement M
 pair_spec = tie.close (tie.spec (search rules) (search rules) (search rules) (search rules) (search rules) returns)

@@ -12,10 +12,10 @@ use Rattle.capi.proofs.words.position_out.Tie as tie
 
 returns : tie.Need-returns
 returns c =
-    let w = c.before.before.before.args.w.now in
-    let z = c.to-i64.result in
-    ap (set w 0) (to_z-of_z (search rules)) ∙ moved-alone w z (search rules) c.before.numbers.ensures
-    ∙ ap (λ (x : ℤ). assembler_to (set w 0 x) 2 (sessions_of (assembler_from w 2))) c.to-i64.ensures
+    let w = c.args.w.now in
+    let z = c.to_i64.result in
+    ap (set w 0) (to_z-of_z (search rules)) ∙ moved-alone w z (search rules) c.numbers.ensures
+    ∙ ap (λ (x : ℤ). assembler_to (set w 0 x) 2 (sessions_of (assembler_from w 2))) c.to_i64.ensures
 
-pub position-out-spec : {M : Type 1} → statement M
-position-out-spec = tie.close (tie.spec (search rules) (search rules) (search rules) returns)
+pub position_out_spec : {M : Type 1} → statement M
+position_out_spec = tie.close (tie.spec (search rules) (search rules) (search rules) returns)

@@ -56,21 +56,21 @@ stream-fits c = search rules
 
 returns : tie.Need-returns
 returns c =
-    let t = c.before.before.before.before.before.before.before.before.before.before.before.before.before.before.before.before.before.before.before.before in
+    let t = c in
     let s = t.args in
     let r = s.next in
-    same _ (record_out s.w.now r) r _ _ _ _ _ _ _ _ _ _ c.before.before.before.before.before.before.before.before.before.before.before.before.before.before.before.before.before.before.record-out.ensures
-    (pair-by r.term_length r.mtu_length c.before.before.before.before.before.before.before.before.before.before.before.before.before.before.before.pair.ensures (term_fits t) (mtu-fits t) (let k = c.before.before.before.before.before.before.before.before.before.before.before.before.before.before.before.pair.type-inv in search (rules, k)))
-    (pair-by r.session_id r.stream_id c.before.before.before.before.before.before.before.before.before.before.before.before.pair2.ensures (session-fits t) (stream-fits t) (let k = c.before.before.before.before.before.before.before.before.before.before.before.before.pair2.type-inv in search (rules, k)))
-    (pair-by r.is_connected (pos 0) c.before.before.before.before.before.before.before.before.before.before.pair3.ensures (connected-fits t) (search rules) (let k = c.before.before.before.before.before.before.before.before.before.before.pair3.type-inv in search (rules, k)))
-    (to_z-of_z (limit-fits t)) (to_z-of_z (end_fits t))
-    (promised64 (c.before.before.before.before.before.before.to-i64.ensures ∙ ap count_out c.before.before.before.before.before.before.before.bit-number.ensures) (let k = c.before.before.before.before.before.before.to-i64.type-inv in search (rules, k)))
-    (to_z-of_z (slowest-fits t)) (promised64 c.before.before.before.before.marks-word.ensures (let k = c.before.before.before.before.marks-word.type-inv in search (rules, k)))
-    (pair-by r.active_transport_count r.page_size c.before.pair4.ensures (transports-fits t) (page-fits t) (let k = c.before.pair4.type-inv in search (rules, k)))
-    (to_z-of_z (id-fits t))
+    same _ (record_out s.w.now r) r _ _ _ _ _ _ _ _ _ _ c.record_out.ensures
+    (pair-by r.term_length r.mtu_length c.pair.ensures (term_fits c.before.before.before.before.before.before.before.before.before.before.before.before.before.before.before.before.before.before.before.before) (mtu-fits c.before.before.before.before.before.before.before.before.before.before.before.before.before.before.before.before.before.before.before.before) (let k = c.pair.type_inv in search (rules, k)))
+    (pair-by r.session_id r.stream_id c.pair-2.ensures (session-fits c.before.before.before.before.before.before.before.before.before.before.before.before.before.before.before.before.before.before.before.before) (stream-fits c.before.before.before.before.before.before.before.before.before.before.before.before.before.before.before.before.before.before.before.before) (let k = c.pair-2.type_inv in search (rules, k)))
+    (pair-by r.is_connected (pos 0) c.pair-3.ensures (connected-fits c.before.before.before.before.before.before.before.before.before.before.before.before.before.before.before.before.before.before.before.before) (search rules) (let k = c.pair-3.type_inv in search (rules, k)))
+    (to_z-of_z (limit-fits c.before.before.before.before.before.before.before.before.before.before.before.before.before.before.before.before.before.before.before.before)) (to_z-of_z (end_fits c.before.before.before.before.before.before.before.before.before.before.before.before.before.before.before.before.before.before.before.before))
+    (promised64 (c.to_i64.ensures ∙ ap count_out c.bit_number.ensures) (let k = c.to_i64.type_inv in search (rules, k)))
+    (to_z-of_z (slowest-fits c.before.before.before.before.before.before.before.before.before.before.before.before.before.before.before.before.before.before.before.before)) (promised64 c.marks_word.ensures (let k = c.marks_word.type_inv in search (rules, k)))
+    (pair-by r.active_transport_count r.page_size c.pair-4.ensures (transports-fits c.before.before.before.before.before.before.before.before.before.before.before.before.before.before.before.before.before.before.before.before) (page-fits c.before.before.before.before.before.before.before.before.before.before.before.before.before.before.before.before.before.before.before.before) (let k = c.pair-4.type_inv in search (rules, k)))
+    (to_z-of_z (id-fits c.before.before.before.before.before.before.before.before.before.before.before.before.before.before.before.before.before.before.before.before))
 
-pub record-filled-spec : {M : Type 1} → statement M
-record-filled-spec =
+pub record_filled_spec : {M : Type 1} → statement M
+record_filled_spec =
     tie.close
     (tie.spec
     (search rules) (search rules) (search rules) (search rules) (search rules) (search rules) (search rules) (search rules) (search rules)

@@ -22,29 +22,29 @@ same w t0 t1 t2 a b c d e f g l n o u i v z x y k h1 h2 h3 h4 h5 h6 h7 h8 h9 h10
 
 returns : tie.Need-returns
 returns c =
-    let w = c.before.before.before.before.before.before.before.before.before.before.before.before.before.before.before.before.before.before.before.before.before.before.before.before.before.before.before.before.before.before.before.before.before.args.w.now in
-    let marks = long-by (at w 11) c.before.before.before.before.before.before.before.before.before.before.before.before.before.before.before.before.before.before.before.before.before.before.before.before.before.before.before.before.before.before.before.long.ensures.0 (search (rules, c.before.before.before.before.before.before.before.before.before.before.before.before.before.before.before.before.before.before.before.before.before.before.before.before.before.before.before.before.before.before.before.before.long-arg.given)) in
+    let w = c.args.w.now in
+    let marks = long-by (at w 11) c.long-marks.ensures.0 (search (rules, c.long-arg-1.given)) in
     same w _ _ _ _ _ _ _ _ _ _ _ _ _ _ _ _ _ _ _ _ (search rules) (search rules) (search rules)
-    (low_by (at w 3) c.before.before.before.before.before.before.before.before.before.before.before.before.before.before.before.before.before.before.before.before.before.before.before.before.before.before.low.ensures (search rules) (search rules))
-    (high-by (at w 3) c.before.before.before.before.before.before.before.before.before.before.before.before.before.before.before.before.before.before.before.before.before.before.before.before.high.ensures (search rules) (search rules))
-    (low_by (at w 4) c.before.before.before.before.before.before.before.before.before.before.before.before.before.before.before.before.before.before.before.before.before.before.low2.ensures (search rules) (search rules))
-    (high-by (at w 4) c.before.before.before.before.before.before.before.before.before.before.before.before.before.before.before.before.before.before.before.before.high2.ensures (search rules) (search rules))
-    (low_by (at w 5) c.before.before.before.before.before.before.before.before.before.before.before.before.before.before.before.before.before.before.low3.ensures (search rules) (search rules))
-    (high-by (at w 5) c.before.before.before.before.before.before.before.before.before.before.before.before.before.before.before.before.high3.ensures (search rules) (search rules))
-    (low_by (at w 6) c.before.before.before.before.before.before.before.before.before.before.before.before.before.before.low4.ensures (search rules) (search rules))
-    (to_z-of_z (search (rules, c.before.before.before.before.before.before.before.before.before.before.before.before.before.t45.given)))
-    (to_z-of_z (search (rules, c.before.before.before.before.before.before.before.before.before.before.before.before.t48.given)))
-    (c.before.before.before.before.before.before.before.before.before.flag.ensures ∙ ap flag_of (long-by (at w 9) c.before.before.before.before.before.before.before.before.before.before.long2.ensures.0 (search (rules, c.before.before.before.before.before.before.before.before.before.before.before.long-arg2.given))))
-    (to_z-of_z (search (rules, c.before.before.before.before.before.before.before.before.t56.given)))
-    (c.before.before.before.before.before.before.before.bit.ensures ∙ ap bit_of marks)
-    (c.before.before.before.before.before.before.bit2.ensures ∙ ap (λ (n : ℕ). bit_of (n / 2)) marks)
-    (c.before.before.before.before.before.bit3.ensures ∙ ap (λ (n : ℕ). bit_of (n / 4)) marks)
-    (low_by (at w 12) c.before.before.before.low5.ensures (search rules) (search rules))
-    (to_z-of_z (search (rules, c.before.before.t69.given)))
-    (high-by (at w 12) c.high4.ensures (search rules) (search rules))
+    (low_by (at w 3) c.low.ensures (search rules) (search rules))
+    (high-by (at w 3) c.high.ensures (search rules) (search rules))
+    (low_by (at w 4) c.low-2.ensures (search rules) (search rules))
+    (high-by (at w 4) c.high-2.ensures (search rules) (search rules))
+    (low_by (at w 5) c.low-3.ensures (search rules) (search rules))
+    (high-by (at w 5) c.high-3.ensures (search rules) (search rules))
+    (low_by (at w 6) c.low-4.ensures (search rules) (search rules))
+    (to_z-of_z (search (rules, c.result-4-1.given)))
+    (to_z-of_z (search (rules, c.result-5-1.given)))
+    (c.flag.ensures ∙ ap flag_of (long-by (at w 9) c.long.ensures.0 (search (rules, c.long-arg-2-1.given))))
+    (to_z-of_z (search (rules, c.result-6-1.given)))
+    (c.bit.ensures ∙ ap bit_of marks)
+    (c.bit-2.ensures ∙ ap (λ (n : ℕ). bit_of (n / 2)) marks)
+    (c.bit-3.ensures ∙ ap (λ (n : ℕ). bit_of (n / 4)) marks)
+    (low_by (at w 12) c.low-5.ensures (search rules) (search rules))
+    (to_z-of_z (search (rules, c.result-7-1.given)))
+    (high-by (at w 12) c.high-4.ensures (search rules) (search rules))
 
-pub record-in-spec : {M : Type 1} → statement M
-record-in-spec =
+pub record_in_spec : {M : Type 1} → statement M
+record_in_spec =
     tie.close
     (tie.spec
     (search rules) (search rules) (search rules) (search rules) (search rules) (search rules) (search rules) (search rules) (search rules) (search rules) (search rules)

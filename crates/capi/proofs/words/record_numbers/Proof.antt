@@ -4,7 +4,7 @@ use Rattle.capi.proofs.words.record_numbers.Statement.{statement}
 use Rattle.capi.proofs.words.record_numbers.Tie as tie
 
 returns : tie.Need-returns
-returns c = array-fits 14 c.args.w _ c.well-formed.0
+returns c = array-fits 14 c.args.w _ c.well_formed.0
 
-pub record-numbers-spec : {M : Type 1} → statement M
-record-numbers-spec = tie.close (tie.spec returns)
+pub record_numbers_spec : {M : Type 1} → statement M
+record_numbers_spec = tie.close (tie.spec returns)

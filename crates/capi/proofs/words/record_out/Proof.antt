@@ -13,21 +13,21 @@ use Rattle.capi.proofs.Promised.{promised64}
 use Rattle.capi.proofs.words.record_out.Statement.{statement}
 use Rattle.capi.proofs.words.record_out.Tie as tie
 
-tails-same : (w : List ℤ) (r : LogRecord) (a b c d : ℤ) → a ≡ at r.tails 0 → b ≡ at r.tails 1 → c ≡ at r.tails 2 → d ≡ pair_of r.active_term_count r.initial_term_id
+tails-same : (w : List ℤ) (r : LogRecord) (a b c d : ℤ) → a ≡ at r.tails-1 0 → b ≡ at r.tails-1 1 → c ≡ at r.tails-1 2 → d ≡ pair_of r.active_term_count r.initial_term_id
     → set (set (set (set w 0 a) 1 b) 2 c) 3 d ≡ tails_out w r
 tails-same w r a b c d e f g h = cc
 
 same : (w : List ℤ) (r : LogRecord) (v : List ℤ) (a b c d : ℤ) → v ≡ marks_out (set (set (set (set w 0 a) 1 b) 2 c) 3 d) r
-    → a ≡ at r.tails 0 → b ≡ at r.tails 1 → c ≡ at r.tails 2 → d ≡ pair_of r.active_term_count r.initial_term_id → v ≡ record_out w r
+    → a ≡ at r.tails-1 0 → b ≡ at r.tails-1 1 → c ≡ at r.tails-1 2 → d ≡ pair_of r.active_term_count r.initial_term_id → v ≡ record_out w r
 same w r v a b c d q e f g h = q ∙ ap (λ (x : List ℤ). marks_out x r) (tails-same w r a b c d e f g h)
 
 returns : tie.Need-returns
-returns c = let s = c.before.before.before.before.before.before.before.before.before in
+returns c = let s = c in
     let r = s.args.next in
-    same s.args.w.now r _ _ _ _ _ c.marks-out.ensures (search rules) (search rules) (search rules)
-    (promised64 (c.before.before.pair.ensures ∙ ap₂ pair_of (to_z-of_z {w = w32} {z = r.active_term_count} (search rules)) (to_z-of_z {w = w32} {z = r.initial_term_id} (search rules))) (search rules))
+    same s.args.w.now r _ _ _ _ _ c.marks_out.ensures (search rules) (search rules) (search rules)
+    (promised64 (c.pair.ensures ∙ ap₂ pair_of (to_z-of_z {w = w32} {z = r.active_term_count} (search rules)) (to_z-of_z {w = w32} {z = r.initial_term_id} (search rules))) (search rules))
 
-pub record-out-spec : {M : Type 1} → statement M
-record-out-spec =
+pub record_out_spec : {M : Type 1} → statement M
+record_out_spec =
     tie.close
     (tie.spec (search rules) (search rules) (search rules) (search rules) (search rules) (search rules) (search rules) (search rules) (search rules) returns)

@@ -16,11 +16,11 @@ same w p q x y e f = cc
 
 returns : tie.Need-returns
 returns c =
-    let s = c.before.before.before.before.before.before.before.args in
+    let s = c.args in
     let i = s.next.image in
-    c.sessions-out.ensures ∙ ap (λ (w : List ℤ). assembler_to w 2 (sessions_of s.next.assembler))
-    (same s.w.now i.position _ _ _ (to_z-of_z (search rules)) (pair-by i.session_id (pos 0) c.before.before.pair.ensures (search rules) (search rules) (search rules)))
+    c.sessions_out.ensures ∙ ap (λ (w : List ℤ). assembler_to w 2 (sessions_of s.next.assembler))
+    (same s.w.now i.position _ _ _ (to_z-of_z (search rules)) (pair-by i.session_id (pos 0) c.pair.ensures (search rules) (search rules) (search rules)))
 
-pub replay-filled-spec : {M : Type 1} → statement M
-replay-filled-spec =
+pub replay_filled_spec : {M : Type 1} → statement M
+replay_filled_spec =
     tie.close (tie.spec (search rules) (search rules) (search rules) (search rules) returns)

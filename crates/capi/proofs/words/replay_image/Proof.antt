@@ -12,9 +12,9 @@ same p w x y e f = cc
 
 returns : tie.Need-returns
 returns c =
-    let w = c.before.before.before.args.w.now in
-    c.image-at.ensures ∙ same (at w 0) (at w 1) _ _ (to_z-of_z (search rules)) (to_z-of_z (search rules))
+    let w = c.args.w.now in
+    c.image_at.ensures ∙ same (at w 0) (at w 1) _ _ (to_z-of_z (search rules)) (to_z-of_z (search rules))
 
-pub replay-image-spec : {M : Type 1} → statement M
-replay-image-spec =
+pub replay_image_spec : {M : Type 1} → statement M
+replay_image_spec =
     tie.close (tie.spec (search rules) (search rules) (search rules) returns)

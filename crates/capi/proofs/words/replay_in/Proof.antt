@@ -28,37 +28,37 @@ same w i a e f = cc
 
 returns : tie.Need-returns
 returns c =
-    let w = c.before.before.before.before.before.before.before.before.before.before.before.before.before.before.before.before.before.before.before.before.before.before.before.before.before.before.before.before.before.before.args.w.now in
-    same w _ _ (c.before.before.image-at.ensures ∙ same-image (at w 0) (at w 1) _ _ (to_z-of_z (search (rules, c.before.before.before.before.image-at-arg3.given))) (to_z-of_z (search (rules, c.before.before.before.image-at-arg4.given))))
-    (c.assembler-in.ensures ∙ ap assembler_in (same-words w _ _ _ _ _ _ _ _ _ _ _ _ _ _ _ _ _ _ _ _ _ _ _ _ _
-    (to_z-of_z (search (rules, c.before.before.before.before.before.before.before.before.before.before.before.before.before.before.before.before.before.before.before.before.before.before.before.before.before.before.before.before.before.image-at-arg.given)))
-    (to_z-of_z (search (rules, c.before.before.before.before.before.before.before.before.before.before.before.before.before.before.before.before.before.before.before.before.before.before.before.before.before.before.before.before.t8.given)))
-    (to_z-of_z (search (rules, c.before.before.before.before.before.before.before.before.before.before.before.before.before.before.before.before.before.before.before.before.before.before.before.before.before.before.before.t11.given)))
-    (to_z-of_z (search (rules, c.before.before.before.before.before.before.before.before.before.before.before.before.before.before.before.before.before.before.before.before.before.before.before.before.before.before.t14.given)))
-    (to_z-of_z (search (rules, c.before.before.before.before.before.before.before.before.before.before.before.before.before.before.before.before.before.before.before.before.before.before.before.before.before.t17.given)))
-    (to_z-of_z (search (rules, c.before.before.before.before.before.before.before.before.before.before.before.before.before.before.before.before.before.before.before.before.before.before.before.before.t20.given)))
-    (to_z-of_z (search (rules, c.before.before.before.before.before.before.before.before.before.before.before.before.before.before.before.before.before.before.before.before.before.before.before.t23.given)))
-    (to_z-of_z (search (rules, c.before.before.before.before.before.before.before.before.before.before.before.before.before.before.before.before.before.before.before.before.before.before.t26.given)))
-    (to_z-of_z (search (rules, c.before.before.before.before.before.before.before.before.before.before.before.before.before.before.before.before.before.before.before.before.before.t29.given)))
-    (to_z-of_z (search (rules, c.before.before.before.before.before.before.before.before.before.before.before.before.before.before.before.before.before.before.before.before.t32.given)))
-    (to_z-of_z (search (rules, c.before.before.before.before.before.before.before.before.before.before.before.before.before.before.before.before.before.before.before.t35.given)))
-    (to_z-of_z (search (rules, c.before.before.before.before.before.before.before.before.before.before.before.before.before.before.before.before.before.before.t38.given)))
-    (to_z-of_z (search (rules, c.before.before.before.before.before.before.before.before.before.before.before.before.before.before.before.before.before.t41.given)))
-    (to_z-of_z (search (rules, c.before.before.before.before.before.before.before.before.before.before.before.before.before.before.before.before.t44.given)))
-    (to_z-of_z (search (rules, c.before.before.before.before.before.before.before.before.before.before.before.before.before.before.before.t47.given)))
-    (to_z-of_z (search (rules, c.before.before.before.before.before.before.before.before.before.before.before.before.before.before.t50.given)))
-    (to_z-of_z (search (rules, c.before.before.before.before.before.before.before.before.before.before.before.before.before.t53.given)))
-    (to_z-of_z (search (rules, c.before.before.before.before.before.before.before.before.before.before.before.before.t56.given)))
-    (to_z-of_z (search (rules, c.before.before.before.before.before.before.before.before.before.before.before.t59.given)))
-    (to_z-of_z (search (rules, c.before.before.before.before.before.before.before.before.before.before.t62.given)))
-    (to_z-of_z (search (rules, c.before.before.before.before.before.before.before.before.before.t65.given)))
-    (to_z-of_z (search (rules, c.before.before.before.before.before.before.before.before.t68.given)))
-    (to_z-of_z (search (rules, c.before.before.before.before.before.before.before.t71.given)))
-    (to_z-of_z (search (rules, c.before.before.before.before.before.before.t74.given)))
-    (to_z-of_z (search (rules, c.before.before.before.before.before.image-at-arg2.given)))))
+    let w = c.args.w.now in
+    same w _ _ (c.image_at.ensures ∙ same-image (at w 0) (at w 1) _ _ (to_z-of_z (search (rules, c.image_at-arg-1.given))) (to_z-of_z (search (rules, c.image_at-arg-2-1.given))))
+    (c.assembler_in.ensures ∙ ap assembler_in (same-words w _ _ _ _ _ _ _ _ _ _ _ _ _ _ _ _ _ _ _ _ _ _ _ _ _
+    (to_z-of_z (search (rules, c.assembler-1.given)))
+    (to_z-of_z (search (rules, c.assembler-2-1.given)))
+    (to_z-of_z (search (rules, c.assembler-3-1.given)))
+    (to_z-of_z (search (rules, c.assembler-4-1.given)))
+    (to_z-of_z (search (rules, c.assembler-5-1.given)))
+    (to_z-of_z (search (rules, c.assembler-6-1.given)))
+    (to_z-of_z (search (rules, c.assembler-7-1.given)))
+    (to_z-of_z (search (rules, c.assembler-8-1.given)))
+    (to_z-of_z (search (rules, c.assembler-9-1.given)))
+    (to_z-of_z (search (rules, c.assembler-10-1.given)))
+    (to_z-of_z (search (rules, c.assembler-11-1.given)))
+    (to_z-of_z (search (rules, c.assembler-12-1.given)))
+    (to_z-of_z (search (rules, c.assembler-13-1.given)))
+    (to_z-of_z (search (rules, c.assembler-14-1.given)))
+    (to_z-of_z (search (rules, c.assembler-15-1.given)))
+    (to_z-of_z (search (rules, c.assembler-16-1.given)))
+    (to_z-of_z (search (rules, c.assembler-17-1.given)))
+    (to_z-of_z (search (rules, c.assembler-18-1.given)))
+    (to_z-of_z (search (rules, c.assembler-19-1.given)))
+    (to_z-of_z (search (rules, c.assembler-20-1.given)))
+    (to_z-of_z (search (rules, c.assembler-21-1.given)))
+    (to_z-of_z (search (rules, c.assembler-22-1.given)))
+    (to_z-of_z (search (rules, c.assembler-23-1.given)))
+    (to_z-of_z (search (rules, c.assembler-24-1.given)))
+    (to_z-of_z (search (rules, c.assembler-25-1.given)))))
 
-pub replay-in-spec : {M : Type 1} → statement M
-replay-in-spec =
+pub replay_in_spec : {M : Type 1} → statement M
+replay_in_spec =
     tie.close
     (tie.spec
     (search rules) (search rules) (search rules) (search rules) (search rules) (search rules) (search rules) (search rules) (search rules)

@@ -11,8 +11,8 @@ use Rattle.capi.proofs.words.replay_out.Statement.{statement}
 use Rattle.capi.proofs.words.replay_out.Tie as tie
 
 returns : tie.Need-returns
-returns c = c.sessions-out.ensures ∙ ap (λ (w : List ℤ). assembler_to w 2 (sessions_of c.before.before.before.before.before.args.next.assembler)) (ap (set c.before.before.before.before.before.args.w.now 0) (to_z-of_z (search rules)))
+returns c = c.sessions_out.ensures ∙ ap (λ (w : List ℤ). assembler_to w 2 (sessions_of c.args.next.assembler)) (ap (set c.args.w.now 0) (to_z-of_z (search rules)))
 
-pub replay-out-spec : {M : Type 1} → statement M
-replay-out-spec =
+pub replay_out_spec : {M : Type 1} → statement M
+replay_out_spec =
     tie.close (tie.spec (search rules) (search rules) returns)

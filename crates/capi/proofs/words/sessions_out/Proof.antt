@@ -23,38 +23,38 @@ same w a a0 a1 a2 a3 a4 a5 a6 a7 a8 a9 a10 a11 a12 a13 a14 a15 a16 a17 a18 a19 a
 
 returns : tie.Need-returns
 returns c =
-    let s = c.before.before.before.before.before.before.before.before.before.before.before.before.before.before.before.before.before.before.before.before.before.before.before.before.before.before.before.args in
-    let a = c.before.before.before.before.before.before.before.before.before.before.before.before.before.before.before.before.before.before.before.before.before.before.before.before.before.assembler-out.new.0 in
+    let s = c.args in
+    let a = c.assembler_out.new.w in
     same s.w.now a _ _ _ _ _ _ _ _ _ _ _ _ _ _ _ _ _ _ _ _ _ _ _ _ _
-    (to_z-of_z (search (rules, c.before.before.before.before.before.before.before.before.before.before.before.before.before.before.before.before.before.before.before.before.before.before.before.before.w.given)))
-    (to_z-of_z (search (rules, c.before.before.before.before.before.before.before.before.before.before.before.before.before.before.before.before.before.before.before.before.before.before.before.w2.given)))
-    (to_z-of_z (search (rules, c.before.before.before.before.before.before.before.before.before.before.before.before.before.before.before.before.before.before.before.before.before.before.w3.given)))
-    (to_z-of_z (search (rules, c.before.before.before.before.before.before.before.before.before.before.before.before.before.before.before.before.before.before.before.before.before.w4.given)))
-    (to_z-of_z (search (rules, c.before.before.before.before.before.before.before.before.before.before.before.before.before.before.before.before.before.before.before.before.w5.given)))
-    (to_z-of_z (search (rules, c.before.before.before.before.before.before.before.before.before.before.before.before.before.before.before.before.before.before.before.w6.given)))
-    (to_z-of_z (search (rules, c.before.before.before.before.before.before.before.before.before.before.before.before.before.before.before.before.before.before.w7.given)))
-    (to_z-of_z (search (rules, c.before.before.before.before.before.before.before.before.before.before.before.before.before.before.before.before.before.w8.given)))
-    (to_z-of_z (search (rules, c.before.before.before.before.before.before.before.before.before.before.before.before.before.before.before.before.w9.given)))
-    (to_z-of_z (search (rules, c.before.before.before.before.before.before.before.before.before.before.before.before.before.before.before.w10.given)))
-    (to_z-of_z (search (rules, c.before.before.before.before.before.before.before.before.before.before.before.before.before.before.w11.given)))
-    (to_z-of_z (search (rules, c.before.before.before.before.before.before.before.before.before.before.before.before.before.w12.given)))
-    (to_z-of_z (search (rules, c.before.before.before.before.before.before.before.before.before.before.before.before.w13.given)))
-    (to_z-of_z (search (rules, c.before.before.before.before.before.before.before.before.before.before.before.w14.given)))
-    (to_z-of_z (search (rules, c.before.before.before.before.before.before.before.before.before.before.w15.given)))
-    (to_z-of_z (search (rules, c.before.before.before.before.before.before.before.before.before.w16.given)))
-    (to_z-of_z (search (rules, c.before.before.before.before.before.before.before.before.w17.given)))
-    (to_z-of_z (search (rules, c.before.before.before.before.before.before.before.w18.given)))
-    (to_z-of_z (search (rules, c.before.before.before.before.before.before.w19.given)))
-    (to_z-of_z (search (rules, c.before.before.before.before.before.w20.given)))
-    (to_z-of_z (search (rules, c.before.before.before.before.w21.given)))
-    (to_z-of_z (search (rules, c.before.before.before.w22.given)))
-    (to_z-of_z (search (rules, c.before.before.w23.given)))
-    (to_z-of_z (search (rules, c.before.w24.given)))
-    (to_z-of_z (search (rules, c.w25.given)))
-    ∙ ap (copied s.w.now) c.before.before.before.before.before.before.before.before.before.before.before.before.before.before.before.before.before.before.before.before.before.before.before.before.before.assembler-out.ensures
+    (to_z-of_z (search (rules, c.w-1.given)))
+    (to_z-of_z (search (rules, c.w-2-1.given)))
+    (to_z-of_z (search (rules, c.w-3-1.given)))
+    (to_z-of_z (search (rules, c.w-4-1.given)))
+    (to_z-of_z (search (rules, c.w-5-1.given)))
+    (to_z-of_z (search (rules, c.w-6-1.given)))
+    (to_z-of_z (search (rules, c.w-7-1.given)))
+    (to_z-of_z (search (rules, c.w-8-1.given)))
+    (to_z-of_z (search (rules, c.w-9-1.given)))
+    (to_z-of_z (search (rules, c.w-10-1.given)))
+    (to_z-of_z (search (rules, c.w-11-1.given)))
+    (to_z-of_z (search (rules, c.w-12-1.given)))
+    (to_z-of_z (search (rules, c.w-13-1.given)))
+    (to_z-of_z (search (rules, c.w-14-1.given)))
+    (to_z-of_z (search (rules, c.w-15-1.given)))
+    (to_z-of_z (search (rules, c.w-16-1.given)))
+    (to_z-of_z (search (rules, c.w-17-1.given)))
+    (to_z-of_z (search (rules, c.w-18-1.given)))
+    (to_z-of_z (search (rules, c.w-19-1.given)))
+    (to_z-of_z (search (rules, c.w-20-1.given)))
+    (to_z-of_z (search (rules, c.w-21-1.given)))
+    (to_z-of_z (search (rules, c.w-22-1.given)))
+    (to_z-of_z (search (rules, c.w-23-1.given)))
+    (to_z-of_z (search (rules, c.w-24-1.given)))
+    (to_z-of_z (search (rules, c.w-25-1.given)))
+    ∙ ap (copied s.w.now) c.assembler_out.ensures
 
-pub sessions-out-spec : {M : Type 1} → statement M
-sessions-out-spec =
+pub sessions_out_spec : {M : Type 1} → statement M
+sessions_out_spec =
     tie.close
     (tie.spec
     (search rules) (search rules) (search rules) (search rules) (search rules) (search rules) (search rules) (search rules) (search rules)

@@ -4,12 +4,12 @@ use borrow.Author.Rules.{rules}
 use Rattle.capi.proofs.words.shut.Statement.{statement}
 use Rattle.capi.proofs.words.shut.Tie as tie
 
-returns : tie.Need-returns
-returns c = rw c.if1.true
+returns : tie.Need-returns-then-is_eos
+returns c = rw c.if-is_eos.true
 
-returns-2 : tie.Need-returns-2
-returns-2 c = rw c.if1.false (omega arith)
+returns-2 : tie.Need-returns
+returns-2 c = rw c.if-is_eos.false (omega arith)
 
-pub shut-spec : {M : Type 1} → statement M
-shut-spec =
+pub shut_spec : {M : Type 1} → statement M
+shut_spec =
     tie.close (tie.spec (search rules) (search rules) (search rules) (search rules) returns (search rules) (search rules) returns-2)

@@ -26,24 +26,24 @@ left w r e f = rw (e, f)
 now-closed : (w : List ℤ) (r : Image) (x : ℤ) → flag_of (long (at w 1) / 4294967296) ≡ false → r.is_closed ≡ true → x ≡ to_z w64 (shut_bits (long (at w 1)) r.is_eos) → set w 1 x ≡ shut_out w (state_of r)
 now-closed w r x e f g = rw (e, f, g)
 
-returns : tie.Need-returns
+returns : tie.Need-returns-then-flag
 returns c =
-    let w = c.before.before.before.before.args.w.now in
-    let l = long-by (at w 1) c.before.before.long.ensures.0 (search (rules, c.before.before.before.long-arg.given)) in
-    closed w c.before.before.before.before.args.next (sym (ap (λ (n : ℕ). flag_of (n / 4294967296)) l) ∙ sym c.before.flag.ensures ∙ c.if1.true)
+    let w = c.args.w.now in
+    let l = long-by (at w 1) c.long-bits.ensures.0 (search (rules, c.long-arg-1.given)) in
+    closed w c.args.next (sym (ap (λ (n : ℕ). flag_of (n / 4294967296)) l) ∙ sym c.flag.ensures ∙ c.if-flag.true)
 
-returns-2 : tie.Need-returns-2
+returns-2 : tie.Need-returns-then-next
 returns-2 c =
-    let w = c.before.before.before.before.before.before.before.args.w.now in
-    let l = long-by (at w 1) c.before.before.before.before.before.long.ensures.0 (search (rules, c.before.before.before.before.before.before.long-arg.given)) in
-    now-closed w c.before.before.before.before.before.before.before.args.next _ (sym (ap (λ (n : ℕ). flag_of (n / 4294967296)) l) ∙ sym c.before.before.before.before.flag.ensures ∙ c.before.before.before.if1.false) c.before.before.if2.true (promised64 (c.to-i64.ensures ∙ ap (to_z w64) (c.before.shut.ensures ∙ ap (λ (n : ℕ). shut_bits n c.before.before.before.before.before.before.before.args.next.is_eos) l)) (search rules))
+    let w = c.args.w.now in
+    let l = long-by (at w 1) c.long-bits.ensures.0 (search (rules, c.long-arg-1.given)) in
+    now-closed w c.args.next _ (sym (ap (λ (n : ℕ). flag_of (n / 4294967296)) l) ∙ sym c.flag.ensures ∙ c.if-flag.false) c.if-next.true (promised64 (c.to_i64.ensures ∙ ap (to_z w64) (c.shut.ensures ∙ ap (λ (n : ℕ). shut_bits n c.args.next.is_eos) l)) (search rules))
 
-returns-3 : tie.Need-returns-3
+returns-3 : tie.Need-returns-else-next
 returns-3 c =
-    let w = c.before.before.before.before.before.args.w.now in
-    let l = long-by (at w 1) c.before.before.before.long.ensures.0 (search (rules, c.before.before.before.before.long-arg.given)) in
-    left w c.before.before.before.before.before.args.next (sym (ap (λ (n : ℕ). flag_of (n / 4294967296)) l) ∙ sym c.before.before.flag.ensures ∙ c.before.if1.false) c.if2.false
+    let w = c.args.w.now in
+    let l = long-by (at w 1) c.long-bits.ensures.0 (search (rules, c.long-arg-1.given)) in
+    left w c.args.next (sym (ap (λ (n : ℕ). flag_of (n / 4294967296)) l) ∙ sym c.flag.ensures ∙ c.if-flag.false) c.if-next.false
 
-pub shut-out-spec : {M : Type 1} → statement M
-shut-out-spec =
+pub shut_out_spec : {M : Type 1} → statement M
+shut_out_spec =
     tie.close (tie.spec (search rules) (search rules) (search rules) returns (search rules) (search rules) (search rules) returns-2 returns-3)

@@ -14,13 +14,13 @@ use Rattle.capi.proofs.writing.commit_by_all.Tie as tie
 
 returns : tie.Need-returns
 returns c =
-    let s = c.before.before.before.before.before.before.before.before in
+    let s = c in
     let log = s.args.log.now in
-    let f = c.before.before.before.commit.ensures in
-    let r = c.before.before.before.before.before.record-in.ensures in
-    let k = c.before.before.before.before.before.before.claim-in.ensures ∙ ap₂ claim_in (to_z-of_z s.ranges.first) (to_z-of_z s.ranges.second) in
-    (promised (c.outcome-code.ensures ∙ of-2 (λ (x : LogRecord) (y : Claim). outcome_number (commit_of x log y)) (ap outcome_number f.0) r k) (search rules), of-2 (λ (x : LogRecord) (y : Claim). commit_bytes x log y) f.1 r k)
+    let f = c.commit.ensures in
+    let r = c.record_in.ensures in
+    let k = c.claim_in-claim.ensures ∙ ap₂ claim_in (to_z-of_z s.ranges.first) (to_z-of_z s.ranges.second) in
+    (promised (c.outcome_code.ensures ∙ of-2 (λ (x : LogRecord) (y : Claim). outcome_number (commit_of x log y)) (ap outcome_number f.0) r k) (search rules), of-2 (λ (x : LogRecord) (y : Claim). commit_bytes x log y) f.1 r k)
 
-pub commit-by-all-spec : {M : Type 1} → statement M
-commit-by-all-spec =
+pub commit_by_all_spec : {M : Type 1} → statement M
+commit_by_all_spec =
     tie.close (tie.spec (search rules) (search rules) (search rules) (search rules) (search rules) returns)

@@ -6,8 +6,8 @@ use Rattle.capi.proofs.writing.logbuffer_abort.Tie as tie
 
 returns : tie.Need-returns
 returns c =
-    let f = c.before.before.before.abort.ensures in rw (promised c.outcome-code.ensures (search rules), f.0, f.1, c.before.before.before.before.before.record-in.ensures) (search rules)
+    let f = c.abort.ensures in rw (promised c.outcome_code.ensures (search rules), f.0, f.1, c.record_in.ensures) (search rules)
 
-pub logbuffer-abort-spec : {M : Type 1} → statement M
-logbuffer-abort-spec =
+pub logbuffer_abort_spec : {M : Type 1} → statement M
+logbuffer_abort_spec =
     tie.close (tie.spec (search rules) (search rules) (search rules) (search rules) returns)

@@ -14,13 +14,13 @@ use Rattle.capi.proofs.writing.logbuffer_append_claim.Tie as tie
 
 returns : tie.Need-returns
 returns c =
-    let s = c.before.before.before.before.before.before.before.before.before.before.before in
+    let s = c in
     let a = s.args in
-    let f = c.before.before.before.before.before.before.claim.ensures in
-    let q0 = of-4 (λ (r : LogRecord) (y : ℤ) (x : ℤ) (z : ℤ). claim_append_reply r a.log.now y x z) f.0 c.before.before.before.before.before.before.before.before.record-in.ensures (to_z-of_z s.ranges.partition) (to_z-of_z s.ranges.length) (to_z-of_z s.ranges.term-id) in
-    let q1 = of-4 (λ (r : LogRecord) (y : ℤ) (x : ℤ) (z : ℤ). claim_append_bytes r a.log.now y x z) f.1 c.before.before.before.before.before.before.before.before.record-in.ensures (to_z-of_z s.ranges.partition) (to_z-of_z s.ranges.length) (to_z-of_z s.ranges.term-id) in
-    (c.appended-claim.ensures ∙ ap (λ (o : AppendClaimReply). append_claim_reply o.answer) q0, (c.before.record-out.ensures ∙ ap (λ (o : AppendClaimReply). record_out a.rec.now o.next) q0, q1))
+    let f = c.claim-o.ensures in
+    let q0 = of-4 (λ (r : LogRecord) (y : ℤ) (x : ℤ) (z : ℤ). claim_append_reply r a.log.now y x z) f.0 c.record_in.ensures (to_z-of_z s.ranges.partition) (to_z-of_z s.ranges.length) (to_z-of_z s.ranges.term_id) in
+    let q1 = of-4 (λ (r : LogRecord) (y : ℤ) (x : ℤ) (z : ℤ). claim_append_bytes r a.log.now y x z) f.1 c.record_in.ensures (to_z-of_z s.ranges.partition) (to_z-of_z s.ranges.length) (to_z-of_z s.ranges.term_id) in
+    (c.appended_claim.ensures ∙ ap (λ (o : AppendClaimReply). append_claim_reply o.answer) q0, (c.record_out.ensures ∙ ap (λ (o : AppendClaimReply). record_out a.rec.now o.next-1) q0, q1))
 
-pub logbuffer-append-claim-spec : {M : Type 1} → statement M
-logbuffer-append-claim-spec =
+pub logbuffer_append_claim_spec : {M : Type 1} → statement M
+logbuffer_append_claim_spec =
     tie.close (tie.spec (search rules) (search rules) (search rules) (search rules) (search rules) returns)

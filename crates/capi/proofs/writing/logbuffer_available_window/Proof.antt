@@ -5,8 +5,8 @@ use Rattle.capi.proofs.writing.logbuffer_available_window.Tie as tie
 
 returns : tie.Need-returns
 returns c =
-    let f = c.before.available-window.ensures in rw (c.positioned.ensures, f, c.before.before.record-in.ensures) (search rules)
+    let f = c.available_window.ensures in rw (c.positioned.ensures, f, c.record_in.ensures) (search rules)
 
-pub logbuffer-available-window-spec : {M : Type 1} → statement M
-logbuffer-available-window-spec =
+pub logbuffer_available_window_spec : {M : Type 1} → statement M
+logbuffer_available_window_spec =
     tie.close (tie.spec (search rules) (search rules) (search rules) returns)

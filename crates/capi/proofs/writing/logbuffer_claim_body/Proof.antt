@@ -5,8 +5,8 @@ use Rattle.capi.proofs.writing.logbuffer_claim_body.Tie as tie
 
 returns : tie.Need-returns
 returns c =
-    let f = c.before.locate.ensures in rw (c.located.ensures, f, c.before.before.record-in.ensures) (search rules)
+    let f = c.locate.ensures in rw (c.located.ensures, f, c.record_in.ensures) (search rules)
 
-pub logbuffer-claim-body-spec : {M : Type 1} → statement M
-logbuffer-claim-body-spec =
+pub logbuffer_claim_body_spec : {M : Type 1} → statement M
+logbuffer_claim_body_spec =
     tie.close (tie.spec (search rules) (search rules) (search rules) returns)

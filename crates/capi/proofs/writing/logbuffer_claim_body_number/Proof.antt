@@ -9,12 +9,12 @@ use Rattle.capi.proofs.writing.logbuffer_claim_body_number.Tie as tie
 
 returns : tie.Need-returns
 returns c =
-    let s = c.before.before.before in
+    let s = c in
     let a = s.args in
-    let f = c.body-number.ensures in
-    let q0 = of-1 (λ (r : LogRecord). located_number (locate_of r a.log.now a.claim)) (f) c.before.record-in.ensures in
+    let f = c.body_number.ensures in
+    let q0 = of-1 (λ (r : LogRecord). located_number (locate_of r a.log.now a.claim)) (f) c.record_in.ensures in
     promised q0 (search rules)
 
-pub logbuffer-claim-body-number-spec : {M : Type 1} → statement M
-logbuffer-claim-body-number-spec =
+pub logbuffer_claim_body_number_spec : {M : Type 1} → statement M
+logbuffer_claim_body_number_spec =
     tie.close (tie.spec (search rules) (search rules) returns)

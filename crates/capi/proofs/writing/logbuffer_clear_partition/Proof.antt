@@ -14,19 +14,19 @@ use Rattle.capi.proofs.writing.logbuffer_clear_partition.Tie as tie
 
 returns : tie.Need-returns
 returns c =
-    let s = c.before.before.before.before.before.before.before.before.before.before.before in
+    let s = c in
     let a = s.args in
-    let f = c.before.before.before.before.before.before.clear-partition.ensures in
+    let f = c.clear_partition-o.ensures in
     let k = to_z-of_z s.ranges.partition in
-    let r = c.before.before.before.before.before.before.before.before.record-in.ensures in
+    let r = c.record_in.ensures in
     let q = of-2 (λ (x : LogRecord) (y : ℤ). clear_of x a.log.now y) f.0 r k in (
-      promised (c.outcome-code.ensures ∙ ap (λ (o : RecordReply). outcome_number o.answer) q) (search rules),
+      promised (c.outcome_code.ensures ∙ ap (λ (o : RecordReply). outcome_number o.answer) q) (search rules),
       (
-        c.before.marks-out.ensures ∙ ap (λ (o : RecordReply). marks_out a.rec.now o.next) q,
+        c.marks_out.ensures ∙ ap (λ (o : RecordReply). marks_out a.rec.now o.next-1) q,
         of-2 (λ (x : LogRecord) (y : ℤ). clear_bytes x a.log.now y) f.1 r k,
       ),
     )
 
-pub logbuffer-clear-partition-spec : {M : Type 1} → statement M
-logbuffer-clear-partition-spec =
+pub logbuffer_clear_partition_spec : {M : Type 1} → statement M
+logbuffer_clear_partition_spec =
     tie.close (tie.spec (search rules) (search rules) (search rules) (search rules) (search rules) returns)

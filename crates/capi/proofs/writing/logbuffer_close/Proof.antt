@@ -6,8 +6,8 @@ use Rattle.capi.proofs.writing.logbuffer_close.Tie as tie
 
 returns : tie.Need-returns
 returns c =
-    let f = c.before.before.before.before.close.ensures in rw (promised c.outcome-code.ensures (search rules), c.before.closed-out.ensures, f, c.before.before.before.before.before.record-in.ensures) (search rules)
+    let f = c.close-o.ensures in rw (promised c.outcome_code.ensures (search rules), c.closed_out.ensures, f, c.record_in.ensures) (search rules)
 
-pub logbuffer-close-spec : {M : Type 1} → statement M
-logbuffer-close-spec =
+pub logbuffer_close_spec : {M : Type 1} → statement M
+logbuffer_close_spec =
     tie.close (tie.spec (search rules) (search rules) (search rules) (search rules) returns)

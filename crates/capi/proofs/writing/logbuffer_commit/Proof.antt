@@ -32,41 +32,41 @@ id-fits : (s : tie.Start) → SFits w32 s.args.claim.term_id
 id-fits s = search rules
 
 -- the claim by its two words
-back : (c : tie.After-pair2) → claim_in (to_z w64 (of_z w64 c.before.before.before.pair.result)) (to_z w64 (of_z w64 c.pair2.result)) ≡ c.before.before.before.before.before.before.before.args.claim
+back : (c : tie.After-pair-second) → claim_in (to_z w64 (of_z w64 c.pair-first.result)) (to_z w64 (of_z w64 c.pair-second.result)) ≡ c.args.claim
 back c =
-    let s = c.before.before.before.before.before.before.before in
+    let s = c in
     let k = s.args.claim in
-    ap₂ claim_in (pair-by k.partition k.offset c.before.before.before.pair.ensures (partition-fits s) (offset-fits s) (search rules)) (pair-by k.length k.term_id c.pair2.ensures (length-fits s) (id-fits s) (search rules))
-    ∙ claim-back k (partition-fits s) (offset-fits s) (length-fits s) (id-fits s)
+    ap₂ claim_in (pair-by k.partition k.offset c.pair-first.ensures (partition-fits c.before.before.before.before.before.before.before) (offset-fits c.before.before.before.before.before.before.before) (search rules)) (pair-by k.length k.term_id c.pair-second.ensures (length-fits c.before.before.before.before.before.before.before) (id-fits c.before.before.before.before.before.before.before) (search rules))
+    ∙ claim-back k (partition-fits c.before.before.before.before.before.before.before) (offset-fits c.before.before.before.before.before.before.before) (length-fits c.before.before.before.before.before.before.before) (id-fits c.before.before.before.before.before.before.before)
 
-returns : tie.Need-returns
+returns : tie.Need-returns-then-claim-lt32
 returns c =
-    let a = c.before.before.before.before.before.before.before.before.before.before.before.before.before.before.args in
+    let a = c.args in
     let r = record_in a.rec.now in
-    let f = c.before.before.commit-by-all.ensures in
+    let f = c.commit_by_all.ensures in
     let same = back c.before.before.before.before.before.before.before in
     (promised (of-1 (λ (x : Claim). outcome_number (commit_of r a.log.now x)) f.0 same) (search rules), of-1 (commit_bytes r a.log.now) f.1 same)
 
-returns-2 : tie.Need-returns-2
+returns-2 : tie.Need-returns-then-not-commit_fit
 returns-2 c =
-    let a = c.before.before.before.before.before.before.before.before.before.before.before.before.before.before.before.before.before.before.before.before.args in
+    let a = c.args in
     let r = record_in a.rec.now in
-    let d = c.before.before.before.before.before.before.before.commit-fit in
-    let log = commit-none c.before.before.before.before.before.before.before.before.before.record-in.result a.log.now a.claim _ _ d.ensures.0 d.ensures.1 (not-true _ c.before.before.before.before.if2.true) in
-    let f = c.before.before.commit-by-all2.ensures in
+    let d = c.commit_fit in
+    let log = commit-none c.record_in.result a.log.now a.claim _ _ d.ensures.0 d.ensures.1 (not-true _ c.if-not-commit_fit.true-raw) in
+    let f = c.commit_by_all-then-not-commit_fit.ensures in
     let same = back c.before.before.before.before.before.before.before.before.before.before.before.before.before in
     (promised (of-2 (λ (l : List ℕ) (x : Claim). outcome_number (commit_of r l x)) f.0 log same) (search rules), of-2 (commit_bytes r) f.1 log same)
 
-returns-3 : tie.Need-returns-3
+returns-3 : tie.Need-returns
 returns-3 c =
-    let a = c.before.before.before.before.before.before.before.before.before.before.before.before.before.before.before.before.args in
-    let d = c.before.before.before.commit-fit in
-    let rec = c.before.before.before.before.before.record-in in
-    let some = commit-some rec.result a.log.now a.claim _ _ d.ensures.0 d.ensures.1 (not-false _ c.if2.false) in
+    let a = c.args in
+    let d = c.commit_fit in
+    let rec = c.record_in in
+    let some = commit-some rec.result a.log.now a.claim _ _ d.ensures.0 d.ensures.1 (not-false _ c.if-not-commit_fit.false-raw) in
     (of-1 (λ (r : LogRecord). outcome_number (commit_of r a.log.now a.claim)) some.0 rec.ensures, of-1 (λ (r : LogRecord). commit_bytes r a.log.now a.claim) some.1 rec.ensures)
 
-pub logbuffer-commit-spec : {M : Type 1} → statement M
-logbuffer-commit-spec =
+pub logbuffer_commit_spec : {M : Type 1} → statement M
+logbuffer_commit_spec =
     tie.close
     (tie.spec
     (search rules)

@@ -20,52 +20,52 @@ use Rattle.capi.proofs.Fitted.{offer-none, offer-some}
 use Rattle.capi.proofs.writing.logbuffer_offer.Statement.{statement}
 use Rattle.capi.proofs.writing.logbuffer_offer.Tie as tie
 
-returns : tie.Need-returns
+returns : tie.Need-returns-then-message-gt65472
 returns c =
-    let s = c.before.before.before.before.before.before.before.before in
+    let s = c in
     let a = s.args in
-    let f = c.before.before.offer-fragmented.ensures in
-    (f.0, (f.1.0, f.1.1 ∙ ap (offer_bytes (record_in a.rec.now) a.log.now a.message.now) (to_z-of_z s.ranges.reserved-value)))
+    let f = c.offer_fragmented.ensures in
+    (f.0, (f.1.0, f.1.1 ∙ ap (offer_bytes (record_in a.rec.now) a.log.now a.message.now) (to_z-of_z s.ranges.reserved_value)))
 
-module _ (c : tie.After-offer-fit) where
+module _ (c : tie.After-offer_fit-fitted) where
   abbrev s : tie.Start
-  s = c.before.before.before.before.before.before.before
+  s = c.before.before.before.before.before.before
 
-  position-fits : SFits w64 c.offer-fit.result.position
+  position-fits : SFits w64 c.offer_fit-fitted.result.position
   position-fits = search rules
 
-  tail-fits : SFits w64 c.offer-fit.result.tail
+  tail-fits : SFits w64 c.offer_fit-fitted.result.tail
   tail-fits = search rules
 
-  left : c.offer-fit.new.1.0 ≡ offer_fit_bytes c.before.before.reading-in.result s.args.log.now s.args.message.now (long s.args.reserved-value)
-  left = c.offer-fit.ensures.1 ∙ ap (λ (z : ℤ). offer_fit_bytes c.before.before.reading-in.result s.args.log.now s.args.message.now (long z)) (to_z-of_z s.fits.reserved-value)
+  left : c.offer_fit-fitted.new.log ≡ offer_fit_bytes c.reading_in-v.result s.args.log.now s.args.message.now (long s.args.reserved_value)
+  left = c.offer_fit-fitted.ensures.1 ∙ ap (λ (z : ℤ). offer_fit_bytes c.reading_in-v.result s.args.log.now s.args.message.now (long z)) (to_z-of_z s.fits.reserved_value)
 
-returns-2 : tie.Need-returns-2
+returns-2 : tie.Need-returns-then-position-eq0
 returns-2 c =
-    let d = c.before.before.before.before.before.before.before.before.before in
-    let a = (s d).args in
+    let d = c in
+    let a = (s c.before.before.before.before.before.before.before.before.before).args in
     let r = record_in a.rec.now in
-    let zero = sym (to_z-of_z (position-fits d)) ∙ ap (to_z w64) c.before.before.before.before.before.if2.true in
-    let same = offer-none r a.log.now a.message.now a.reserved-value _ d.before.before.reading-in.ensures _ _ d.offer-fit.ensures.0 (left d) zero in
-    let f = c.before.before.offer-fragmented2.ensures in (
+    let zero = sym (to_z-of_z (position-fits c.before.before.before.before.before.before.before.before.before)) ∙ ap (to_z w64) c.if-position-eq0.true in
+    let same = offer-none r a.log.now a.message.now a.reserved_value _ d.reading_in-v.ensures _ _ d.offer_fit-fitted.ensures.0 (left c.before.before.before.before.before.before.before.before.before) zero in
+    let f = c.offer_fragmented-then-position-eq0.ensures in (
       of-1 (λ (l : List ℕ). offer_reply (offer_of r l a.message.now).answer (offer_of r l a.message.now).rule) f.0 same,
       (
         of-1 (λ (l : List ℕ). record_out a.rec.now (offer_of r l a.message.now).next) f.1.0 same,
-        of-2 (λ (l : List ℕ) (z : ℤ). offer_bytes r l a.message.now z) f.1.1 same (to_z-of_z (s d).ranges.reserved-value),
+        of-2 (λ (l : List ℕ) (z : ℤ). offer_bytes r l a.message.now z) f.1.1 same (to_z-of_z (s c.before.before.before.before.before.before.before.before.before).ranges.reserved_value),
       ),
     )
 
-returns-3 : tie.Need-returns-3
+returns-3 : tie.Need-returns
 returns-3 c =
-    let d = c.before.before.before.before.before.before.before.before in
-    let a = (s d).args in
+    let d = c in
+    let a = (s c.before.before.before.before.before.before.before.before).args in
     let r = record_in a.rec.now in
-    let some = offer-some r a.log.now a.message.now a.reserved-value _ d.before.before.reading-in.ensures _ _ d.offer-fit.ensures.0 (left d) (λ e. c.before.before.before.before.if2.false (ap (of_z w64) e))
-    (d.before.before.reading-in.result.count % 3) _ _ refl (to_z-of_z (tail-fits d)) (to_z-of_z (position-fits d)) in
-    (some.0, (c.tail-out.ensures ∙ ap (record_out a.rec.now) some.1.0, some.1.1))
+    let some = offer-some r a.log.now a.message.now a.reserved_value _ d.reading_in-v.ensures _ _ d.offer_fit-fitted.ensures.0 (left c.before.before.before.before.before.before.before.before) (λ e. c.if-position-eq0.false (ap (of_z w64) e))
+    (d.reading_in-v.result.count % 3) _ _ refl (to_z-of_z (tail-fits c.before.before.before.before.before.before.before.before)) (to_z-of_z (position-fits c.before.before.before.before.before.before.before.before)) in
+    (some.0, (c.tail_out.ensures ∙ ap (record_out a.rec.now) some.1.0, some.1.1))
 
-pub logbuffer-offer-spec : {M : Type 1} → statement M
-logbuffer-offer-spec =
+pub logbuffer_offer_spec : {M : Type 1} → statement M
+logbuffer_offer_spec =
     tie.close
     (tie.spec
     (search rules)

@@ -5,8 +5,8 @@ use Rattle.capi.proofs.writing.logbuffer_position.Tie as tie
 
 returns : tie.Need-returns
 returns c =
-    let f = c.before.position.ensures in rw (c.positioned.ensures, f, c.before.before.record-in.ensures) (search rules)
+    let f = c.position.ensures in rw (c.positioned.ensures, f, c.record_in.ensures) (search rules)
 
-pub logbuffer-position-spec : {M : Type 1} → statement M
-logbuffer-position-spec =
+pub logbuffer_position_spec : {M : Type 1} → statement M
+logbuffer_position_spec =
     tie.close (tie.spec (search rules) (search rules) (search rules) returns)

@@ -5,8 +5,8 @@ use Rattle.capi.proofs.writing.logbuffer_publication_limit.Tie as tie
 
 returns : tie.Need-returns
 returns c =
-    let f = c.before.publication-limit.ensures in rw (c.positioned.ensures, f, c.before.before.record-in.ensures) (search rules)
+    let f = c.publication_limit.ensures in rw (c.positioned.ensures, f, c.record_in.ensures) (search rules)
 
-pub logbuffer-publication-limit-spec : {M : Type 1} → statement M
-logbuffer-publication-limit-spec =
+pub logbuffer_publication_limit_spec : {M : Type 1} → statement M
+logbuffer_publication_limit_spec =
     tie.close (tie.spec (search rules) (search rules) (search rules) returns)

@@ -12,10 +12,10 @@ use Rattle.capi.proofs.writing.logbuffer_rotate_log.Tie as tie
 
 returns : tie.Need-returns
 returns c =
-    let s = c.before.before.before.before.before.before.before in
-    let q = of-3 rotate_log_of c.before.before.before.before.rotate-log.ensures c.before.before.before.before.before.record-in.ensures (to_z-of_z s.ranges.count) (to_z-of_z s.ranges.term-id) in
-    (promised (c.outcome-code.ensures ∙ ap (λ (o : RecordReply). outcome_number o.answer) q) (search rules), c.before.record-out.ensures ∙ ap (λ (o : RecordReply). record_out s.args.rec.now o.next) q)
+    let s = c in
+    let q = of-3 rotate_log_of c.rotate_log-o.ensures c.record_in.ensures (to_z-of_z s.ranges.count) (to_z-of_z s.ranges.term_id) in
+    (promised (c.outcome_code.ensures ∙ ap (λ (o : RecordReply). outcome_number o.answer) q) (search rules), c.record_out.ensures ∙ ap (λ (o : RecordReply). record_out s.args.rec.now o.next-1) q)
 
-pub logbuffer-rotate-log-spec : {M : Type 1} → statement M
-logbuffer-rotate-log-spec =
+pub logbuffer_rotate_log_spec : {M : Type 1} → statement M
+logbuffer_rotate_log_spec =
     tie.close (tie.spec (search rules) (search rules) (search rules) (search rules) returns)

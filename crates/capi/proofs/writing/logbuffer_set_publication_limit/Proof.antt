@@ -6,8 +6,8 @@ use Rattle.capi.proofs.writing.logbuffer_set_publication_limit.Tie as tie
 
 returns : tie.Need-returns
 returns c =
-    let f = c.before.before.before.before.set-publication-limit.ensures in rw (promised c.outcome-code.ensures (search rules), c.before.limit-out.ensures, f, c.before.before.before.before.before.record-in.ensures) (search rules)
+    let f = c.set_publication_limit-o.ensures in rw (promised c.outcome_code.ensures (search rules), c.limit_out.ensures, f, c.record_in.ensures) (search rules)
 
-pub logbuffer-set-publication-limit-spec : {M : Type 1} → statement M
-logbuffer-set-publication-limit-spec =
+pub logbuffer_set_publication_limit_spec : {M : Type 1} → statement M
+logbuffer_set_publication_limit_spec =
     tie.close (tie.spec (search rules) (search rules) (search rules) (search rules) returns)

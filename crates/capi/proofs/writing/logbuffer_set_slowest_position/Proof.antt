@@ -12,10 +12,10 @@ use Rattle.capi.proofs.writing.logbuffer_set_slowest_position.Tie as tie
 
 returns : tie.Need-returns
 returns c =
-    let s = c.before.before.before.before.before.before.before in
-    let q = of-2 raise_of c.before.before.before.before.set-slowest-position.ensures c.before.before.before.before.before.record-in.ensures (to_z-of_z s.ranges.position) in
-    (promised (c.outcome-code.ensures ∙ ap (λ (o : RecordReply). outcome_number o.answer) q) (search rules), c.before.slowest-out.ensures ∙ ap (λ (o : RecordReply). slowest_out s.args.rec.now o.next) q)
+    let s = c in
+    let q = of-2 raise_of c.set_slowest_position-o.ensures c.record_in.ensures (to_z-of_z s.ranges.position) in
+    (promised (c.outcome_code.ensures ∙ ap (λ (o : RecordReply). outcome_number o.answer) q) (search rules), c.slowest_out.ensures ∙ ap (λ (o : RecordReply). slowest_out s.args.rec.now o.next-1) q)
 
-pub logbuffer-set-slowest-position-spec : {M : Type 1} → statement M
-logbuffer-set-slowest-position-spec =
+pub logbuffer_set_slowest_position_spec : {M : Type 1} → statement M
+logbuffer_set_slowest_position_spec =
     tie.close (tie.spec (search rules) (search rules) (search rules) (search rules) returns)

@@ -20,53 +20,53 @@ use Rattle.capi.proofs.Fitted.{claim-none, claim-some}
 use Rattle.capi.proofs.writing.logbuffer_try_claim.Statement.{statement}
 use Rattle.capi.proofs.writing.logbuffer_try_claim.Tie as tie
 
-returns : tie.Need-returns
+returns : tie.Need-returns-then-v
 returns c =
-    let s = c.before.before.before.before.before.before.before.before.before in
+    let s = c in
     let a = s.args in
-    let f = c.before.before.claim-by-all.ensures in
+    let f = c.claim_by_all-all.ensures in
     let z = to_z-of_z s.ranges.length in (
       of-1 (λ (y : ℤ). claim_reply (claim_of (record_in a.rec.now) a.log.now y).answer (claim_of (record_in a.rec.now) a.log.now y).rule) f.0 z,
       (of-1 (λ (y : ℤ). record_out a.rec.now (claim_of (record_in a.rec.now) a.log.now y).next) f.1.0 z, of-1 (claim_bytes (record_in a.rec.now) a.log.now) f.1.1 z),
     )
 
-module _ (c : tie.After-claim-fit) where
+module _ (c : tie.After-claim_fit-fitted) where
   abbrev s : tie.Start
-  s = c.before.before.before.before.before.before.before
+  s = c.before.before.before.before.before.before
 
-  position-fits : SFits w64 c.claim-fit.result.position
+  position-fits : SFits w64 c.claim_fit-fitted.result.position
   position-fits = search rules
 
-  tail-fits : SFits w64 c.claim-fit.result.tail
+  tail-fits : SFits w64 c.claim_fit-fitted.result.tail
   tail-fits = search rules
 
-  n-is : c.before.word.result ≡ word s.args.length
-  n-is = word-by _ c.before.word.ensures.0 s.fits.length
+  n-is : c.word.result ≡ word s.args.length
+  n-is = word-by _ c.word.ensures.0 s.fits.length
 
-returns-2 : tie.Need-returns-2
+returns-2 : tie.Need-returns-then-position-eq0
 returns-2 c =
-    let d = c.before.before.before.before.before.before.before.before.before in
-    let a = (s d).args in
+    let d = c in
+    let a = (s c.before.before.before.before.before.before.before.before.before).args in
     let r = record_in a.rec.now in
-    let zero = sym (to_z-of_z (position-fits d)) ∙ ap (to_z w64) c.before.before.before.before.before.if2.true in
-    let same = claim-none r a.log.now a.length _ d.before.before.before.before.reading-in.ensures _ (n-is d) _ _ d.claim-fit.ensures.0 d.claim-fit.ensures.1 zero in
-    let f = c.before.before.claim-by-all2.ensures in
-    let z = to_z-of_z (s d).ranges.length in (
+    let zero = sym (to_z-of_z (position-fits c.before.before.before.before.before.before.before.before.before)) ∙ ap (to_z w64) c.if-position-eq0.true in
+    let same = claim-none r a.log.now a.length _ d.reading_in-v.ensures _ (n-is c.before.before.before.before.before.before.before.before.before) _ _ d.claim_fit-fitted.ensures.0 d.claim_fit-fitted.ensures.1 zero in
+    let f = c.claim_by_all-all-then-position-eq0.ensures in
+    let z = to_z-of_z (s c.before.before.before.before.before.before.before.before.before).ranges.length in (
       of-2 (λ (l : List ℕ) (y : ℤ). claim_reply (claim_of r l y).answer (claim_of r l y).rule) f.0 same z,
       (of-2 (λ (l : List ℕ) (y : ℤ). record_out a.rec.now (claim_of r l y).next) f.1.0 same z, of-2 (claim_bytes r) f.1.1 same z),
     )
 
-returns-3 : tie.Need-returns-3
+returns-3 : tie.Need-returns
 returns-3 c =
-    let d = c.before.before.before.before.before.before.before.before.before.before in
-    let a = (s d).args in
+    let d = c in
+    let a = (s c.before.before.before.before.before.before.before.before.before.before).args in
     let r = record_in a.rec.now in
-    let some = claim-some r a.log.now a.length _ d.before.before.before.before.reading-in.ensures _ (n-is d) _ _ d.claim-fit.ensures.0 d.claim-fit.ensures.1 (λ e. c.before.before.before.before.before.before.if2.false (ap (of_z w64) e))
-    (d.before.before.before.before.reading-in.result.count % 3) _ _ _ refl (to_z-of_z (tail-fits d)) (to_z-of_z (position-fits d)) c.claim-words.ensures in
-    (some.0, (c.before.before.tail-out.ensures ∙ ap (record_out a.rec.now) some.1.0, some.1.1))
+    let some = claim-some r a.log.now a.length _ d.reading_in-v.ensures _ (n-is c.before.before.before.before.before.before.before.before.before.before) _ _ d.claim_fit-fitted.ensures.0 d.claim_fit-fitted.ensures.1 (λ e. c.if-position-eq0.false (ap (of_z w64) e))
+    (d.reading_in-v.result.count % 3) _ _ _ refl (to_z-of_z (tail-fits c.before.before.before.before.before.before.before.before.before.before)) (to_z-of_z (position-fits c.before.before.before.before.before.before.before.before.before.before)) c.claim_words.ensures in
+    (some.0, (c.tail_out.ensures ∙ ap (record_out a.rec.now) some.1.0, some.1.1))
 
-pub logbuffer-try-claim-spec : {M : Type 1} → statement M
-logbuffer-try-claim-spec =
+pub logbuffer_try_claim_spec : {M : Type 1} → statement M
+logbuffer_try_claim_spec =
     tie.close
     (tie.spec
     (search rules)

@@ -8,14 +8,14 @@ use Rattle.holding.proofs.laying.bits_with.Tie as tie
 returns : tie.Need-returns
 unfolding bits_with
 returns c =
-    let b5 = c.before in
-    let b4 = b5.before in
-    let b3 = b4.before in
-    let b2 = b3.before in
-    rw (b2.before.either.ensures.0, b2.either2.ensures.0, b3.either3.ensures.0, b4.either4.ensures.0, b5.either5.ensures.0, c.either6.ensures.0)
+    let b5 = c in
+    let b4 = c in
+    let b3 = c in
+    let b2 = c in
+    rw (b2.either.ensures.0, b2.either-2.ensures.0, b3.either-3.ensures.0, b4.either-4.ensures.0, b5.either-5.ensures.0, c.either-6.ensures.0)
 
-pub bits-with-spec : {M : Type 1} → statement M
-bits-with-spec =
+pub bits_with_spec : {M : Type 1} → statement M
+bits_with_spec =
     tie.close
     (tie.spec
     (search rules)

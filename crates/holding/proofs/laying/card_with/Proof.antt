@@ -6,11 +6,11 @@ use Rattle.holding.proofs.laying.card_with.Tie as tie
 
 returns : tie.Need-returns
 returns c =
-    let m = c.before in
-    let x = m.before in
-    let t = x.before in
-    let f = t.before in
-    same-card f.before.bits-with.ensures f.newer32.ensures t.newer16.ensures x.newer162.ensures m.newer8.ensures c.newer322.ensures
+    let m = c in
+    let x = c in
+    let t = c in
+    let f = c in
+    same-card f.bits_with.ensures f.newer32.ensures t.newer16.ensures x.newer16-2.ensures m.newer8.ensures c.newer32-2.ensures
 
-pub card-with-spec : {M : Type 1} → statement M
-card-with-spec = tie.close (tie.spec (search rules) (search rules) (search rules) (search rules) (search rules) (search rules) (search rules) returns)
+pub card_with_spec : {M : Type 1} → statement M
+card_with_spec = tie.close (tie.spec (search rules) (search rules) (search rules) (search rules) (search rules) (search rules) (search rules) returns)

@@ -4,5 +4,5 @@ use borrow.Author.Tests.{eq-eqb, ne_eqb}
 use Rattle.holding.proofs.laying.either.Statement.{statement}
 use Rattle.holding.proofs.laying.either.Tie as tie
 
-pub either-spec : {M : Type 1} → statement M
-either-spec = tie.close (tie.spec (λ c. (simp (eq-eqb _ _ c.if1.true), omega arith)) (λ c. (simp (ne_eqb _ _ c.if1.false), omega arith)))
+pub either_spec : {M : Type 1} → statement M
+either_spec = tie.close (tie.spec (λ c. (simp (eq-eqb _ _ c.if-new-eq1.true), omega arith)) (λ c. (simp (ne_eqb _ _ c.if-new-eq1.false), omega arith)))

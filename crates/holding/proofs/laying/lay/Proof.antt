@@ -11,36 +11,36 @@ use Rattle.holding.proofs.laying.lay.Statement.{statement}
 use Rattle.holding.proofs.laying.lay.Tie as tie
 
 -- what was read
-found : (c : tie.After-card) → let g = c.card.given.0 in read_of c.before.before.before.before.before.args.bytes.now ≡ Found g.0 g.1.0 g.1.1.0
-found c = sym c.before.before.read.ensures ∙ c.card.given.1
+found : (c : tie.In-Found-2) → let g = c.card-1.given.0 in read_of c.args.bytes.now ≡ Found g.0 g.1.0 g.1.1.0
+found c = sym c.read.ensures ∙ c.in-Found.is
 
-returns : tie.Need-returns
+returns : tie.Need-returns-then-card-find
 returns c =
-    let f = c.before.before.before in
-    let s = f.before.before.before.before.before in
-    laid-other _ _ s.args.bytes.now _ _ _ _ (found f) (ne_eqb _ _ c.if1.true)
+    let f = c in
+    let s = c in
+    laid-other _ _ s.args.bytes.now _ _ _ _ (found c.before.before) (ne_eqb _ _ c.if-card-find.true)
 
-note-with-requires : tie.Need-note-with-requires
+note-with-requires : tie.Need-note_with-requires
 note-with-requires c κs =
-    let f = c.before.before.before.before.before in
-    let s = f.before.before.before.before.before in
-    (s.requires.0, (located-note s.args.bytes.now _ _ _ (found f)).0)
+    let f = c in
+    let s = c in
+    (s.requires.0, (located-note s.args.bytes.now _ _ _ (found c.before.before.before.before)).0)
 
-returns-2 : tie.Need-returns-2
+returns-2 : tie.Need-returns-in-Refused
 returns-2 c =
-    let s = c.before.before.before.before.before in
-    laid-broken _ _ s.args.bytes.now _ _ s.requires.1 (sym c.before.before.read.ensures ∙ c.enum_told.given.1)
+    let s = c in
+    laid-broken _ _ s.args.bytes.now _ _ s.requires.1 (sym c.read.ensures ∙ c.in-Refused.is)
 
-returns-3 : tie.Need-returns-3
+returns-3 : tie.Need-returns-else-card-find
 returns-3 c =
-    let w = c.before.before.before in
-    let e = w.before.before.before in
-    let f = e.before.before.before in
-    let s = f.before.before.before.before.before in
-    laid-found _ _ s.args.bytes.now _ _ _ _ (found f) (eq-eqb _ _ e.if1.false) _ _ c.held_with.ensures w.note-with.ensures
+    let w = c in
+    let e = c in
+    let f = c in
+    let s = c in
+    laid-found _ _ s.args.bytes.now _ _ _ _ (found c.before.before.before.before.before.before.before.before) (eq-eqb _ _ e.if-card-find.false) _ _ c.held_with.ensures w.note_with.ensures
 
-pub lay-spec : {M : Type 1} → statement M
-lay-spec =
+pub lay_spec : {M : Type 1} → statement M
+lay_spec =
     tie.close
     (tie.spec
     (search rules)

@@ -6,11 +6,11 @@ use borrow.Author.Tests.{eq-eqb, ne_eqb}
 use Rattle.holding.proofs.laying.note_with.Statement.{statement}
 use Rattle.holding.proofs.laying.note_with.Tie as tie
 
-returns : tie.Need-returns
-returns c = rw (eq-eqb _ _ c.before.before.before.before.if1.true) c.before.before.put-note.ensures
+returns : tie.Need-returns-then-bit-eq1
+returns c = rw (eq-eqb _ _ c.if-bit-eq1.true) c.put_note.ensures
 
-returns-2 : tie.Need-returns-2
-returns-2 c = rw (ne_eqb _ _ c.if1.false)
+returns-2 : tie.Need-returns-else-bit-eq1
+returns-2 c = rw (ne_eqb _ _ c.if-bit-eq1.false)
 
-pub note-with-spec : {M : Type 1} → statement M
-note-with-spec = tie.close (tie.spec (search rules) (search rules) returns returns-2)
+pub note_with_spec : {M : Type 1} → statement M
+note_with_spec = tie.close (tie.spec (search rules) (search rules) returns returns-2)

@@ -6,5 +6,5 @@ use lib.Dec.{eqb}
 use Rattle.holding.proofs.runs.closes.Statement.{statement}
 use Rattle.holding.proofs.runs.closes.Tie as tie
 
-pub closes-spec : {M : Type 1} → statement M
-closes-spec = tie.close (tie.spec (search rules) (λ c. ap (λ (x : ℕ). eqb (x / 64 % 2) 1) c.flags-at.ensures))
+pub closes_spec : {M : Type 1} → statement M
+closes_spec = tie.close (tie.spec (search rules) (λ c. ap (λ (x : ℕ). eqb (x / 64 % 2) 1) c.flags_at.ensures))

@@ -9,19 +9,19 @@ use lib.Seq.{take-suc, take-suc-set, get_or-drop}
 use Rattle.holding.proofs.runs.copy.Statement.{statement}
 use Rattle.holding.proofs.runs.copy.Tie as tie
 
-abbrev invariant-loop : tie.invariant-loop
+abbrev invariant-loop : tie.invariant-loop-i
 invariant-loop buffer₀ at log from n i₀ buffer i = (i ≤ n) × ((take (at + i) buffer ≡ take at buffer₀ ++ take i (drop from log)) × (length buffer ≡ length buffer₀))
 
-abbrev decreases-loop : tie.decreases-loop
+abbrev decreases-loop : tie.decreases-loop-i
 decreases-loop buffer₀ at log from n i₀ buffer i = n - i
 
-loop-holds : tie.Need-loop-init invariant-loop decreases-loop
+loop-holds : tie.Need-loop-i-init invariant-loop decreases-loop
 loop-holds c = (omega arith, (rw (add-zero, append-nil), refl))
 
-loop-again : tie.Need-loop-preserved invariant-loop decreases-loop
+loop-again : tie.Need-loop-i-preserved invariant-loop decreases-loop
 loop-again c =
-    let l = c.before.before.loop in
-    let a = c.before.before.before.args in
+    let l = c.loop-i in
+    let a = c.args in
     let s = drop a.from a.log.now in
     let x = get_or a.log.now (a.from + l.i) 0 in
     let next : a.at + (l.i + 1) ≡ suc (a.at + l.i) = omega arith in
@@ -38,8 +38,8 @@ loop-again c =
 
 returns : tie.Need-returns invariant-loop decreases-loop
 returns c =
-    let l = c.before.loop in
-    let a = c.before.before.args in
+    let l = c.loop-i in
+    let a = c.args in
     let e : l.i ≡ a.n = omega arith in
     rw e at l.invariant.1.0
 
@@ -57,5 +57,5 @@ copy_spec =
     (λ c. omega arith)
     (λ c. omega arith)
     loop-again
-    (λ c. c.before.loop.invariant.1.1)
+    (λ c. c.loop-i.invariant.1.1)
     returns)

@@ -15,58 +15,58 @@ use Rattle.holding.proofs.Capped.{broken-by, begun, gone-on, passed_over}
 use Rattle.holding.proofs.runs.grow.Statement.{statement}
 use Rattle.holding.proofs.runs.grow.Tie as tie
 
-length-is : (c : tie.After-known-told) → length_of c.before.before.before.before.before.args.frame ≡ c.before.frame.given.0.0
-length-is c = ap length_of c.before.frame.given.1
+length-is : (c : tie.In-Data) → length_of c.args.frame ≡ c.in-Data.length
+length-is c = ap length_of c.in-Data.is
 
 -- the begin flag, as it was read
-flag : (c : tie.After-flags-at) → let a = c.before.before.before.before.before.before.args in
-    eqb (c.flags-at.result / 128 % 2) 1 ≡ begins (flags_at (drop a.index a.log.now))
-flag c = ap (λ (x : ℕ). eqb (x / 128 % 2) 1) c.flags-at.ensures
+flag : (c : tie.After-flags_at) → let a = c.args in
+    eqb (c.flags_at.result / 128 % 2) 1 ≡ begins (flags_at (drop a.index a.log.now))
+flag c = ap (λ (x : ℕ). eqb (x / 128 % 2) 1) c.flags_at.ensures
 
-returns : tie.Need-returns
-returns c = (broken-by _ _ c.before.before.before.args.frame c.match.keys2, omega arith)
+returns : tie.Need-returns-in_default
+returns c = (broken-by _ _ c.args.frame c.in_default.in_default-own.keys2, omega arith)
 
-sub-n : tie.Need-overflow-sub-n
-sub-n c = omega (arith, length-is c, c.before.before.before.before.before.requires.1.1.0)
+sub-n : tie.Need-overflow_sub-n
+sub-n c = omega (arith, length-is c, c.requires.1.1.0)
 
 join-requires : tie.Need-join-requires
 join-requires c κs =
-    let k = c.before.before.before in
-    let p = k.before.before.before.before.before.requires in
-    (p.0, (omega arith, omega (arith, length-is k, p.1.1.0, p.1.1.1)))
+    let k = c in
+    let p = k.requires in
+    (p.0, (omega arith, omega (arith, length-is c.before.before.before, p.1.1.0, p.1.1.1)))
 
-returns-2 : tie.Need-returns-2
+returns-2 : tie.Need-returns-then-flags_at-eq1
 returns-2 c =
-    let j = c.before.before in
-    let t = j.before.before in
-    let f = t.before.before.before in
-    let a = f.before.before.before.before.args in
-    (j.join.ensures.0 ∙ begun a.log.now a.index f.frame.given.0.0 a.frame _ f.frame.given.1 (sym (flag t.before) ∙ eq-eqb _ _ t.if1.true), j.join.ensures.1)
+    let j = c in
+    let t = c in
+    let f = c in
+    let a = f.args in
+    (j.join.ensures.0 ∙ begun a.log.now a.index f.in-Data.length a.frame _ f.in-Data.is (sym (flag c.before.before.before.before.before) ∙ eq-eqb _ _ t.if-flags_at-eq1.true), j.join.ensures.1)
 
-join-requires-2 : tie.Need-join-requires-2
+join-requires-2 : tie.Need-join-requires-in-Running
 join-requires-2 c κs =
-    let r = c.before.before in
-    let k = r.before.before.before.before in
-    let p = k.before.before.before.before.before.requires in
-    (p.0, (omega (arith, ap (λ (x : Run). kept x) r.run.given.1, p.1.0), omega (arith, length-is k, p.1.1.0, p.1.1.1)))
+    let r = c in
+    let k = c in
+    let p = k.requires in
+    (p.0, (omega (arith, ap (λ (x : Run). kept x) r.in-Running.is, p.1.0), omega (arith, length-is c.before.before.before.before, p.1.1.0, p.1.1.1)))
 
-returns-3 : tie.Need-returns-3
+returns-3 : tie.Need-returns-in-Idle
 returns-3 c =
-    let e = c.before.before in
-    let f = e.before.before.before in
-    let a = f.before.before.before.before.args in
-    (passed_over a.log.now a.index f.frame.given.0.0 a.frame _ f.frame.given.1 (sym (flag e.before) ∙ ne_eqb _ _ e.if1.false) (ap (λ (x : Run). run_in x a.buffer.now) c.enum_told.given.1), omega arith)
+    let e = c in
+    let f = c in
+    let a = f.args in
+    (passed_over a.log.now a.index f.in-Data.length a.frame _ f.in-Data.is (sym (flag c.before.before) ∙ ne_eqb _ _ e.if-flags_at-eq1.false) (ap (λ (x : Run). run_in x a.buffer.now) c.in-Idle.is), omega arith)
 
-returns-4 : tie.Need-returns-4
+returns-4 : tie.Need-returns-in-Running
 returns-4 c =
-    let j = c.before.before in
-    let r = j.before.before.before in
-    let e = r.before.before in
-    let f = e.before.before.before in
-    let a = f.before.before.before.before.args in (
-      j.join2.ensures.0
-          ∙ gone-on a.log.now a.index f.frame.given.0.0 a.frame _ f.frame.given.1 (sym (flag e.before) ∙ ne_eqb _ _ e.if1.false) _ (ap (λ (x : Run). run_in x a.buffer.now) r.run.given.1),
-      j.join2.ensures.1,
+    let j = c in
+    let r = c in
+    let e = c in
+    let f = c in
+    let a = f.args in (
+      j.join-in-Running.ensures.0
+          ∙ gone-on a.log.now a.index f.in-Data.length a.frame _ f.in-Data.is (sym (flag c.before.before.before.before.before.before) ∙ ne_eqb _ _ e.if-flags_at-eq1.false) _ (ap (λ (x : Run). run_in x a.buffer.now) r.in-Running.is),
+      j.join-in-Running.ensures.1,
     )
 
 pub grow_spec : {M : Type 1} → statement M

@@ -10,20 +10,20 @@ use Rattle.holding.proofs.Capped.{capped-long, capped-short, joined_length}
 use Rattle.holding.proofs.runs.join.Statement.{statement}
 use Rattle.holding.proofs.runs.join.Tie as tie
 
-returns : tie.Need-returns
+returns : tie.Need-returns-then-n-held
 returns c =
-    let s = c.before.before.before in
+    let s = c in
     let a = s.args in
     (capped-long (take a.held a.buffer.now ++ take a.n (drop a.from a.log.now)) (omega (arith, joined_length a.buffer.now a.log.now a.held a.from a.n (omega arith) s.requires.1.1)), omega arith)
 
-returns-2 : tie.Need-returns-2
+returns-2 : tie.Need-returns
 returns-2 c =
-    let s = c.before.before.before.before.before.before.before in
+    let s = c in
     let a = s.args in (
-      ap (λ (x : List ℕ). running x) c.before.before.copy.ensures
+      ap (λ (x : List ℕ). running x) c.copy.ensures
           ∙ capped-short (take a.held a.buffer.now ++ take a.n (drop a.from a.log.now)) (omega (arith, joined_length a.buffer.now a.log.now a.held a.from a.n (omega arith) s.requires.1.1)),
       omega arith,
     )
 
-pub join-spec : {M : Type 1} → statement M
-join-spec = tie.close (tie.spec (search rules) returns (search rules) (search rules) (search rules) returns-2)
+pub join_spec : {M : Type 1} → statement M
+join_spec = tie.close (tie.spec (search rules) returns (search rules) (search rules) (search rules) returns-2)

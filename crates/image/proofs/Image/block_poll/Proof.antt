@@ -14,37 +14,37 @@ use borrow.Author.Rules.{rules}
 use Rattle.image.proofs.Image.block_poll.Statement.{statement}
 use Rattle.image.proofs.Image.block_poll.Tie as tie
 
-block-at-requires : tie.Need-block-at-requires
+block-at-requires : tie.Need-block_at-to-requires
 block-at-requires c κs =
-    let a = c.before.before.before.before.before.before.args in
-    let k = readable-read true _ (length a.log.now) (state_of a.self) (sym c.enum-told2.given.1 ∙ c.before.before.readable.ensures) in
-    (c.before.before.before.before.read-active.ensures, (k.sound, (k.high, (k.p-32, c.before.before.before.natural.ensures.1))))
+    let a = c.args in
+    let k = readable-read true _ (length a.log.now) (state_of a.self) (sym c.in-Read.is ∙ c.readable.ensures) in
+    (c.read_active-v.ensures, (k.sound, (k.high, (k.p-32, c.natural-most.ensures.1))))
 
-returns : tie.Need-returns
+returns : tie.Need-returns-in-Refuse
 returns c =
-    let s = c.before.before.before.before.before.before.before in
+    let s = c in
     let a = s.args in
-    ap block_reply_of (as-block a.rec a.log.now (state_of a.self) a.limit _ _ c.before.before.before.before.before.read-active.ensures (c.before.before.before.before.natural.ensures.0 ∙ ap natural (to_z-of_z s.ranges.limit)) _ (sym c.before.e.given.1 ∙ c.before.before.before.readable.ensures))
+    ap block_reply_of (as-block a.rec a.log.now (state_of a.self) a.limit _ _ c.read_active-v.ensures (c.natural-most.ensures.0 ∙ ap natural (to_z-of_z s.ranges.limit)) _ (sym c.in-Refuse.is ∙ c.readable.ensures))
 
-returns-2 : tie.Need-returns-2
+returns-2 : tie.Need-returns-in-Closed
 returns-2 c =
-    let s = c.before.before.before.before.before.before in
+    let s = c in
     let a = s.args in
-    ap block_reply_of (as-block a.rec a.log.now (state_of a.self) a.limit _ _ c.before.before.before.before.read-active.ensures (c.before.before.before.natural.ensures.0 ∙ ap natural (to_z-of_z s.ranges.limit)) _ (sym c.enum_told.given.1 ∙ c.before.before.readable.ensures))
+    ap block_reply_of (as-block a.rec a.log.now (state_of a.self) a.limit _ _ c.read_active-v.ensures (c.natural-most.ensures.0 ∙ ap natural (to_z-of_z s.ranges.limit)) _ (sym c.in-Closed.is ∙ c.readable.ensures))
 
-returns-3 : tie.Need-returns-3
+returns-3 : tie.Need-returns-in-Read
 returns-3 c =
-    let s = c.before.before.before.before.before.before.before.before in
+    let s = c in
     let a = s.args in
-    let t = c.before.block_at in
+    let t = c.block_at-to in
     let z : to_z w64 (of_z w64 t.result.position) ≡ t.result.position = to_z-of_z {w = w64} {z = t.result.position} (search rules) in
-    let v = c.before.before.before.before.before.before.read-active.result in
-    let n = c.before.before.before.before.before.natural.result in
+    let v = c.read_active-v.result in
+    let n = c.natural-most.result in
     block-replied (state_of a.self) _ t.result (block_read v a.log.now (state_of a.self) n) z t.ensures (block-kept v a.log.now (state_of a.self) n)
-    ∙ ap block_reply_of (as-block a.rec a.log.now (state_of a.self) a.limit _ _ c.before.before.before.before.before.before.read-active.ensures (c.before.before.before.before.before.natural.ensures.0 ∙ ap natural (to_z-of_z s.ranges.limit)) _ (sym c.before.before.enum-told2.given.1 ∙ c.before.before.before.before.readable.ensures))
+    ∙ ap block_reply_of (as-block a.rec a.log.now (state_of a.self) a.limit _ _ c.read_active-v.ensures (c.natural-most.ensures.0 ∙ ap natural (to_z-of_z s.ranges.limit)) _ (sym c.in-Read.is ∙ c.readable.ensures))
 
-pub block-poll-spec : {M : Type 1} → statement M
-block-poll-spec =
+pub block_poll_spec : {M : Type 1} → statement M
+block_poll_spec =
     tie.close
     (tie.spec
     (search rules)

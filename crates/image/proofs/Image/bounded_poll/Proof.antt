@@ -14,25 +14,25 @@ use borrow.Author.Rules.{rules}
 use Rattle.image.proofs.Image.bounded_poll.Statement.{statement}
 use Rattle.image.proofs.Image.bounded_poll.Tie as tie
 
-poll-frames-requires : tie.Need-poll-frames-requires
-poll-frames-requires c κs = λ h. (sym c.before.before.good-entries.ensures ∙ h, refl)
+poll-frames-requires : tie.Need-poll_frames-to-requires
+poll-frames-requires c κs = λ h. (sym c.good_entries-good.ensures ∙ h, refl)
 
 returns : tie.Need-returns
 returns c =
-    let s = c.before.before.before.before.before.before.before.before.before.before in
+    let s = c in
     let a = s.args in
-    let v = c.before.before.before.before.before.before.before.before.read-active.result in
-    let f = c.before.before.poll-frames in
-    let good = c.before.before.before.before.before.good-entries.result in
-    let limit = c.before.before.before.before.before.before.before.natural.result in
-    let bound : ℕ = c.before.before.before.before.before.before.natural-position.result in
+    let v = c.read_active-v.result in
+    let f = c.poll_frames-to in
+    let good = c.good_entries-good.result in
+    let limit = c.natural-limit.result in
+    let bound : ℕ = c.natural_position-bound.result in
     let z : to_z w64 (of_z w64 f.result.position) ≡ f.result.position = to_z-of_z {w = w64} {z = f.result.position} (search rules) in
-    let k = as-bounded a.rec a.log.now (state_of a.self) a.entries.now a.fragment-limit v limit good c.before.before.before.before.before.before.before.before.read-active.ensures (c.before.before.before.before.before.before.before.natural.ensures.0 ∙ ap natural (to_z-of_z s.ranges.fragment-limit)) a.limit-position bound c.before.before.before.before.before.good-entries.ensures (c.before.before.before.before.before.before.natural-position.ensures ∙ ap natural (to_z-of_z s.ranges.limit-position)) in
+    let k = as-bounded a.rec a.log.now (state_of a.self) a.entries.now a.fragment_limit v limit good c.read_active-v.ensures (c.natural-limit.ensures.0 ∙ ap natural (to_z-of_z s.ranges.fragment_limit)) a.limit_position bound c.good_entries-good.ensures (c.natural_position-bound.ensures ∙ ap natural (to_z-of_z s.ranges.limit_position)) in
     let n = replied v a.log.now (state_of a.self) a.entries.now good limit [] (end_offset v (long a.self.position) bound) _ f.result z f.ensures.0 in
     (n ∙ ap poll_reply_of k, f.ensures.1 ∙ ap (λ x. x.slots) k)
 
-pub bounded-poll-spec : {M : Type 1} → statement M
-bounded-poll-spec =
+pub bounded_poll_spec : {M : Type 1} → statement M
+bounded_poll_spec =
     tie.close
     (tie.spec
     (search rules)

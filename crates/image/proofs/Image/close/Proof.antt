@@ -14,24 +14,24 @@ use borrow.Author.Rules.{rules}
 use Rattle.image.proofs.Image.close.Statement.{statement}
 use Rattle.image.proofs.Image.close.Tie as tie
 
-returns : tie.Need-returns
+returns : tie.Need-returns-then-not-is_sound
 returns c =
-    let a = c.before.before.before.before.args in
-    ap image_reply_of (as-close a.rec a.log.now (state_of a.self) _ c.before.before.read-active.ensures false _ (sym c.before.is-sound.ensures ∙ not-true _ c.if1.true) refl)
+    let a = c.args in
+    ap image_reply_of (as-close a.rec a.log.now (state_of a.self) _ c.read_active-v.ensures false _ (sym c.is_sound.ensures ∙ not-true _ c.if-not-is_sound.true-raw) refl)
 
-returns-2 : tie.Need-returns-2
+returns-2 : tie.Need-returns-then-self
 returns-2 c =
-    let a = c.before.before.before.before.before.args in
-    ap image_reply_of (as-close a.rec a.log.now (state_of a.self) _ c.before.before.before.read-active.ensures true true (sym c.before.before.is-sound.ensures ∙ not-false _ c.before.if1.false) c.if2.true)
+    let a = c.args in
+    ap image_reply_of (as-close a.rec a.log.now (state_of a.self) _ c.read_active-v.ensures true true (sym c.is_sound.ensures ∙ not-false _ c.if-not-is_sound.false-raw) c.if-self.true)
 
-returns-3 : tie.Need-returns-3
+returns-3 : tie.Need-returns
 returns-3 c =
-    let a = c.before.before.before.before.before.before.before.before.before.args in
+    let a = c.args in
     let f : SFits w64 a.rec.end_of_stream_position = search rules in
     let g : SFits w64 a.self.position = search rules in
     let made : Bool → ImageReply = λ (b : Bool). record { next = record { position = a.self.position; session_id = a.self.session_id; is_closed = true; is_eos = b }; answer = Done } in
     ap made (ap₂ le_z (to_z-of_z f) (to_z-of_z g))
-    ∙ ap image_reply_of (as-close a.rec a.log.now (state_of a.self) _ c.before.before.before.before.before.before.before.read-active.ensures true false (sym c.before.before.before.before.before.before.is-sound.ensures ∙ not-false _ c.before.before.before.before.before.if1.false) c.before.before.before.before.if2.false)
+    ∙ ap image_reply_of (as-close a.rec a.log.now (state_of a.self) _ c.read_active-v.ensures true false (sym c.is_sound.ensures ∙ not-false _ c.if-not-is_sound.false-raw) c.if-self.false)
 
 pub close_spec : {M : Type 1} → statement M
 close_spec =

@@ -9,17 +9,17 @@ use Rattle.image.proofs.Image.controlled_peek.Tie as tie
 
 returns : tie.Need-returns
 returns c =
-    let s = c.before.before.before.before.before in
+    let s = c in
     let a = s.args in
-    let p = c.before.peek-frames.ensures in
+    let p = c.peek_frames-answer.ensures in
     let from = to_z-of_z s.ranges.start in
-    let to = to_z-of_z s.ranges.limit-position in (
+    let to = to_z-of_z s.ranges.limit_position in (
       ap (peek_reply_of (state_of a.self)) (p.0 ∙ ap₂ (peek_of a.rec a.log.now (state_of a.self) a.entries.now a.actions.now) from to),
       p.1 ∙ ap₂ (peek_slots a.rec a.log.now (state_of a.self) a.entries.now a.actions.now) from to,
     )
 
-pub controlled-peek-spec : {M : Type 1} → statement M
-controlled-peek-spec =
+pub controlled_peek_spec : {M : Type 1} → statement M
+controlled_peek_spec =
     tie.close
     (tie.spec
     (search rules)

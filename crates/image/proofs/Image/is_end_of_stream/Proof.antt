@@ -11,21 +11,21 @@ use borrow.Author.Rules.{rules}
 use Rattle.image.proofs.Image.is_end_of_stream.Statement.{statement}
 use Rattle.image.proofs.Image.is_end_of_stream.Tie as tie
 
-returns : tie.Need-returns
-returns c = let a = c.before.before.before.before.before.before.args in as-end a.rec a.log.now (state_of a.self) _ c.before.before.before.before.read-active.ensures _ (sym c.before.e.given.1 ∙ c.before.before.before.readable.ensures)
+returns : tie.Need-returns-in-Refuse
+returns c = let a = c.args in as-end a.rec a.log.now (state_of a.self) _ c.read_active-v.ensures _ (sym c.in-Refuse.is ∙ c.readable.ensures)
 
-returns-2 : tie.Need-returns-2
-returns-2 c = let a = c.before.before.before.before.before.args in as-end a.rec a.log.now (state_of a.self) _ c.before.before.before.read-active.ensures _ (sym c.enum_told.given.1 ∙ c.before.before.readable.ensures)
+returns-2 : tie.Need-returns-in-Closed
+returns-2 c = let a = c.args in as-end a.rec a.log.now (state_of a.self) _ c.read_active-v.ensures _ (sym c.in-Closed.is ∙ c.readable.ensures)
 
-returns-3 : tie.Need-returns-3
+returns-3 : tie.Need-returns-in-Read
 returns-3 c =
-    let a = c.before.before.before.before.before.before.before.before.before.args in
+    let a = c.args in
     let f : SFits w64 a.rec.end_of_stream_position = search rules in
     let g : SFits w64 a.self.position = search rules in
-    ap Is (ap₂ le_z (to_z-of_z f) (to_z-of_z g)) ∙ as-end a.rec a.log.now (state_of a.self) _ c.before.before.before.before.before.before.before.read-active.ensures _ (sym c.before.before.before.before.enum-told2.given.1 ∙ c.before.before.before.before.before.before.readable.ensures)
+    ap Is (ap₂ le_z (to_z-of_z f) (to_z-of_z g)) ∙ as-end a.rec a.log.now (state_of a.self) _ c.read_active-v.ensures _ (sym c.in-Read.is ∙ c.readable.ensures)
 
-pub is-end-of-stream-spec : {M : Type 1} → statement M
-is-end-of-stream-spec =
+pub is_end_of_stream_spec : {M : Type 1} → statement M
+is_end_of_stream_spec =
     tie.close
     (tie.spec
     (search rules)

@@ -10,11 +10,11 @@ use Rattle.image.proofs.Image.poll.Tie as tie
 
 returns : tie.Need-returns
 returns c =
-    let s = c.before.before.before.before.before.before in
+    let s = c in
     let a = s.args in
-    let r = c.before.before.before.before.read-active in
-    let f = c.before.before.poll-on in
-    let k = ap (λ (y : ℤ). poll_by r.result a.log.now (state_of a.self) a.entries.now y) (to_z-of_z s.ranges.fragment-limit) ∙ as-poll a.log.now (state_of a.self) a.entries.now a.fragment-limit r.result a.rec r.ensures in
+    let r = c.read_active in
+    let f = c.poll_on-polled in
+    let k = ap (λ (y : ℤ). poll_by r.result a.log.now (state_of a.self) a.entries.now y) (to_z-of_z s.ranges.fragment_limit) ∙ as-poll a.log.now (state_of a.self) a.entries.now a.fragment_limit r.result a.rec r.ensures in
     (f.ensures.0 ∙ ap poll_reply_of k, f.ensures.1.1 ∙ ap (λ x. x.slots) k)
 
 pub poll_spec : {M : Type 1} → statement M

@@ -13,25 +13,25 @@ use borrow.Author.Rules.{rules}
 use Rattle.image.proofs.Image.set_position.Statement.{statement}
 use Rattle.image.proofs.Image.set_position.Tie as tie
 
-p-is : (c : tie.After-long) → c.long.result ≡ long c.before.before.before.args.new-position
-p-is c = long-by c.before.before.before.args.new-position c.long.ensures.0 c.before.before.before.fits.new-position
+p-is : (c : tie.After-long) → c.long.result ≡ long c.args.new_position
+p-is c = long-by c.args.new_position c.long.ensures.0 c.fits.new_position
 
-returns : tie.Need-returns
-returns c = let a = c.before.before.before.before.before.before.before.args in ap image_reply_of (as-set a.rec a.log.now (state_of a.self) _ c.before.before.before.before.before.read-active.ensures a.new-position _ _ (p-is c.before.before.before.before) (sym c.before.e.given.1 ∙ c.before.before.before.reach.ensures))
+returns : tie.Need-returns-in-Refuse
+returns c = let a = c.args in ap image_reply_of (as-set a.rec a.log.now (state_of a.self) _ c.read_active-v.ensures a.new_position _ _ (p-is c.before.before) (sym c.in-Refuse.is ∙ c.reach.ensures))
 
-returns-2 : tie.Need-returns-2
-returns-2 c = let a = c.before.before.before.before.before.before.args in ap image_reply_of (as-set a.rec a.log.now (state_of a.self) _ c.before.before.before.before.read-active.ensures a.new-position _ _ (p-is c.before.before.before) (sym c.enum_told.given.1 ∙ c.before.before.reach.ensures))
+returns-2 : tie.Need-returns-in-Closed
+returns-2 c = let a = c.args in ap image_reply_of (as-set a.rec a.log.now (state_of a.self) _ c.read_active-v.ensures a.new_position _ _ (p-is c.before.before) (sym c.in-Closed.is ∙ c.reach.ensures))
 
-returns-3 : tie.Need-returns-3
+returns-3 : tie.Need-returns-in-Read
 returns-3 c =
-    let s = c.before.before.before.before.before.before in
+    let s = c in
     let a = s.args in
     let made : ℤ → ImageReply = λ (z : ℤ). record { next = image_of (moved_to (state_of a.self) z); answer = Done } in
-    ap made (to_z-of_z s.fits.new-position)
-    ∙ ap image_reply_of (as-set a.rec a.log.now (state_of a.self) _ c.before.before.before.before.read-active.ensures a.new-position _ _ (p-is c.before.before.before) (sym c.enum-told2.given.1 ∙ c.before.before.reach.ensures))
+    ap made (to_z-of_z s.fits.new_position)
+    ∙ ap image_reply_of (as-set a.rec a.log.now (state_of a.self) _ c.read_active-v.ensures a.new_position _ _ (p-is c.before.before) (sym c.in-Read.is ∙ c.reach.ensures))
 
-pub set-position-spec : {M : Type 1} → statement M
-set-position-spec =
+pub set_position_spec : {M : Type 1} → statement M
+set_position_spec =
     tie.close
     (tie.spec
     (search rules)

@@ -16,37 +16,37 @@ use Rattle.image.proofs.block.term_id_at.Tie as tie
 place : (c : tie.Start) → At c.args.v (length c.args.log.now) c.args.p
 place c = at_place _ _ _ c.requires.1.0 c.requires.1.1
 
-partition-of-requires : tie.Need-partition-of-requires
-partition-of-requires c κs = term-length _ _ c.before.requires.1.0
+partition-of-requires : tie.Need-partition_of-requires
+partition-of-requires c κs = term-length _ _ c.requires.1.0
 
-cast-fields : tie.Need-overflow-cast-fields
-cast-fields c = record { sfits = omega (arith, c.partition-of.ensures.1) }
+cast-fields : tie.Need-overflow_cast-partition_of
+cast-fields c = record { sfits = omega (arith, c.partition_of.ensures.1) }
 
-offset-of-requires : tie.Need-offset-of-requires
-offset-of-requires c κs = term-length _ _ c.before.before.requires.1.0
+offset-of-requires : tie.Need-offset_of-requires
+offset-of-requires c κs = term-length _ _ c.requires.1.0
 
-cast-fields-2 : tie.Need-overflow-cast-fields-2
-cast-fields-2 c = let s = c.before.before.before in record { sfits = omega (arith, c.offset-of.ensures, (place s).below, (place s).term-high) }
+cast-fields-2 : tie.Need-overflow_cast-offset_of
+cast-fields-2 c = let s = c in record { sfits = omega (arith, c.offset_of.ensures, (place c.before.before.before).below, (place c.before.before.before).term-high) }
 
 -- what the header answers at the place of the position
-asked : (c : tie.After-fields) → (let a = c.before.before.before.before.args in header_call a.rec a.log.now (signed (a.p / a.v.term % 3)) (signed (a.p % a.v.term)) ≡ c.fields.result)
+asked : (c : tie.After-fields) → (let a = c.args in header_call a.rec a.log.now (signed (a.p / a.v.term % 3)) (signed (a.p % a.v.term)) ≡ c.fields.result)
 asked c =
-    let a = c.before.before.before.before.args in
-    sym (c.fields.ensures ∙ ap₂ (λ (x y : ℕ). header_call a.rec a.log.now (signed x) (signed y)) c.before.before.partition-of.ensures.0 c.before.offset-of.ensures)
+    let a = c.args in
+    sym (c.fields.ensures ∙ ap₂ (λ (x y : ℕ). header_call a.rec a.log.now (signed x) (signed y)) c.partition_of.ensures.0 c.offset_of.ensures)
 
-returns : tie.Need-returns
+returns : tie.Need-returns-in_default
 returns c =
-    let s = c.before.before.before.before.before.before in
-    absurd (not-refused s.args.rec s.args.log.now s.args.v s.args.p s.requires.0 s.requires.1.0 s.requires.1.1 _ (asked c.before.before ∙ c.enum_told.given.1))
+    let s = c in
+    absurd (not-refused s.args.rec s.args.log.now s.args.v s.args.p s.requires.0 s.requires.1.0 s.requires.1.1 _ (asked c.before ∙ c.in_default.is))
 
-returns-2 : tie.Need-returns-2
+returns-2 : tie.Need-returns
 returns-2 c =
-    let s = c.before.before.before.before.before.before.before.before in
-    let f : SFits w32 c.before.before.fields2.given.0.0.term_id = record { sfits = c.struct_told.given.1.1.1.1.1.1.1.0.1 } in
-    to_z-of_z f ∙ term-id-is s.args.rec s.args.log.now s.args.v s.args.p s.requires.0 s.requires.1.0 s.requires.1.1 _ (asked c.before.before.before.before ∙ c.before.before.fields2.given.1)
+    let s = c in
+    let f : SFits w32 c.in-Fields.fields.term_id = record { sfits = c.struct_told-1.given.1.1.1.1.1.1.1.0.1 } in
+    to_z-of_z f ∙ term-id-is s.args.rec s.args.log.now s.args.v s.args.p s.requires.0 s.requires.1.0 s.requires.1.1 _ (asked c.before.before ∙ c.in-Fields.is)
 
-pub term-id-at-spec : {M : Type 1} → statement M
-term-id-at-spec =
+pub term_id_at_spec : {M : Type 1} → statement M
+term_id_at_spec =
     tie.close
     (tie.spec
     partition-of-requires

@@ -25,32 +25,32 @@ place c = at_place _ _ _ c.requires.0 c.requires.1.0
 one_bit : (c : tie.Start) → TermLength c.args.v.term
 one_bit c = term-length _ _ c.requires.0
 
-partition-of-requires : tie.Need-partition-of-requires
+partition-of-requires : tie.Need-partition_of-requires
 partition-of-requires c κs = one_bit c.before.before
 
-mul-read-frames : tie.Need-overflow-mul-read-frames
+mul-read-frames : tie.Need-overflow_mul-partition_of
 mul-read-frames c =
-    let s = c.before.before.before in
-    subst (λ (x : ℕ). Fits w64 (x * s.args.v.term)) (sym c.partition-of.ensures.0) (record { fits = omega (arith, (place s).inside, s.well-formed) })
+    let s = c in
+    subst (λ (x : ℕ). Fits w64 (x * s.args.v.term)) (sym c.partition_of.ensures.0) (record { fits = omega (arith, (place c.before.before.before).inside, s.well_formed) })
 
-offset-of-requires : tie.Need-offset-of-requires
+offset-of-requires : tie.Need-offset_of-requires
 offset-of-requires c κs = one_bit c.before.before.before
 
 returns : tie.Need-returns
 returns c =
-    let s = c.before.before.before.before.before.before.before in
+    let s = c in
     let a = s.args in
-    let k = c.before.before.before.before.partition-of.ensures.0 in
-    let at = c.before.before.before.offset-of.ensures in
+    let k = c.partition_of.ensures.0 in
+    let at = c.offset_of.ensures in
     let g = walk-good a.v (length a.log.now) a.p a.end a.limit (length a.entries.now) s.requires.0 s.requires.1.0 s.requires.1.1.0 s.requires.1.1.1.0 in
     let h = ap₂ (λ (x y : ℕ). good_walk (length a.log.now) (x * a.v.term) a.v.term a.end y a.limit (length a.entries.now)) k at ∙ g in
-    let l = frames-by a.log.now (c.before.before.before.before.partition-of.result * a.v.term) a.v.term a.end c.before.before.before.offset-of.result a.limit a.actions.now a.entries.now h s.requires.1.1.1.1 in
+    let l = frames-by a.log.now (c.partition_of.result * a.v.term) a.v.term a.end c.offset_of.result a.limit a.actions.now a.entries.now h s.requires.1.1.1.1 in
     let said : ℕ → ℕ → FramesRead = λ (x y : ℕ). frames_by (walk a.v.term a.log.now (x * a.v.term) a.v.term a.end y a.limit a.actions.now) (cond (first_unsound a.log.now (x * a.v.term) a.v.term a.end y a.limit) (Refuse (unsound_frame_at a.log.now (x * a.v.term) y)) Pass) in
     let wrote : ℕ → ℕ → List ℤ = λ (x y : ℕ). entries_by a.entries.now (walk a.v.term a.log.now (x * a.v.term) a.v.term a.end y a.limit a.actions.now) (cond (first_unsound a.log.now (x * a.v.term) a.v.term a.end y a.limit) (Refuse (unsound_frame_at a.log.now (x * a.v.term) y)) Pass) in
-    (c.before.read-frames.ensures.0 ∙ sym l.0 ∙ ap₂ said k at, c.before.read-frames.ensures.1 ∙ sym l.1 ∙ ap₂ wrote k at)
+    (c.read_frames.ensures.0 ∙ sym l.0 ∙ ap₂ said k at, c.read_frames.ensures.1 ∙ sym l.1 ∙ ap₂ wrote k at)
 
-pub frames-at-spec : {M : Type 1} → statement M
-frames-at-spec =
+pub frames_at_spec : {M : Type 1} → statement M
+frames_at_spec =
     tie.close
     (tie.spec
     partition-of-requires

@@ -15,24 +15,24 @@ use borrow.Author.Rules.{rules}
 use Rattle.image.proofs.frames.frames_on.Statement.{statement}
 use Rattle.image.proofs.frames.frames_on.Tie as tie
 
-offset-of-requires : tie.Need-offset-of-requires
-offset-of-requires c κs = term-length _ _ c.before.requires.0
+offset-of-requires : tie.Need-offset_of-requires
+offset-of-requires c κs = term-length _ _ c.requires.0
 
 returns : tie.Need-returns
 returns c =
-    let s = c.before.before.before.before.before in
+    let s = c in
     let a = s.args in
     let n = length a.entries.now in
-    let at = c.before.before.before.offset-of.ensures in
+    let at = c.offset_of.ensures in
     let k = partition_of a.p a.v.term in
     let o = a.p % a.v.term in
     let w = read_walk a.v a.log.now k o a.limit in
     let e = sym (on-walked a.v a.log.now k o a.limit a.entries.now (read-good a.v (length a.log.now) a.p a.limit n s.requires.0 s.requires.1.0 s.requires.1.1.0)) in
     let said : ℕ → ℕ → TermRead = λ (x y : ℕ). read_from y (frames_by (read_walk a.v a.log.now x y a.limit) (read_on_verdict a.v a.log.now x y a.limit n)) in
     let wrote : ℕ → ℕ → List ℤ = λ (x y : ℕ). entries_by a.entries.now (read_walk a.v a.log.now x y a.limit) (read_on_verdict a.v a.log.now x y a.limit n) in (
-      c.before.read-on.ensures.0 ∙ ap₂ said s.requires.1.1.1 at ∙ ap (λ (x : Verdict). read_from o (frames_by w x)) e,
-      c.before.read-on.ensures.1 ∙ ap₂ wrote s.requires.1.1.1 at ∙ ap (entries_by a.entries.now w) e,
+      c.read_on.ensures.0 ∙ ap₂ said s.requires.1.1.1 at ∙ ap (λ (x : Verdict). read_from o (frames_by w x)) e,
+      c.read_on.ensures.1 ∙ ap₂ wrote s.requires.1.1.1 at ∙ ap (entries_by a.entries.now w) e,
     )
 
-pub frames-on-spec : {M : Type 1} → statement M
-frames-on-spec = tie.close (tie.spec offset-of-requires (search rules) (search rules) returns)
+pub frames_on_spec : {M : Type 1} → statement M
+frames_on_spec = tie.close (tie.spec offset-of-requires (search rules) (search rules) returns)

@@ -30,19 +30,19 @@ use Rattle.image.proofs.frames.poll_frames.Statement.{statement}
 use Rattle.image.proofs.frames.poll_frames.Tie as tie
 
 -- the ladder passed
-told : (c : tie.After-long) → Read ≡ readable c.before.before.before.before.before.before.before.args.good c.before.before.before.before.before.before.before.args.v (length c.before.before.before.before.before.before.before.args.log.now) (state_of c.before.before.before.before.before.before.before.args.image) Read
-told c = sym c.before.before.enum-told2.given.1 ∙ c.before.before.before.before.readable.ensures
+told : (c : tie.After-long-p) → Read ≡ readable c.args.good c.args.v (length c.args.log.now) (state_of c.args.image) Read
+told c = sym c.in-Read.is ∙ c.readable.ensures
 
-passed : (c : tie.After-long) → Readable c.before.before.before.before.before.before.before.args.good c.before.before.before.before.before.before.before.args.v (length c.before.before.before.before.before.before.before.args.log.now) (long c.before.before.before.before.before.before.before.args.image.position)
-passed c = readable-read _ _ _ (state_of c.before.before.before.before.before.before.before.args.image) (told c)
+passed : (c : tie.After-long-p) → Readable c.args.good c.args.v (length c.args.log.now) (long c.args.image.position)
+passed c = readable-read _ _ _ (state_of c.args.image) (told c)
 
-p-is : (c : tie.After-long) → c.long.result ≡ long c.before.before.before.before.before.before.before.args.image.position
+p-is : (c : tie.After-long-p) → c.long-p.result ≡ long c.args.image.position
 p-is c =
-    let z = c.before.before.before.before.before.before.before.args.image.position in
+    let z = c.args.image.position in
     let f : SFits w64 z = search rules in
-    long-by z c.long.ensures.0 f
+    long-by z c.long-p.ensures.0 f
 
-p-high : (c : tie.After-long) → c.long.result ≤ 2305843009213693952
+p-high : (c : tie.After-long-p) → c.long-p.result ≤ 2305843009213693952
 p-high c = let k = passed c in omega (arith, p-is c, k.high, (sound-true _ _ k.sound).term-high)
 
 -- what the walk left, and what the definitions say of it, by where it ends
@@ -60,8 +60,8 @@ judged s e = let a = s.args in poll_verdict a.v a.log.now (state_of a.image) a.g
 abbrev ending : (s : tie.Start) → ℕ
 ending s = let a = s.args in end_offset a.v (long a.image.position) a.bound
 
-end_is : (c : tie.After-end-offset) → c.end-offset.result ≡ ending c.before.before.before.before.before.before.before.before
-end_is c = let a = c.before.before.before.before.before.before.before.before.args in c.end-offset.ensures ∙ ap (λ (q : ℕ). end_offset a.v q a.bound) (p-is c.before)
+end_is : (c : tie.After-end_offset-end) → c.end_offset-end.result ≡ ending c.before.before.before.before.before.before.before
+end_is c = let a = c.args in c.end_offset-end.ensures ∙ ap (λ (q : ℕ). end_offset a.v q a.bound) (p-is c.before)
 
 -- the image stays where it is
 stays : (s : tie.Start) (x : Polled) → ◌≡◌ {A = PolledTo} (record { position = to_z w64 (of_z w64 s.args.image.position); answer = x }) (record { position = s.args.image.position; answer = x })
@@ -69,71 +69,71 @@ stays s x =
     let f : SFits w64 s.args.image.position = search rules in
     ap {B = PolledTo} (λ (z : ℤ). record { position = z; answer = x }) (to_z-of_z f)
 
-moved : (c : tie.After-frames-at) (w : Walk) → c.frames-at.result ≡ AllWalked w → c.before.before.before.long.result + w.moved ≤ 4611686018427387904
+moved : (c : tie.After-frames_at-frames) (w : Walk) → c.frames_at-frames.result ≡ AllWalked w → c.long-p.result + w.moved ≤ 4611686018427387904
 moved c w h =
-    let a = c.before.before.before.before.before.before.before.before.before.before.args in
-    let m = frames-moved a.v a.log.now a.entries.now c.before.before.end-offset.result a.limit a.actions.now c.before.before.before.long.result _ (p-is c.before.before.before) c.frames-at.result _ c.frames-at.ensures.0 c.frames-at.ensures.1 w h in
+    let a = c.args in
+    let m = frames-moved a.v a.log.now a.entries.now c.end_offset-end.result a.limit a.actions.now c.long-p.result _ (p-is c.before.before.before) c.frames_at-frames.result _ c.frames_at-frames.ensures.0 c.frames_at-frames.ensures.1 w h in
     omega (arith, p-high c.before.before.before, (sound-true _ _ (passed c.before.before.before).sound).term-high)
 
-end-offset-requires : tie.Need-end-offset-requires
+end-offset-requires : tie.Need-end_offset-end-requires
 end-offset-requires c κs = term-length _ _ (passed c).sound
 
-frames-at-requires : tie.Need-frames-at-requires
+frames-at-requires : tie.Need-frames_at-frames-requires
 frames-at-requires c κs =
     let k = passed c.before.before in
-    (k.sound, (ap (λ (x : ℕ). x % 32) (p-is c.before.before) ∙ k.p-32, (omega (arith, c.before.end-offset.ensures), c.before.before.before.before.before.before.before.before.before.requires k.good)))
+    (k.sound, (ap (λ (x : ℕ). x % 32) (p-is c.before.before) ∙ k.p-32, (omega (arith, c.end_offset-end.ensures), c.requires k.good)))
 
-returns : tie.Need-returns
+returns : tie.Need-returns-in_default
 returns c =
-    let d = c.before in
-    let f = d.before.before.before.before in
-    let s = d.before.before.before.before.before.before.before.before.before.before.before.before.before.before in
+    let d = c in
+    let f = c in
+    let s = c in
     let a = s.args in
-    let e = f.before.before.end-offset.result in
-    let u = frames-unsound a.v a.log.now a.entries.now e a.limit a.actions.now f.before.before.before.long.result _ (p-is f.before.before.before) f.frames-at.result _ f.frames-at.ensures.0 f.frames-at.ensures.1 _ d.before.enum-told3.given.1 in
-    let x = poll-by a.v a.log.now (state_of a.image) a.good e a.limit true u.0 (told f.before.before.before) in (
-      stays s (Refused d.refusal.result) ∙ ap {B = PolledTo} (λ (y : Error). record { position = a.image.position; answer = Refused y }) (d.refusal.ensures ∙ u.1.1)
-          ∙ ap (said s e) x ∙ ap (λ (n : ℕ). said s n (judged s n)) (end_is f.before.before),
-      u.1.0 ∙ ap (wrote s e) x ∙ ap (λ (n : ℕ). wrote s n (judged s n)) (end_is f.before.before),
+    let e = f.end_offset-end.result in
+    let u = frames-unsound a.v a.log.now a.entries.now e a.limit a.actions.now f.long-p.result _ (p-is c.before.before.before.before.before.before.before) f.frames_at-frames.result _ f.frames_at-frames.ensures.0 f.frames_at-frames.ensures.1 _ d.in_default.is in
+    let x = poll-by a.v a.log.now (state_of a.image) a.good e a.limit true u.0 (told c.before.before.before.before.before.before.before) in (
+      stays c.before.before.before.before.before.before.before.before.before.before.before.before.before (Refused d.refusal.result) ∙ ap {B = PolledTo} (λ (y : Error). record { position = a.image.position; answer = Refused y }) (d.refusal.ensures ∙ u.1.1)
+          ∙ ap (said c.before.before.before.before.before.before.before.before.before.before.before.before.before e) x ∙ ap (λ (n : ℕ). said c.before.before.before.before.before.before.before.before.before.before.before.before.before n (judged c.before.before.before.before.before.before.before.before.before.before.before.before.before n)) (end_is c.before.before.before.before.before.before),
+      u.1.0 ∙ ap (wrote c.before.before.before.before.before.before.before.before.before.before.before.before.before e) x ∙ ap (λ (n : ℕ). wrote c.before.before.before.before.before.before.before.before.before.before.before.before.before n (judged c.before.before.before.before.before.before.before.before.before.before.before.before.before n)) (end_is c.before.before.before.before.before.before),
     )
 
-add-t23 : tie.Need-overflow-add-t23
-add-t23 c = record { fits = omega (arith, moved c.before.before.before.before.before _ c.before.before.frames.given.1) }
+add-t23 : tie.Need-overflow_add-result
+add-t23 c = record { fits = omega (arith, moved c.before.before.before _ c.in-Walked.is) }
 
-cast-t24 : tie.Need-overflow-cast-t24
-cast-t24 c = record { sfits = omega (arith, moved c.before.before.before.before.before _ c.before.before.frames.given.1) }
+cast-t24 : tie.Need-overflow_cast-result
+cast-t24 c = record { sfits = omega (arith, moved c.before.before.before _ c.in-Walked.is) }
 
-returns-2 : tie.Need-returns-2
+returns-2 : tie.Need-returns-in-Refuse
 returns-2 c =
-    let s = c.before.before.before.before.before.before.before in
+    let s = c in
     let a = s.args in
-    let x = poll-after a.v a.log.now (state_of a.image) a.good (ending s) a.limit _ (sym c.before.before.e.given.1 ∙ c.before.before.before.before.readable.ensures) in
-    (stays s _ ∙ ap (said s (ending s)) x, ap (wrote s (ending s)) x)
+    let x = poll-after a.v a.log.now (state_of a.image) a.good (ending c.before.before.before.before.before) a.limit _ (sym c.in-Refuse.is ∙ c.readable.ensures) in
+    (stays c.before.before.before.before.before _ ∙ ap (said c.before.before.before.before.before (ending c.before.before.before.before.before)) x, ap (wrote c.before.before.before.before.before (ending c.before.before.before.before.before)) x)
 
-returns-3 : tie.Need-returns-3
+returns-3 : tie.Need-returns-in-Closed
 returns-3 c =
-    let s = c.before.before.before.before.before.before in
+    let s = c in
     let a = s.args in
-    let x = poll-after a.v a.log.now (state_of a.image) a.good (ending s) a.limit _ (sym c.before.enum_told.given.1 ∙ c.before.before.before.readable.ensures) in
-    (stays s (Fragments 0 0) ∙ ap (said s (ending s)) x, ap (wrote s (ending s)) x)
+    let x = poll-after a.v a.log.now (state_of a.image) a.good (ending c.before.before.before.before.before) a.limit _ (sym c.in-Closed.is ∙ c.readable.ensures) in
+    (stays c.before.before.before.before.before (Fragments 0 0) ∙ ap (said c.before.before.before.before.before (ending c.before.before.before.before.before)) x, ap (wrote c.before.before.before.before.before (ending c.before.before.before.before.before)) x)
 
-returns-4 : tie.Need-returns-4
+returns-4 : tie.Need-returns-in-Walked
 returns-4 c =
-    let f = c.before.before.before.before.before in
-    let s = c.before.before.before.before.before.before.before.before.before.before.before.before.before.before.before in
+    let f = c in
+    let s = c in
     let a = s.args in
-    let e = f.before.before.end-offset.result in
-    let w = c.before.before.frames.given.0.0 in
-    let u = frames-walked a.v a.log.now a.entries.now e a.limit a.actions.now f.before.before.before.long.result _ (p-is f.before.before.before) f.frames-at.result _ f.frames-at.ensures.0 f.frames-at.ensures.1 w c.before.before.frames.given.1 in
-    let x = poll-by a.v a.log.now (state_of a.image) a.good e a.limit false u.0 (told f.before.before.before) in
+    let e = f.end_offset-end.result in
+    let w = c.in-Walked.walked in
+    let u = frames-walked a.v a.log.now a.entries.now e a.limit a.actions.now f.long-p.result _ (p-is c.before.before.before.before.before.before) f.frames_at-frames.result _ f.frames_at-frames.ensures.0 f.frames_at-frames.ensures.1 w c.in-Walked.is in
+    let x = poll-by a.v a.log.now (state_of a.image) a.good e a.limit false u.0 (told c.before.before.before.before.before.before) in
     let made : ℤ → PolledTo = λ (z : ℤ). record { position = z; answer = Fragments w.fragments w.entries } in
     let to : ℕ → Walk → PolledTo = λ (q : ℕ) (y : Walk). record { position = pos (q + y.moved); answer = Fragments y.fragments y.entries } in (
-      ap made (to_z_pos w64 (omega (arith, moved f w c.before.before.frames.given.1))) ∙ ap₂ to (p-is f.before.before.before) (sym u.1.0) ∙ ap (said s e) x ∙ ap (λ (n : ℕ). said s n (judged s n)) (end_is f.before.before),
-      u.1.1 ∙ ap (wrote s e) x ∙ ap (λ (n : ℕ). wrote s n (judged s n)) (end_is f.before.before),
+      ap made (to_z_pos w64 (omega (arith, moved c.before.before.before w c.in-Walked.is))) ∙ ap₂ to (p-is c.before.before.before.before.before.before) (sym u.1.0) ∙ ap (said c.before.before.before.before.before.before.before.before.before.before.before.before e) x ∙ ap (λ (n : ℕ). said c.before.before.before.before.before.before.before.before.before.before.before.before n (judged c.before.before.before.before.before.before.before.before.before.before.before.before n)) (end_is c.before.before.before.before.before),
+      u.1.1 ∙ ap (wrote c.before.before.before.before.before.before.before.before.before.before.before.before e) x ∙ ap (λ (n : ℕ). wrote c.before.before.before.before.before.before.before.before.before.before.before.before n (judged c.before.before.before.before.before.before.before.before.before.before.before.before n)) (end_is c.before.before.before.before.before),
     )
 
-pub poll-frames-spec : {M : Type 1} → statement M
-poll-frames-spec =
+pub poll_frames_spec : {M : Type 1} → statement M
+poll_frames_spec =
     tie.close
     (tie.spec
     (search rules)

@@ -32,22 +32,22 @@ use Rattle.image.proofs.frames.poll_term.Statement.{statement}
 use Rattle.image.proofs.frames.poll_term.Tie as tie
 
 -- the ladder passed
-abbrev st : tie.After-long → tie.Start
-st c = c.before.before.before.before.before.before
+abbrev st : tie.After-long-p → tie.Start
+st c = c.before.before.before.before.before
 
-told : (c : tie.After-long) → Read ≡ readable (st c).args.good (st c).args.v (length (st c).args.log.now) (state_of (st c).args.image) Read
-told c = sym c.before.before.enum-told2.given.1 ∙ c.before.before.before.before.readable.ensures
+told : (c : tie.After-long-p) → Read ≡ readable (st c).args.good (st c).args.v (length (st c).args.log.now) (state_of (st c).args.image) Read
+told c = sym c.in-Read.is ∙ c.readable.ensures
 
-passed : (c : tie.After-long) → Readable (st c).args.good (st c).args.v (length (st c).args.log.now) (long (st c).args.image.position)
+passed : (c : tie.After-long-p) → Readable (st c).args.good (st c).args.v (length (st c).args.log.now) (long (st c).args.image.position)
 passed c = readable-read _ _ _ (state_of (st c).args.image) (told c)
 
-p-is : (c : tie.After-long) → c.long.result ≡ long (st c).args.image.position
+p-is : (c : tie.After-long-p) → c.long-p.result ≡ long (st c).args.image.position
 p-is c =
     let z = (st c).args.image.position in
     let f : SFits w64 z = search rules in
-    long-by z c.long.ensures.0 f
+    long-by z c.long-p.ensures.0 f
 
-p-high : (c : tie.After-long) → c.long.result ≤ 2305843009213693952
+p-high : (c : tie.After-long-p) → c.long-p.result ≤ 2305843009213693952
 p-high c = let k = passed c in omega (arith, p-is c, k.high, (sound-true _ _ k.sound).term-high)
 
 -- what the definitions say, by the verdict
@@ -65,84 +65,84 @@ stays s x =
     let f : SFits w64 s.args.image.position = search rules in
     ap {B = PolledTo} (λ (z : ℤ). record { position = z; answer = x }) (to_z-of_z f)
 
-frames-on-requires : tie.Need-frames-on-requires
+frames-on-requires : tie.Need-frames_on-read-requires
 frames-on-requires c κs =
-    let q = c.before in
-    let k = passed q in
-    let a = (st q).args in
-    let e : a.k ≡ partition_of q.long.result a.v.term = (st q).requires.1 ∙ shift_in a.v _ _ k.sound ∙ ap (λ (x : ℕ). partition_of x a.v.term) (sym (p-is q)) in
-    (k.sound, (ap (λ (x : ℕ). x % 32) (p-is q) ∙ k.p-32, ((st q).requires.0 k.good, e)))
+    let q = c in
+    let k = passed c.before in
+    let a = (st c.before).args in
+    let e : a.k ≡ partition_of q.long-p.result a.v.term = (st c.before).requires.1 ∙ shift_in a.v _ _ k.sound ∙ ap (λ (x : ℕ). partition_of x a.v.term) (sym (p-is c.before)) in
+    (k.sound, (ap (λ (x : ℕ). x % 32) (p-is c.before) ∙ k.p-32, ((st c.before).requires.0 k.good, e)))
 
-returns : tie.Need-returns
+returns : tie.Need-returns-in_default
 returns c =
-    let f = c.before.before.before.before.before in
-    let q = f.before.before in
-    let s = st q in
+    let f = c in
+    let q = c in
+    let s = st c.before.before.before.before.before.before in
     let a = s.args in
-    let d = c.before in
-    let e = d.before.enum-told3.given in
-    let u = on-unsound a.v a.log.now a.entries.now a.limit q.long.result _ (p-is q) f.frames-on.result _ f.frames-on.ensures.0 f.frames-on.ensures.1 _ e.1 in
-    let x = poll-by a.v a.log.now (state_of a.image) a.good a.v.term a.limit true u.0 (told q) in (
-      stays s (Refused d.read-refusal.result) ∙ ap {B = PolledTo} (λ (y : Error). record { position = a.image.position; answer = Refused y }) (d.read-refusal.ensures ∙ ap read_refusal e.1 ∙ u.1.1) ∙ ap (said s) x,
+    let d = c in
+    let e = d.enum_told-in_default-1.given in
+    let u = on-unsound a.v a.log.now a.entries.now a.limit q.long-p.result _ (p-is c.before.before.before.before.before.before) f.frames_on-read.result _ f.frames_on-read.ensures.0 f.frames_on-read.ensures.1 _ e.1 in
+    let x = poll-by a.v a.log.now (state_of a.image) a.good a.v.term a.limit true u.0 (told c.before.before.before.before.before.before) in (
+      stays s (Refused d.read_refusal.result) ∙ ap {B = PolledTo} (λ (y : Error). record { position = a.image.position; answer = Refused y }) (d.read_refusal.ensures ∙ ap read_refusal e.1 ∙ u.1.1) ∙ ap (said s) x,
       u.1.0 ∙ ap (wrote s) x,
     )
 
 -- the read came to an end in the term
-came : (c : tie.After-offset-of) → let f = c.before.before.before.before.before in let q = f.before.before in let a = (st q).args in
-    Read-to a.v a.log.now a.entries.now a.limit q.long.result (long a.image.position) (p-is q) f.frames-on.result _ f.frames-on.ensures.0 f.frames-on.ensures.1 c.before.before.read.given.0.0 c.before.before.read.given.0.1.0
+came : (c : tie.After-offset_of) → let f = c in let q = c in let a = (st c.before.before.before.before.before).args in
+    Read-to a.v a.log.now a.entries.now a.limit q.long-p.result (long a.image.position) (p-is c.before.before.before.before.before) f.frames_on-read.result _ f.frames_on-read.ensures.0 f.frames_on-read.ensures.1 c.in-Outcome.end c.in-Outcome.fragments
 came c =
-    let f = c.before.before.before.before.before in
-    let q = f.before.before in
-    let a = (st q).args in
-    on-walked a.v a.log.now a.entries.now a.limit q.long.result _ (p-is q) f.frames-on.result _ f.frames-on.ensures.0 f.frames-on.ensures.1 _ _ c.before.before.read.given.1
+    let f = c in
+    let q = c in
+    let a = (st c.before.before.before.before.before).args in
+    on-walked a.v a.log.now a.entries.now a.limit q.long-p.result _ (p-is c.before.before.before.before.before) f.frames_on-read.result _ f.frames_on-read.ensures.0 f.frames_on-read.ensures.1 _ _ c.in-Outcome.is
 
-abbrev q· : tie.After-offset-of → tie.After-long
-q· c = c.before.before.before.before.before.before.before
+abbrev q· : tie.After-offset_of → tie.After-long-p
+q· c = c.before.before.before.before.before
 
-low : (c : tie.After-offset-of) → c.offset-of.result ≤ (q· c).long.result
-low c = omega (arith, c.offset-of.ensures, mod-le (q· c).long.result (st (q· c)).args.v.term)
+low : (c : tie.After-offset_of) → c.offset_of.result ≤ (q· c).long-p.result
+low c = omega (arith, c.offset_of.ensures, mod-le (q· c).long-p.result (st (q· c)).args.v.term)
 
-ends : (c : tie.After-offset-of) → (q· c).long.result - c.offset-of.result + c.before.before.read.given.0.0 ≡ long (st (q· c)).args.image.position + (walk_at (st (q· c)).args.v (st (q· c)).args.log.now (long (st (q· c)).args.image.position) (st (q· c)).args.v.term (st (q· c)).args.limit []).moved
-ends c = omega (arith, low c, c.offset-of.ensures, (came c).ended, p-is (q· c))
+ends : (c : tie.After-offset_of) → (q· c).long-p.result - c.offset_of.result + c.in-Outcome.end ≡ long (st (q· c)).args.image.position + (walk_at (st (q· c)).args.v (st (q· c)).args.log.now (long (st (q· c)).args.image.position) (st (q· c)).args.v.term (st (q· c)).args.limit []).moved
+ends c = omega (arith, low c, c.offset_of.ensures, (came c).ended, p-is (q· c))
 
-high : (c : tie.After-offset-of) → (q· c).long.result - c.offset-of.result + c.before.before.read.given.0.0 ≤ 4611686018427387904
-high c = omega (arith, low c, c.offset-of.ensures, (came c).in-term, p-high (q· c), (sound-true _ _ (passed (q· c)).sound).term-high)
+high : (c : tie.After-offset_of) → (q· c).long-p.result - c.offset_of.result + c.in-Outcome.end ≤ 4611686018427387904
+high c = omega (arith, low c, c.offset_of.ensures, (came c).in-term, p-high (q· c), (sound-true _ _ (passed (q· c)).sound).term-high)
 
-offset-of-requires : tie.Need-offset-of-requires
-offset-of-requires c κs = term-length _ _ (passed c.before.before.before.before.before.before).sound
+offset-of-requires : tie.Need-offset_of-requires
+offset-of-requires c κs = term-length _ _ (passed c.before.before.before.before).sound
 
-cast-t25 : tie.Need-overflow-cast-t25
+cast-t25 : tie.Need-overflow_cast-result
 cast-t25 c = record { sfits = omega (arith, high c) }
 
-returns-2 : tie.Need-returns-2
+returns-2 : tie.Need-returns-in-Refuse
 returns-2 c =
-    let s = c.before.before.before.before.before.before in
+    let s = c in
     let a = s.args in
-    let x = poll-after a.v a.log.now (state_of a.image) a.good a.v.term a.limit _ (sym c.before.before.e.given.1 ∙ c.before.before.before.before.readable.ensures) in
-    (stays s _ ∙ ap (said s) x, ap (wrote s) x)
+    let x = poll-after a.v a.log.now (state_of a.image) a.good a.v.term a.limit _ (sym c.in-Refuse.is ∙ c.readable.ensures) in
+    (stays c.before.before.before.before _ ∙ ap (said c.before.before.before.before) x, ap (wrote c.before.before.before.before) x)
 
-returns-3 : tie.Need-returns-3
+returns-3 : tie.Need-returns-in-Closed
 returns-3 c =
-    let s = c.before.before.before.before.before in
+    let s = c in
     let a = s.args in
-    let x = poll-after a.v a.log.now (state_of a.image) a.good a.v.term a.limit _ (sym c.before.enum_told.given.1 ∙ c.before.before.before.readable.ensures) in
-    (stays s (Fragments 0 0) ∙ ap (said s) x, ap (wrote s) x)
+    let x = poll-after a.v a.log.now (state_of a.image) a.good a.v.term a.limit _ (sym c.in-Closed.is ∙ c.readable.ensures) in
+    (stays c.before.before.before.before (Fragments 0 0) ∙ ap (said c.before.before.before.before) x, ap (wrote c.before.before.before.before) x)
 
-returns-4 : tie.Need-returns-4
+returns-4 : tie.Need-returns-in-Outcome
 returns-4 c =
     let s = st (q· c) in
     let a = s.args in
     let k = came c in
     let x = poll-by a.v a.log.now (state_of a.image) a.good a.v.term a.limit false k.sound-so (told (q· c)) in
-    let m = c.before.before.read.given.0.1.0 in
+    let m = c.in-Outcome.fragments in
     let made : ℤ → PolledTo = λ (z : ℤ). record { position = z; answer = Fragments m m } in
     let to : ℕ → ℕ → PolledTo = λ (f e : ℕ). record { position = pos (long a.image.position + (walk_at a.v a.log.now (long a.image.position) a.v.term a.limit []).moved); answer = Fragments f e } in (
       ap made (to_z_pos w64 (omega (arith, high c)) ∙ ap pos (ends c)) ∙ ap₂ to (sym k.fragments) (sym k.entries) ∙ ap (said s) x,
       k.written ∙ ap (wrote s) x,
     )
 
-pub poll-term-spec : {M : Type 1} → statement M
-poll-term-spec =
+pub poll_term_spec : {M : Type 1} → statement M
+poll_term_spec =
     tie.close
     (tie.spec
     (search rules)

@@ -5,11 +5,11 @@ use borrow.Author.Rules.{rules}
 use Rattle.image.proofs.ladder.good_control.Statement.{statement}
 use Rattle.image.proofs.ladder.good_control.Tie as tie
 
-returns : tie.Need-returns
-returns c = rw (sym c.before.good-entries.ensures ∙ not-true _ c.if1.true)
+returns : tie.Need-returns-then-not-good_entries
+returns c = rw (sym c.good_entries.ensures ∙ not-true _ c.if-not-good_entries.true-raw)
 
-returns-2 : tie.Need-returns-2
-returns-2 c = rw (sym c.before.before.good-entries.ensures ∙ not-false _ c.before.if1.false) c.good-control.ensures
+returns-2 : tie.Need-returns
+returns-2 c = rw (sym c.good_entries.ensures ∙ not-false _ c.if-not-good_entries.false-raw) c.good_control.ensures
 
-pub good-control-spec : {M : Type 1} → statement M
-good-control-spec = tie.close (tie.spec (search rules) returns (search rules) returns-2)
+pub good_control_spec : {M : Type 1} → statement M
+good_control_spec = tie.close (tie.spec (search rules) returns (search rules) returns-2)

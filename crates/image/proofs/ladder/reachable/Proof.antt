@@ -7,29 +7,29 @@ use borrow.Author.Rules.{rules}
 use Rattle.image.proofs.ladder.reachable.Statement.{statement}
 use Rattle.image.proofs.ladder.reachable.Tie as tie
 
-returns : tie.Need-returns
-returns c = before-current c.before.args.v c.before.args.current c.before.args.new Read c.if1.true
+returns : tie.Need-returns-then-new-current
+returns c = before-current c.args.v c.args.current c.args.new Read c.if-new-current.true
 
-offset-of-requires : tie.Need-offset-of-requires
-offset-of-requires c κs = c.before.requires.0
+offset-of-requires : tie.Need-offset_of-requires
+offset-of-requires c κs = c.requires.0
 
-sub-if2 : tie.Need-overflow-sub-if2
-sub-if2 c = let a = c.before.before.args in omega (arith, c.offset-of.ensures, mod-le a.current a.v.term)
+sub-if2 : tie.Need-overflow_sub-current
+sub-if2 c = let a = c.args in omega (arith, c.offset_of.ensures, mod-le a.current a.v.term)
 
-add-if2 : tie.Need-overflow-add-if2
-add-if2 c = let s = c.before.before in omega (arith, s.requires.1, s.requires.0.high)
+add-if2 : tie.Need-overflow_add-current
+add-if2 c = let s = c in omega (arith, s.requires.1, s.requires.0.high)
 
-returns-2 : tie.Need-returns-2
-returns-2 c = let a = c.before.before.before.args in past-term a.v a.current a.new Read c.before.before.if1.false (omega (arith, c.before.offset-of.ensures, c.if2.true))
+returns-2 : tie.Need-returns-then-new-current-2
+returns-2 c = let a = c.args in past-term a.v a.current a.new Read c.if-new-current.false (omega (arith, c.offset_of.ensures, c.if-new-current-2.true))
 
-returns-3 : tie.Need-returns-3
-returns-3 c = let a = c.before.before.before.before.args in no-boundary a.v a.current a.new Read c.before.before.before.if1.false (omega (arith, c.before.before.offset-of.ensures, c.before.if2.false)) c.if3.true
+returns-3 : tie.Need-returns-then-new-ne0
+returns-3 c = let a = c.args in no-boundary a.v a.current a.new Read c.if-new-current.false (omega (arith, c.offset_of.ensures, c.if-new-current-2.false)) c.if-new-ne0.true
 
-returns-4 : tie.Need-returns-4
-returns-4 c = let a = c.before.before.before.before.args in reaches a.v a.current a.new Read c.before.before.before.if1.false (omega (arith, c.before.before.offset-of.ensures, c.before.if2.false)) c.if3.false
+returns-4 : tie.Need-returns
+returns-4 c = let a = c.args in reaches a.v a.current a.new Read c.if-new-current.false (omega (arith, c.offset_of.ensures, c.if-new-current-2.false)) c.if-new-ne0.false
 
-pub reachable-spec : {M : Type 1} → statement M
-reachable-spec =
+pub reachable_spec : {M : Type 1} → statement M
+reachable_spec =
     tie.close
     (tie.spec
     returns

@@ -15,47 +15,47 @@ use Rattle.image.proofs.ladder.readable.Statement.{statement}
 use Rattle.image.proofs.ladder.readable.Tie as tie
 
 -- the position's bits
-p-is : (c : tie.After-long) → c.long.result ≡ long c.before.before.before.before.before.before.args.image.position
+p-is : (c : tie.After-long-p) → c.long-p.result ≡ long c.args.image.position
 p-is c =
-    let z = c.before.before.before.before.before.before.args.image.position in
+    let z = c.args.image.position in
     let f : SFits w64 z = search rules in
-    long-by z c.long.ensures.0 f
+    long-by z c.long-p.ensures.0 f
 
-returns : tie.Need-returns
+returns : tie.Need-returns-then-not-good
 returns c =
-    let a = c.before.args in
-    not_good a.good a.v a.n (state_of a.image) (not-true _ c.if1.true) Read
+    let a = c.args in
+    not_good a.good a.v a.n (state_of a.image) (not-true _ c.if-not-good.true-raw) Read
 
-returns-2 : tie.Need-returns-2
+returns-2 : tie.Need-returns-then-not-is_sound
 returns-2 c =
-    let a = c.before.before.before.args in
-    not_sound a.good a.v a.n (state_of a.image) (not-false _ c.before.before.if1.false) (sym c.before.is-sound.ensures ∙ not-true _ c.if2.true) Read
+    let a = c.args in
+    not_sound a.good a.v a.n (state_of a.image) (not-false _ c.if-not-good.false-raw) (sym c.is_sound.ensures ∙ not-true _ c.if-not-is_sound.true-raw) Read
 
-returns-3 : tie.Need-returns-3
+returns-3 : tie.Need-returns-then-image
 returns-3 c =
-    let a = c.before.before.before.before.args in
-    is-closed a.good a.v a.n (state_of a.image) (not-false _ c.before.before.before.if1.false) (sym c.before.before.is-sound.ensures ∙ not-false _ c.before.if2.false) c.if3.true Read
+    let a = c.args in
+    is-closed a.good a.v a.n (state_of a.image) (not-false _ c.if-not-good.false-raw) (sym c.is_sound.ensures ∙ not-false _ c.if-not-is_sound.false-raw) c.if-image.true Read
 
-mul-if4 : tie.Need-overflow-mul-if4
-mul-if4 c = omega (arith, sound-true _ _ (sym c.before.before.before.before.before.is-sound.ensures ∙ not-false _ c.before.before.before.before.if2.false))
+mul-if4 : tie.Need-overflow_mul-v
+mul-if4 c = omega (arith, sound-true _ _ (sym c.is_sound.ensures ∙ not-false _ c.if-not-is_sound.false-raw))
 
-returns-4 : tie.Need-returns-4
+returns-4 : tie.Need-returns-then-p-v
 returns-4 c =
-    let a = c.before.before.before.before.before.before.before.before.args in
-    position-by a.good a.v a.n (state_of a.image) _ (too-high a.v _ _ (p-is c.before.before) c.if4.true) (not-false _ c.before.before.before.before.before.before.before.if1.false) (sym c.before.before.before.before.before.before.is-sound.ensures ∙ not-false _ c.before.before.before.before.before.if2.false) c.before.before.before.before.if3.false Read
+    let a = c.args in
+    position-by a.good a.v a.n (state_of a.image) _ (too-high a.v _ _ (p-is c.before.before) c.if-p-v.true) (not-false _ c.if-not-good.false-raw) (sym c.is_sound.ensures ∙ not-false _ c.if-not-is_sound.false-raw) c.if-image.false Read
 
-returns-5 : tie.Need-returns-5
+returns-5 : tie.Need-returns-then-p-ne0
 returns-5 c =
-    let a = c.before.before.before.before.before.before.before.before.before.args in
-    position-by a.good a.v a.n (state_of a.image) _ (not_aligned a.v _ _ (p-is c.before.before.before) c.before.if4.false c.if5.true) (not-false _ c.before.before.before.before.before.before.before.before.if1.false) (sym c.before.before.before.before.before.before.before.is-sound.ensures ∙ not-false _ c.before.before.before.before.before.before.if2.false) c.before.before.before.before.before.if3.false Read
+    let a = c.args in
+    position-by a.good a.v a.n (state_of a.image) _ (not_aligned a.v _ _ (p-is c.before.before.before) c.if-p-v.false c.if-p-ne0.true) (not-false _ c.if-not-good.false-raw) (sym c.is_sound.ensures ∙ not-false _ c.if-not-is_sound.false-raw) c.if-image.false Read
 
-returns-6 : tie.Need-returns-6
+returns-6 : tie.Need-returns
 returns-6 c =
-    let a = c.before.before.before.before.before.before.before.before.before.args in
-    position-by a.good a.v a.n (state_of a.image) _ (in-range a.v _ _ (p-is c.before.before.before) c.before.if4.false c.if5.false) (not-false _ c.before.before.before.before.before.before.before.before.if1.false) (sym c.before.before.before.before.before.before.before.is-sound.ensures ∙ not-false _ c.before.before.before.before.before.before.if2.false) c.before.before.before.before.before.if3.false Read
+    let a = c.args in
+    position-by a.good a.v a.n (state_of a.image) _ (in-range a.v _ _ (p-is c.before.before.before) c.if-p-v.false c.if-p-ne0.false) (not-false _ c.if-not-good.false-raw) (sym c.is_sound.ensures ∙ not-false _ c.if-not-is_sound.false-raw) c.if-image.false Read
 
-pub readable-spec : {M : Type 1} → statement M
-readable-spec =
+pub readable_spec : {M : Type 1} → statement M
+readable_spec =
     tie.close
     (tie.spec
     returns

@@ -6,11 +6,11 @@ use borrow.Author.Rules.{rules}
 use Rattle.image.proofs.limits.natural_position.Statement.{statement}
 use Rattle.image.proofs.limits.natural_position.Tie as tie
 
-returns : tie.Need-returns
-returns c = let s = c.before.before in below-zero s.args.limit s.ranges.limit c.if1.true
+returns : tie.Need-returns-then-limit-lt0
+returns c = let s = c in below-zero s.args.limit s.ranges.limit c.if-limit-lt0.true
 
-returns-2 : tie.Need-returns-2
-returns-2 c = let s = c.before.before in long-by s.args.limit c.before.long.ensures.0 s.ranges.limit ∙ not-below s.args.limit s.ranges.limit c.if1.false
+returns-2 : tie.Need-returns-else-limit-lt0
+returns-2 c = let s = c in long-by s.args.limit c.long-bits.ensures.0 s.ranges.limit ∙ not-below s.args.limit s.ranges.limit c.if-limit-lt0.false
 
-pub natural-position-spec : {M : Type 1} → statement M
-natural-position-spec = tie.close (tie.spec (search rules) returns returns-2)
+pub natural_position_spec : {M : Type 1} → statement M
+natural_position_spec = tie.close (tie.spec (search rules) returns returns-2)

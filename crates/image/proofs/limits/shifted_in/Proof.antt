@@ -8,15 +8,15 @@ use Rattle.image.specs.Images.{shifted_in}
 use Rattle.image.proofs.limits.shifted_in.Statement.{statement}
 use Rattle.image.proofs.limits.shifted_in.Tie as tie
 
-returns : tie.Need-returns
-returns c = let a = c.before.args in (sym (le-no a.term 4294967295 _ 0 c.if1.true), omega arith)
+returns : tie.Need-returns-then-term-gt4294967295
+returns c = let a = c.args in (sym (le-no a.term 4294967295 _ 0 c.if-term-gt4294967295.true), omega arith)
 
-returns-2 : tie.Need-returns-2
+returns-2 : tie.Need-returns
 returns-2 c =
-    let a = c.before.before.before.args in
-    let e : c.index-by-position.result ≡ shifted_in a.term a.p =
-    c.index-by-position.ensures ∙ ap (index_by_position a.p) c.before.position-bits-to-shift.ensures ∙ sym (le_yes a.term 4294967295 _ 0 c.before.before.if1.false) in
-    (e, omega (arith, c.index-by-position.ensures))
+    let a = c.args in
+    let e : c.index_by_position.result ≡ shifted_in a.term a.p =
+    c.index_by_position.ensures ∙ ap (index_by_position a.p) c.position_bits_to_shift-bits.ensures ∙ sym (le_yes a.term 4294967295 _ 0 c.if-term-gt4294967295.false) in
+    (e, omega (arith, c.index_by_position.ensures))
 
-pub shifted-in-spec : {M : Type 1} → statement M
-shifted-in-spec = tie.close (tie.spec returns (search rules) (search rules) (search rules) returns-2)
+pub shifted_in_spec : {M : Type 1} → statement M
+shifted_in_spec = tie.close (tie.spec returns (search rules) (search rules) (search rules) returns-2)

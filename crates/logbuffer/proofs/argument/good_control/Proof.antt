@@ -4,14 +4,14 @@ use borrow.Author.Tests.{not-true, not-false, lt-leb}
 use Rattle.logbuffer.proofs.argument.good_control.Statement.{statement}
 use Rattle.logbuffer.proofs.argument.good_control.Tie as tie
 
-returns : tie.Need-returns
-returns c = rw (sym c.before.good-actions.ensures ∙ not-true _ c.if1.true)
+returns : tie.Need-returns-then-not-good_actions
+returns c = rw (sym c.good_actions.ensures ∙ not-true _ c.if-not-good_actions.true-raw)
 
-returns-2 : tie.Need-returns-2
-returns-2 c = rw (sym c.before.before.good-actions.ensures ∙ not-false _ c.before.if1.false, lt-leb (length c.before.before.before.before.args.actions.now) 2147483647 c.if2.true)
+returns-2 : tie.Need-returns-then-actions-gt2147483647
+returns-2 c = rw (sym c.good_actions.ensures ∙ not-false _ c.if-not-good_actions.false-raw, lt-leb (length c.args.actions.now) 2147483647 c.if-actions-gt2147483647.true)
 
-returns-3 : tie.Need-returns-3
-returns-3 c = rw (sym c.before.before.good-actions.ensures ∙ not-false _ c.before.if1.false, le-leb (length c.before.before.before.before.args.actions.now) 2147483647 c.if2.false)
+returns-3 : tie.Need-returns
+returns-3 c = rw (sym c.good_actions.ensures ∙ not-false _ c.if-not-good_actions.false-raw, le-leb (length c.args.actions.now) 2147483647 c.if-actions-gt2147483647.false)
 
-pub good-control-spec : {M : Type 1} → statement M
-good-control-spec = tie.close (tie.spec (search rules) returns returns-2 returns-3)
+pub good_control_spec : {M : Type 1} → statement M
+good_control_spec = tie.close (tie.spec (search rules) returns returns-2 returns-3)

@@ -4,17 +4,17 @@ use borrow.Author.Tests.{lt-leb}
 use Rattle.logbuffer.proofs.argument.good_place.Statement.{statement}
 use Rattle.logbuffer.proofs.argument.good_place.Tie as tie
 
-returns : tie.Need-returns
-returns c = let a = c.before.before.args in rw (lt-leb a.p.partition 2 c.if1.true)
+returns : tie.Need-returns-then-p-gt2
+returns c = let a = c.args in rw (lt-leb a.p.partition 2 c.if-p-gt2.true)
 
-returns-2 : tie.Need-returns-2
-returns-2 c = let a = c.before.before.before.before.args in rw (le-leb a.p.partition 2 c.before.before.if1.false, ne_eqb (a.p.offset % 32) 0 c.if2.true)
+returns-2 : tie.Need-returns-then-p-ne0
+returns-2 c = let a = c.args in rw (le-leb a.p.partition 2 c.if-p-gt2.false, ne_eqb (a.p.offset % 32) 0 c.if-p-ne0.true)
 
-returns-3 : tie.Need-returns-3
+returns-3 : tie.Need-returns
 returns-3 c =
-    let a = c.before.before.before.before.before.before.args in
-    rw (le-leb a.p.partition 2 c.before.before.before.before.if1.false, eq-eqb (a.p.offset % 32) 0 c.before.before.if2.false) c.within-term.ensures
+    let a = c.args in
+    rw (le-leb a.p.partition 2 c.if-p-gt2.false, eq-eqb (a.p.offset % 32) 0 c.if-p-ne0.false) c.within_term.ensures
 
-pub good-place-spec : {M : Type 1} → statement M
-good-place-spec =
+pub good_place_spec : {M : Type 1} → statement M
+good_place_spec =
     tie.close (tie.spec returns returns-2 (search rules) (search rules) returns-3)

@@ -5,14 +5,14 @@ use Rattle.logbuffer.proofs.Signed.{word-by}
 use Rattle.logbuffer.proofs.argument.natural.Statement.{statement}
 use Rattle.logbuffer.proofs.argument.natural.Tie as tie
 
-returns : tie.Need-returns
-returns c = let s = c.before.before in (natural-none s.args.limit s.ranges.limit c.if1.true, omega arith)
+returns : tie.Need-returns-then-limit-lt0
+returns c = let s = c in (natural-none s.args.limit s.ranges.limit c.if-limit-lt0.true, omega arith)
 
-returns-2 : tie.Need-returns-2
+returns-2 : tie.Need-returns-else-limit-lt0
 returns-2 c =
-    let s = c.before.before in
-    let e = word-by s.args.limit c.before.word.ensures.0 s.ranges.limit in
-    (e ∙ natural-bits s.args.limit s.ranges.limit c.if1.false, omega (arith, e, not_negative s.args.limit s.ranges.limit c.if1.false))
+    let s = c in
+    let e = word-by s.args.limit c.word-bits.ensures.0 s.ranges.limit in
+    (e ∙ natural-bits s.args.limit s.ranges.limit c.if-limit-lt0.false, omega (arith, e, not_negative s.args.limit s.ranges.limit c.if-limit-lt0.false))
 
-pub natural-spec : {M : Type 1} → statement M
-natural-spec = tie.close (tie.spec (search rules) returns returns-2)
+pub natural_spec : {M : Type 1} → statement M
+natural_spec = tie.close (tie.spec (search rules) returns returns-2)

@@ -18,28 +18,28 @@ length-fits : (c : tie.Start) → SFits w32 c.args.claim.length
 length-fits c = search rules
 
 -- the test on the numbers that were read
-law : (c : tie.After-word3) → good_numbers c.before.before.before.before.before.before.args.v c.word3.result c.before.before.before.before.word.result c.before.before.word2.result ≡ good_claim c.before.before.before.before.before.before.args.v c.before.before.before.before.before.before.args.claim
+law : (c : tie.After-word) → good_numbers c.args.v c.word.result c.word-offset.result c.word-length.result ≡ good_claim c.args.v c.args.claim
 law c =
-    good-by c.before.before.before.before.before.before.args.v c.before.before.before.before.before.before.args.claim c.word3.result c.before.before.before.before.word.result c.before.before.word2.result
-    (word-by _ c.word3.ensures.0 (partition-fits c.before.before.before.before.before.before)) (word-by _ c.before.before.before.before.word.ensures.0 (offset-fits c.before.before.before.before.before.before)) (word-by _ c.before.before.word2.ensures.0 (length-fits c.before.before.before.before.before.before))
+    good-by c.args.v c.args.claim c.word.result c.word-offset.result c.word-length.result
+    (word-by _ c.word.ensures.0 (partition-fits c.before.before.before.before.before.before)) (word-by _ c.word-offset.ensures.0 (offset-fits c.before.before.before.before.before.before)) (word-by _ c.word-length.ensures.0 (length-fits c.before.before.before.before.before.before))
 
-returns : tie.Need-returns
-returns c = simp (lt-leb _ _ c.if1.true) at (law c.before)
+returns : tie.Need-returns-then-word-gt2
+returns c = simp (lt-leb _ _ c.if-word-gt2.true) at (law c.before)
 
-returns-2 : tie.Need-returns-2
-returns-2 c = simp (le-leb _ _ c.before.if1.false, ne_eqb _ _ c.if2.true) at (law c.before.before)
+returns-2 : tie.Need-returns-then-offset-ne0
+returns-2 c = simp (le-leb _ _ c.if-word-gt2.false, ne_eqb _ _ c.if-offset-ne0.true) at (law c.before.before)
 
-returns-3 : tie.Need-returns-3
-returns-3 c = simp (le-leb _ _ c.before.before.if1.false, eq-eqb _ _ c.before.if2.false, lt-leb _ _ c.if3.true) at (law c.before.before.before)
+returns-3 : tie.Need-returns-then-length-lt-HEADER_LENGTH
+returns-3 c = simp (le-leb _ _ c.if-word-gt2.false, eq-eqb _ _ c.if-offset-ne0.false, lt-leb _ _ c.if-length-lt-HEADER_LENGTH.true) at (law c.before.before.before)
 
-returns-4 : tie.Need-returns-4
-returns-4 c = simp (le-leb _ _ c.before.before.before.before.if1.false, eq-eqb _ _ c.before.before.before.if2.false, le-leb _ _ c.before.before.if3.false, lt-leb _ _ c.if4.true) at (law c.before.before.before.before.before)
+returns-4 : tie.Need-returns-then-offset-length
+returns-4 c = simp (le-leb _ _ c.if-word-gt2.false, eq-eqb _ _ c.if-offset-ne0.false, le-leb _ _ c.if-length-lt-HEADER_LENGTH.false, lt-leb _ _ c.if-offset-length.true) at (law c.before.before.before.before.before)
 
-returns-5 : tie.Need-returns-5
-returns-5 c = simp (le-leb _ _ c.before.before.before.before.before.if1.false, eq-eqb _ _ c.before.before.before.before.if2.false, le-leb _ _ c.before.before.before.if3.false, le-leb _ _ c.before.if4.false) at (law c.before.before.before.before.before.before)
+returns-5 : tie.Need-returns
+returns-5 c = simp (le-leb _ _ c.if-word-gt2.false, eq-eqb _ _ c.if-offset-ne0.false, le-leb _ _ c.if-length-lt-HEADER_LENGTH.false, le-leb _ _ c.if-offset-length.false) at (law c.before.before.before.before.before.before)
 
-pub good-claim-spec : {M : Type 1} → statement M
-good-claim-spec =
+pub good_claim_spec : {M : Type 1} → statement M
+good_claim_spec =
     tie.close
     (tie.spec
     (search rules)

@@ -16,25 +16,25 @@ offset-fits s = search rules
 returns : tie.Need-returns
 unfolding reading_with
 returns c =
-    let s = c.before.before.before.before.before.before.before.before.before.before in
+    let s = c in
     let r = s.args.rec in
-    let a = c.before.before.before.before.before.before.before.before in
-    let b = c.before.before.before.before.before.before in
-    let d = c.before.before.before.before in
-    let w = c.before.before in
-    let e0 = long-by a.before.tail.result a.long.ensures.0 (let h = a.before.tail.type-inv in search (rules, h)) ∙ ap long a.before.tail.ensures in
-    let e1 = long-by b.before.tail2.result b.long2.ensures.0 (let h = b.before.tail2.type-inv in search (rules, h)) ∙ ap long b.before.tail2.ensures in
-    let e2 = long-by d.before.tail3.result d.long3.ensures.0 (let h = d.before.tail3.type-inv in search (rules, h)) ∙ ap long d.before.tail3.ensures in
-    let e3 = word-by s.args.claim.offset w.word.ensures.0 (offset-fits s) in
-    let l = bit_or (bit_or (bit_or a.long.result b.long2.result) d.long3.result) w.word.result in
-    let small : l < 18446744073709551616 = or_lt 64 _ _ (or_lt 64 _ _ (or_lt 64 _ _ a.long.ensures.1 b.long2.ensures.1) d.long3.ensures.1) (omega (arith, w.word.ensures.1)) in
+    let a = c in
+    let b = c in
+    let d = c in
+    let w = c in
+    let e0 = long-by a.tail.result a.long-first.ensures.0 (let h = a.tail.type_inv in search (rules, h)) ∙ ap long a.tail.ensures in
+    let e1 = long-by b.tail-2.result b.long-second.ensures.0 (let h = b.tail-2.type_inv in search (rules, h)) ∙ ap long b.tail-2.ensures in
+    let e2 = long-by d.tail-3.result d.long-third.ensures.0 (let h = d.tail-3.type_inv in search (rules, h)) ∙ ap long d.tail-3.ensures in
+    let e3 = word-by s.args.claim.offset w.word.ensures.0 (offset-fits c.before.before.before.before.before.before.before.before.before.before) in
+    let l = bit_or (bit_or (bit_or a.long-first.result b.long-second.result) d.long-third.result) w.word.result in
+    let small : l < 18446744073709551616 = or_lt 64 _ _ (or_lt 64 _ _ (or_lt 64 _ _ a.long-first.ensures.1 b.long-second.ensures.1) d.long-third.ensures.1) (omega (arith, w.word.ensures.1)) in
     let all : l ≡ all_bits r s.args.claim = ap₂ bit_or (ap₂ bit_or (ap₂ bit_or e0 e1) e2) e3 in
-    c.read-with.ensures
-    ∙ ap (λ (raw : ℤ). reading_by r (long raw)) (to_z-of_z (let h = c.before.to-i64.type-inv in search (rules, h)) ∙ c.before.to-i64.ensures)
+    c.read_with.ensures
+    ∙ ap (λ (raw : ℤ). reading_by r (long raw)) (to_z-of_z (let h = c.to_i64.type_inv in search (rules, h)) ∙ c.to_i64.ensures)
     ∙ ap (reading_by r) (of_z-to_z {w = w64} (record { fits = small }) ∙ all)
 
-pub read-all-spec : {M : Type 1} → statement M
-read-all-spec =
+pub read_all_spec : {M : Type 1} → statement M
+read_all_spec =
     tie.close
     (tie.spec
     (search rules)

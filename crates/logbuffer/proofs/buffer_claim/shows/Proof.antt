@@ -11,26 +11,26 @@ use Rattle.logbuffer.proofs.buffer_claim.shows.Tie as tie
 id-fits : (c : tie.Start) → SFits w32 c.args.claim.term_id
 id-fits c = search rules
 
-sub-if1 : tie.Need-overflow-sub-if1
-sub-if1 c = let s = c.before.before.before.before.before in minus-fits (word s.args.claim.length) s.requires.1.0 s.requires.1.1
+sub-if1 : tie.Need-overflow_sub-claim
+sub-if1 c = let s = c in minus-fits (word s.args.claim.length) s.requires.1.0 s.requires.1.1
 
 -- the length word that was read, and the claim's length negated, both as bits
-shown : (c : tie.After-to-i32) → of_z w32 c.to-i32.result ≡ u32 (drop c.before.before.before.args.at c.before.before.before.args.log.now)
-shown c = bits32 _ _ _ c.to-i32.ensures c.before.word4.ensures.0 c.before.word4.ensures.1
+shown : (c : tie.After-to_i32-shown) → of_z w32 c.to_i32-shown.result ≡ u32 (drop c.args.at c.args.log.now)
+shown c = bits32 _ _ _ c.to_i32-shown.ensures c.word4.ensures.0 c.word4.ensures.1
 
 minus : (c : tie.Start) → of_z w32 (pos 0 -ℤ to_z w32 (word c.args.claim.length)) ≡ negated (word c.args.claim.length)
 minus c = minus-bits (word c.args.claim.length) c.requires.1.0 c.requires.1.1
 
-returns : tie.Need-returns
-returns c = let s = c.before.before.before.before.before.before in
-    differs s.args.log.now s.args.at s.args.claim _ _ (shown c.before.before.before) (minus s) c.if1.true
+returns : tie.Need-returns-then-shown-claim
+returns c = let s = c in
+    differs s.args.log.now s.args.at s.args.claim _ _ (shown c.before.before.before) (minus c.before.before.before.before.before.before) c.if-shown-claim.true
 
-returns-2 : tie.Need-returns-2
-returns-2 c = let s = c.before.before.before.before.before.before.before.before.before in
-    agrees s.args.log.now s.args.at s.args.claim _ _ (shown c.before.before.before.before.before.before) (minus s) c.before.before.before.if1.false c.before.before.word42.result c.word.result c.before.before.word42.ensures.0 (word-by _ c.word.ensures.0 (id-fits s))
+returns-2 : tie.Need-returns
+returns-2 c = let s = c in
+    agrees s.args.log.now s.args.at s.args.claim _ _ (shown c.before.before.before.before.before.before) (minus c.before.before.before.before.before.before.before.before.before) c.if-shown-claim.false c.word4-2.result c.word.result c.word4-2.ensures.0 (word-by _ c.word.ensures.0 (id-fits c.before.before.before.before.before.before.before.before.before))
 
-pub shows-spec : {M : Type 1} → statement M
-shows-spec =
+pub shows_spec : {M : Type 1} → statement M
+shows_spec =
     tie.close
     (tie.spec
     (search rules)

@@ -16,41 +16,41 @@ few n b =
     (λ l. let e : min n (length b) ≡ length b = omega arith in ap (λ (k : ℕ). take k b) e ∙ take-length b ∙ sym (take_all n b (omega arith)))
 
 -- what was located is where the bytes go
-goes : (c : tie.After-locate) (x : Located) → c.locate.result ≡ x → (let a = c.before.before.before.before.before.args in x ≡ write_span a.rec a.log.now a.claim (length a.bytes.now))
-goes c x e = let a = c.before.before.before.before.before.args in
+goes : (c : tie.After-locate) (x : Located) → c.locate.result ≡ x → (let a = c.args in x ≡ write_span a.rec a.log.now a.claim (length a.bytes.now))
+goes c x e = let a = c.args in
     sym (write-short a.rec a.log.now a.claim (length a.bytes.now) (omega arith) ∙ sym c.locate.ensures ∙ e)
 
-returns : tie.Need-returns
-returns c = let a = c.before.before.before.args in
-    let e = sym (write-long a.rec a.log.now a.claim (length a.bytes.now) c.if1.true) in
+returns : tie.Need-returns-then-n-gt2147483647
+returns c = let a = c.args in
+    let e = sym (write-long a.rec a.log.now a.claim (length a.bytes.now) c.if-n-gt2147483647.true) in
     (ap write_outcome e, ap (write_over a.log.now a.bytes.now) e)
 
-sub-at-most : tie.Need-overflow-sub-at-most
+sub-at-most : tie.Need-overflow_sub-to
 sub-at-most c =
-    let a = c.before.before.before.before.before.before.before.before.before.args in
-    (span-in a.rec a.log.now a.claim _ _ (sym c.before.before.before.before.locate.ensures ∙ c.before.before.from.given.1)).1.0
+    let a = c.args in
+    (span-in a.rec a.log.now a.claim _ _ (sym c.locate.ensures ∙ c.in-Span.is)).1.0
 
 copy-requires : tie.Need-copy-requires
 copy-requires c κs =
-    let a = c.before.before.before.before.before.before.before.before.before.before.args in
-    let i = span-in a.rec a.log.now a.claim _ _ (sym c.before.before.before.before.before.locate.ensures ∙ c.before.before.before.from.given.1) in
+    let a = c.args in
+    let i = span-in a.rec a.log.now a.claim _ _ (sym c.locate.ensures ∙ c.in-Span.is) in
     (omega (arith, c.at_most.ensures), omega (arith, c.at_most.ensures))
 
-returns-2 : tie.Need-returns-2
+returns-2 : tie.Need-returns-in-Refused
 returns-2 c =
-    let a = c.before.before.before.before.before.before.before.before.args in
-    let e = goes c.before.before.before _ c.before.e.given.1 in
+    let a = c.args in
+    let e = goes c.before _ c.in-Refused.is in
     (ap write_outcome e, ap (write_over a.log.now a.bytes.now) e)
 
-returns-3 : tie.Need-returns-3
+returns-3 : tie.Need-returns-in-Span
 returns-3 c =
-    let f = c.before.before.before.before.before.before in
-    let a = f.before.before.before.before.before.before.before.args in
-    let e = goes f.before.before _ f.from.given.1 in (
+    let f = c in
+    let a = f.args in
+    let e = goes c.before.before.before.before.before.before _ f.in-Span.is in (
       ap write_outcome e,
-      c.before.before.copy.ensures
-          ∙ ap (λ (k : ℕ). splice a.log.now f.from.given.0.0 (take k (drop 0 a.bytes.now))) c.before.before.before.at_most.ensures
-          ∙ ap (splice a.log.now f.from.given.0.0) (few (f.from.given.0.1.0 - f.from.given.0.0) a.bytes.now)
+      c.copy.ensures
+          ∙ ap (λ (k : ℕ). splice a.log.now f.in-Span.from (take k (drop 0 a.bytes.now))) c.at_most.ensures
+          ∙ ap (splice a.log.now f.in-Span.from) (few (f.in-Span.to - f.in-Span.from) a.bytes.now)
           ∙ ap (write_over a.log.now a.bytes.now) e,
     )
 

@@ -5,40 +5,40 @@ use Rattle.logbuffer.proofs.Copies.{more, none_yet}
 use Rattle.logbuffer.proofs.copying.copy.Statement.{statement}
 use Rattle.logbuffer.proofs.copying.copy.Tie as tie
 
-abbrev invariant-loop : tie.invariant-loop
+abbrev invariant-loop : tie.invariant-loop-i
 invariant-loop dst₀ b src a n i₀ dst i = (i ≤ n) × ((dst ≡ splice dst₀ b (take i (drop a src))) × (length dst ≡ length dst₀))
 
-abbrev decreases-loop : tie.decreases-loop
+abbrev decreases-loop : tie.decreases-loop-i
 decreases-loop dst₀ b src a n i₀ dst i = n - i
 
-loop-holds : tie.Need-loop-init invariant-loop decreases-loop
+loop-holds : tie.Need-loop-i-init invariant-loop decreases-loop
 loop-holds c =
-    let s = c.before.before in
+    let s = c in
     (omega arith, (none_yet s.args.dst.now s.args.src.now s.args.b s.args.a, refl))
 
-loop-again : tie.Need-loop-preserved invariant-loop decreases-loop
+loop-again : tie.Need-loop-i-preserved invariant-loop decreases-loop
 loop-again c =
-    let call = c.before.before in
-    let l = call.before.before.before.before in
-    let s = l.before.before.before in
-    let i = l.loop.i in
-    let m = call.before.before.chunk.result in (
+    let call = c in
+    let l = c in
+    let s = c in
+    let i = l.loop-i.i in
+    let m = call.chunk-m.result in (
       omega arith,
       (
-        call.copy-chunk.ensures ∙ ap (λ (x : List ℕ). splice x (s.args.b + i) (take m (drop (s.args.a + i) s.args.src.now))) l.loop.invariant.1.0
+        call.copy_chunk.ensures ∙ ap (λ (x : List ℕ). splice x (s.args.b + i) (take m (drop (s.args.a + i) s.args.src.now))) l.loop-i.invariant.1.0
             ∙ more s.args.dst.now s.args.src.now s.args.b s.args.a i m (omega arith) (omega arith),
-        call.copy-chunk.auto.0 ∙ l.loop.invariant.1.1,
+        call.copy_chunk.auto.dst ∙ l.loop-i.invariant.1.1,
       ),
     )
 
-same_length : tie.Need-same-length invariant-loop decreases-loop
-same_length c = c.before.loop.invariant.1.1
+same_length : tie.Need-shape_of-dst invariant-loop decreases-loop
+same_length c = c.loop-i.invariant.1.1
 
 returns : tie.Need-returns invariant-loop decreases-loop
 returns c =
-    let s = c.before.before.before.before in
-    let e : c.before.loop.i ≡ s.args.n = omega arith in
-    c.before.loop.invariant.1.0 ∙ ap (λ (x : ℕ). splice s.args.dst.now s.args.b (take x (drop s.args.a s.args.src.now))) e
+    let s = c in
+    let e : c.loop-i.i ≡ s.args.n = omega arith in
+    c.loop-i.invariant.1.0 ∙ ap (λ (x : ℕ). splice s.args.dst.now s.args.b (take x (drop s.args.a s.args.src.now))) e
 
 pub copy_spec : {M : Type 1} → statement M
 copy_spec =

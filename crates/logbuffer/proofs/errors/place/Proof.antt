@@ -4,8 +4,8 @@ use Rattle.model.specs.Errors.{place_of}
 use Rattle.logbuffer.proofs.errors.place.Statement.{statement}
 use Rattle.logbuffer.proofs.errors.place.Tie as tie
 
-pub place-spec : {M : Type 1} → statement M
-place-spec =
+pub place_spec : {M : Type 1} → statement M
+place_spec =
     tie.close
     (tie.spec
     (search rules)
@@ -29,24 +29,24 @@ place-spec =
     (search rules)
     (search rules)
     (search rules)
-    (λ c. ap place_of (sym c.enum_told.given.1))
-    (λ c. ap place_of (sym c.enum-told2.given.1))
-    (λ c. ap place_of (sym c.enum-told3.given.1))
-    (λ c. ap place_of (sym c.enum-told4.given.1))
-    (λ c. ap place_of (sym c.enum-told5.given.1))
-    (λ c. ap place_of (sym c.enum-told6.given.1))
-    (λ c. ap place_of (sym c.enum-told7.given.1))
-    (λ c. ap place_of (sym c.enum-told8.given.1))
-    (λ c. ap place_of (sym c.enum-told9.given.1))
-    (λ c. ap place_of (sym c.enum-told10.given.1))
-    (λ c. ap place_of (sym c.enum-told11.given.1))
-    (λ c. ap place_of (sym c.enum-told12.given.1))
-    (λ c. ap place_of (sym c.enum-told13.given.1))
-    (λ c. ap place_of (sym c.enum-told14.given.1))
-    (λ c. ap place_of (sym c.enum-told15.given.1))
-    (λ c. ap place_of (sym c.enum-told16.given.1))
-    (λ c. ap place_of (sym c.enum-told17.given.1))
-    (λ c. ap place_of (sym c.enum-told18.given.1))
-    (λ c. ap place_of (sym c.enum-told19.given.1))
-    (λ c. ap place_of (sym c.before.error.given.1))
-    (λ c. ap place_of (sym c.before.error2.given.1)))
+    (λ c. ap place_of (sym c.in-IllegalArgument.is))
+    (λ c. ap place_of (sym c.in-IllegalRecord.is))
+    (λ c. ap place_of (sym c.in-PositionOutOfRange.is))
+    (λ c. ap place_of (sym c.in-ExceedsMaxPayloadLength.is))
+    (λ c. ap place_of (sym c.in-PublicationClosed.is))
+    (λ c. ap place_of (sym c.in-AdminAction.is))
+    (λ c. ap place_of (sym c.in-MaxPositionExceeded.is))
+    (λ c. ap place_of (sym c.in-BackPressured.is))
+    (λ c. ap place_of (sym c.in-NotConnected.is))
+    (λ c. ap place_of (sym c.in-ExceedsMaxMessageLength.is))
+    (λ c. ap place_of (sym c.in-TailOverflow.is))
+    (λ c. ap place_of (sym c.in-LastTerm.is))
+    (λ c. ap place_of (sym c.in-ActionPossiblyDelayed.is))
+    (λ c. ap place_of (sym c.in-ClaimMismatch.is))
+    (λ c. ap place_of (sym c.in-NewPositionOutOfRange.is))
+    (λ c. ap place_of (sym c.in-NewPositionNotAligned.is))
+    (λ c. ap place_of (sym c.in-AssemblyFull.is))
+    (λ c. ap place_of (sym c.in-NotCleared.is))
+    (λ c. ap place_of (sym c.in-NotDue.is))
+    (λ c. ap place_of (sym c.in-FrameTooShort.is))
+    (λ c. ap place_of (sym c.in-FramePastTerm.is)))

@@ -3,11 +3,11 @@ use Rattle.std.proofs.Common.{arith, rules}
 use Rattle.logbuffer.proofs.field.byte.Statement.{statement}
 use Rattle.logbuffer.proofs.field.byte.Tie as tie
 
-cast-result : tie.Need-overflow-cast-result
-cast-result c = omega (arith, c.shared-slice-known.given c.before.args.at)
+cast-result : tie.Need-overflow_cast-result
+cast-result c = omega (arith, c.shared_slice_known-1.given c.args.at)
 
 returns : tie.Need-returns
-returns c = (search rules, omega (arith, c.shared-slice-known.given c.before.args.at))
+returns c = (search rules, omega (arith, c.shared_slice_known-1.given c.args.at))
 
-pub byte-spec : {M : Type 1} → statement M
-byte-spec = tie.close (tie.spec (search rules) cast-result returns)
+pub byte_spec : {M : Type 1} → statement M
+byte_spec = tie.close (tie.spec (search rules) cast-result returns)

@@ -5,7 +5,7 @@ use Rattle.logbuffer.proofs.field.half.Statement.{statement}
 use Rattle.logbuffer.proofs.field.half.Tie as tie
 
 returns : tie.Need-returns
-returns c = let s = c.before.before.before in omega (arith, half_at s.args.log.now s.args.at)
+returns c = let s = c in omega (arith, half_at s.args.log.now s.args.at)
 
 pub half_spec : {M : Type 1} → statement M
 half_spec =

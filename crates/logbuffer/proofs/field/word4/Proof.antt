@@ -5,10 +5,10 @@ use Rattle.logbuffer.proofs.field.word4.Statement.{statement}
 use Rattle.logbuffer.proofs.field.word4.Tie as tie
 
 returns : tie.Need-returns
-returns c = let s = c.before.before.before.before.before in omega (arith, word_at s.args.log.now s.args.at)
+returns c = let s = c in omega (arith, word_at s.args.log.now s.args.at)
 
-pub word4-spec : {M : Type 1} → statement M
-word4-spec =
+pub word4_spec : {M : Type 1} → statement M
+word4_spec =
     tie.close
     (tie.spec
     (search rules)

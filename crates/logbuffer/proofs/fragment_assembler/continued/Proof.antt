@@ -6,32 +6,32 @@ use Rattle.logbuffer.proofs.Sessions.{more-unknown, more-none, more_by}
 use Rattle.logbuffer.proofs.fragment_assembler.continued.Statement.{statement}
 use Rattle.logbuffer.proofs.fragment_assembler.continued.Tie as tie
 
-returns : tie.Need-returns
+returns : tie.Need-returns-then-k-entered
 returns c =
-    let a = c.before.args in more-unknown a.k a.entered a.from a.n a.part a.ends (omega arith)
+    let a = c.args in more-unknown a.k a.entered a.from a.n a.part a.ends (omega arith)
 
-returns-2 : tie.Need-returns-2
+returns-2 : tie.Need-returns-then-from-eq0
 returns-2 c =
-    let a = c.before.before.args in more-none a.k a.entered a.from a.n a.part a.ends (omega arith) (omega arith)
+    let a = c.args in more-none a.k a.entered a.from a.n a.part a.ends (omega arith) (omega arith)
 
-returns-3 : tie.Need-returns-3
+returns-3 : tie.Need-returns-then-too_long
 returns-3 c =
-    let a = c.before.before.before.before.args in
-    sym (cond-true (ltb a.part (a.from + a.n)) (TooLong a.k) _ (sym c.before.too_long.ensures ∙ c.if3.true))
+    let a = c.args in
+    sym (cond-true (ltb a.part (a.from + a.n)) (TooLong a.k) _ (sym c.too_long.ensures ∙ c.if-too_long.true))
     ∙ more_by a.k a.entered a.from a.n a.part a.ends (omega arith) (omega arith)
 
-returns-4 : tie.Need-returns-4
+returns-4 : tie.Need-returns-then-ends
 returns-4 c =
-    let a = c.before.before.before.before.before.args in
-    sym (cond-false (ltb a.part (a.from + a.n)) (TooLong a.k) _ (sym c.before.before.too_long.ensures ∙ c.before.if3.false) ∙ cond-true a.ends _ _ c.if4.true)
+    let a = c.args in
+    sym (cond-false (ltb a.part (a.from + a.n)) (TooLong a.k) _ (sym c.too_long.ensures ∙ c.if-too_long.false) ∙ cond-true a.ends _ _ c.if-ends.true)
     ∙ more_by a.k a.entered a.from a.n a.part a.ends (omega arith) (omega arith)
 
-returns-5 : tie.Need-returns-5
+returns-5 : tie.Need-returns
 returns-5 c =
-    let a = c.before.before.before.before.before.args in
-    sym (cond-false (ltb a.part (a.from + a.n)) (TooLong a.k) _ (sym c.before.before.too_long.ensures ∙ c.before.if3.false) ∙ cond-false a.ends _ _ c.if4.false)
+    let a = c.args in
+    sym (cond-false (ltb a.part (a.from + a.n)) (TooLong a.k) _ (sym c.too_long.ensures ∙ c.if-too_long.false) ∙ cond-false a.ends _ _ c.if-ends.false)
     ∙ more_by a.k a.entered a.from a.n a.part a.ends (omega arith) (omega arith)
 
-pub continued-spec : {M : Type 1} → statement M
-continued-spec =
+pub continued_spec : {M : Type 1} → statement M
+continued_spec =
     tie.close (tie.spec returns returns-2 (search rules) returns-3 returns-4 returns-5)

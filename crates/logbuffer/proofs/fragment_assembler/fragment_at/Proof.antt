@@ -12,51 +12,51 @@ use Rattle.logbuffer.proofs.Fragments.{fragment-none, fragment-short, fragment-p
 use Rattle.logbuffer.proofs.fragment_assembler.fragment_at.Statement.{statement}
 use Rattle.logbuffer.proofs.fragment_assembler.fragment_at.Tie as tie
 
-returns : tie.Need-returns
-returns c = let a = c.before.before.before.args in c.no-fragment.ensures ∙ fragment-short a.log.now a.at a.room (omega arith)
+returns : tie.Need-returns-then-size-lt-HEADER_LENGTH
+returns c = let a = c.args in c.no_fragment.ensures ∙ fragment-short a.log.now a.at a.room (omega arith)
 
-returns-2 : tie.Need-returns-2
-returns-2 c = let a = c.before.before.before.before.args in c.no-fragment2.ensures ∙ fragment-short a.log.now a.at a.room (omega arith)
+returns-2 : tie.Need-returns-then-at-size
+returns-2 c = let a = c.args in c.no_fragment-then-at-size.ensures ∙ fragment-short a.log.now a.at a.room (omega arith)
 
-returns-3 : tie.Need-returns-3
+returns-3 : tie.Need-returns-in_default
 returns-3 c =
-    let a = c.before.before.before.before.before.before.args in
-    let x = c.before.before.frame-inside in
-    c.no-fragment3.ensures ∙ fragment-none a.log.now a.at a.room (ap data_length (sym x.ensures) ∙ no-data x.result c.before.match.keys2)
+    let a = c.args in
+    let x = c.frame_inside in
+    c.no_fragment-in_default.ensures ∙ fragment-none a.log.now a.at a.room (ap data_length (sym x.ensures) ∙ no-data x.result c.in_default.in_default-own.keys2)
 
 -- the frame that was found, and its length
-module _ (k : tie.After-known-told) where
+module _ (k : tie.In-Data) where
   abbrev n : ℕ
-  n = k.before.n.given.0.0
+  n = k.in-Data.n
 
-  found : let a = k.before.before.before.before.before.before.before.args in frame_at (drop a.at a.log.now) a.room ≡ Data n
-  found = sym k.before.before.before.frame-inside.ensures ∙ k.before.n.given.1
+  found : let a = k.args in frame_at (drop a.at a.log.now) a.room ≡ Data n
+  found = sym k.frame_inside.ensures ∙ k.in-Data.is
 
-  long : let a = k.before.before.before.before.before.before.before.args in data_length (frame_at (drop a.at a.log.now) a.room) ≡ n
+  long : let a = k.args in data_length (frame_at (drop a.at a.log.now) a.room) ≡ n
   long = ap data_length found
 
-returns-4 : tie.Need-returns-4
+returns-4 : tie.Need-returns-then-n-size
 returns-4 c =
-    let a = c.before.before.before.before.before.before.before.before.before.args in
-    c.no-fragment4.ensures ∙ fragment-past a.log.now a.at a.room (omega (arith, long c.before.before))
+    let a = c.args in
+    c.no_fragment-then-n-size.ensures ∙ fragment-past a.log.now a.at a.room (omega (arith, long c.before.before))
 
 -- by its parts
 by : (n m f g : ℕ) (y z : ℤ) → n ≡ m → f ≡ g → y ≡ z → ◌≡◌ {A = FragmentHeader} (record { length = n; flags = f; session = y }) (record { length = m; flags = g; session = z })
 by n m f g y z en ef ez =
     ap₂ {C = FragmentHeader} (λ (i j : ℕ). record { length = i; flags = j; session = y }) en ef ∙ ap {B = FragmentHeader} (λ (w : ℤ). record { length = m; flags = g; session = w }) ez
 
-returns-5 : tie.Need-returns-5
+returns-5 : tie.Need-returns
 returns-5 c =
-    let k = c.before.before.before.before in
-    let a = c.before.before.before.before.before.before.before.before.before.before.before.args in
+    let k = c in
+    let a = c.args in
     let e = long k in
     by (n k) _ _ (flags_at (drop a.at a.log.now)) _ (session_at (drop a.at a.log.now)) (sym e)
-    (c.before.before.byte.ensures.0 ∙ sym (get_or-drop a.at a.log.now 5 0))
-    (to_z-of_z {w = w32} {z = c.to-i32.result} (search rules) ∙ c.to-i32.ensures ∙ ap (to_z w32) c.before.word4.ensures.0 ∙ ap i32 (sym (drop-drop 12 a.at a.log.now)))
+    (c.byte.ensures.0 ∙ sym (get_or-drop a.at a.log.now 5 0))
+    (to_z-of_z {w = w32} {z = c.to_i32.result} (search rules) ∙ c.to_i32.ensures ∙ ap (to_z w32) c.word4.ensures.0 ∙ ap i32 (sym (drop-drop 12 a.at a.log.now)))
     ∙ fragment-so a.log.now a.at a.room (omega (arith, e, (lies (drop a.at a.log.now) a.room (Data (n k)) (found k) refl).header)) (omega (arith, e))
 
-pub fragment-at-spec : {M : Type 1} → statement M
-fragment-at-spec =
+pub fragment_at_spec : {M : Type 1} → statement M
+fragment_at_spec =
     tie.close
     (tie.spec
     (search rules)

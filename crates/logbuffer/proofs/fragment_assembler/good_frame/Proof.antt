@@ -4,22 +4,22 @@ use Rattle.logbuffer.proofs.Assembly.{frame-short, frame-finished, frame-unfinis
 use Rattle.logbuffer.proofs.fragment_assembler.good_frame.Statement.{statement}
 use Rattle.logbuffer.proofs.fragment_assembler.good_frame.Tie as tie
 
-returns : tie.Need-returns
+returns : tie.Need-returns-then-n-lt4
 returns c =
-    let a = c.before.before.args in frame-short a.log.now a.at (omega arith)
+    let a = c.args in frame-short a.log.now a.at (omega arith)
 
-returns-2 : tie.Need-returns-2
+returns-2 : tie.Need-returns-then-at-n
 returns-2 c =
-    let a = c.before.before.before.args in frame-short a.log.now a.at (omega arith)
+    let a = c.args in frame-short a.log.now a.at (omega arith)
 
-returns-3 : tie.Need-returns-3
+returns-3 : tie.Need-returns-in_default
 returns-3 c =
-    let a = c.before.before.before.before.before.args in frame-unfinished a.log.now a.at _ c.before.length_at.ensures (omega arith) c.match.keys2
+    let a = c.args in frame-unfinished a.log.now a.at _ c.length_at.ensures (omega arith) c.in_default.in_default-own.keys2
 
-returns-4 : tie.Need-returns-4
+returns-4 : tie.Need-returns
 returns-4 c =
-    let a = c.before.before.before.before.before.before.args in frame-finished a.log.now a.at _ c.before.before.length_at.ensures (omega arith) _ c.enum_told.given.1
+    let a = c.args in frame-finished a.log.now a.at _ c.length_at.ensures (omega arith) _ c.in-Finished.is
 
-pub good-frame-spec : {M : Type 1} → statement M
-good-frame-spec =
+pub good_frame_spec : {M : Type 1} → statement M
+good_frame_spec =
     tie.close (tie.spec returns returns-2 (search rules) (search rules) returns-3 returns-4)

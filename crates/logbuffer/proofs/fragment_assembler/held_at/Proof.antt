@@ -4,8 +4,8 @@ use lib.ListN.{get_or-eq_default}
 use Rattle.logbuffer.proofs.fragment_assembler.held_at.Statement.{statement}
 use Rattle.logbuffer.proofs.fragment_assembler.held_at.Tie as tie
 
-returns-2 : tie.Need-returns-2
-returns-2 c = sym (get_or-eq_default c.before.args.held.now 0 (omega arith))
+returns-2 : tie.Need-returns-else-k-held
+returns-2 c = sym (get_or-eq_default c.args.held.now 0 (omega arith))
 
-pub held-at-spec : {M : Type 1} → statement M
-held-at-spec = tie.close (tie.spec (search rules) (search rules) (search rules) returns-2)
+pub held_at_spec : {M : Type 1} → statement M
+held_at_spec = tie.close (tie.spec (search rules) (search rules) (search rules) returns-2)

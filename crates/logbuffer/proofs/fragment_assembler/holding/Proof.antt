@@ -7,5 +7,5 @@ use Rattle.logbuffer.proofs.fragment_assembler.holding.Tie as tie
 returns : tie.Need-returns
 returns c = ap (λ (z : ℤ). leaving c.args.place z c.args.held c.args.answer) (to_z-of_z c.ranges.session)
 
-pub holding-spec : {M : Type 1} → statement M
-holding-spec = tie.close (tie.spec returns)
+pub holding_spec : {M : Type 1} → statement M
+holding_spec = tie.close (tie.spec returns)

@@ -9,54 +9,54 @@ use Rattle.logbuffer.proofs.Fragments.{lays-nowhere, lays-other, lays-empty, lay
 use Rattle.logbuffer.proofs.fragment_assembler.lay_fragment.Statement.{statement}
 use Rattle.logbuffer.proofs.fragment_assembler.lay_fragment.Tie as tie
 
-returns : tie.Need-returns
+returns : tie.Need-returns-then-place-ge16
 returns c =
-    let a = c.before.before.before.before.args in lays-nowhere a.count a.place a.held a.flags a.body-length a.log.now a.buffer.now a.index (omega arith) c.not-laid.result c.not-laid.ensures
+    let a = c.args in lays-nowhere a.count a.place a.held a.flags a.body_length a.log.now a.buffer.now a.index (omega arith) c.not_laid.result c.not_laid.ensures
 
-returns-2 : tie.Need-returns-2
+returns-2 : tie.Need-returns-then-not-joins
 returns-2 c =
-    let a = c.before.before.before.before.before.before.args in
-    lays-other a.count a.place a.held a.flags a.body-length a.log.now a.buffer.now a.index (sym c.before.before.joins.ensures ∙ not-true _ c.before.if2.true) c.not-laid2.result c.not-laid2.ensures
+    let a = c.args in
+    lays-other a.count a.place a.held a.flags a.body_length a.log.now a.buffer.now a.index (sym c.joins.ensures ∙ not-true _ c.if-not-joins.true-raw) c.not_laid-then-not-joins.result c.not_laid-then-not-joins.ensures
 
-returns-3 : tie.Need-returns-3
+returns-3 : tie.Need-returns-then-body_length-eq0
 returns-3 c =
-    let a = c.before.before.before.before.before.before.before.args in lays-empty a.count a.place a.held a.flags a.body-length a.log.now a.buffer.now a.index c.before.if3.true c.not-laid3.result c.not-laid3.ensures
+    let a = c.args in lays-empty a.count a.place a.held a.flags a.body_length a.log.now a.buffer.now a.index c.if-body_length-eq0.true c.not_laid-then-body_length-eq0.result c.not_laid-then-body_length-eq0.ensures
 
-returns-4 : tie.Need-returns-4
+returns-4 : tie.Need-returns-then-too_long
 returns-4 c =
-    let a = c.before.before.before.before.before.before.before.before.before.before.args in
-    lays-long a.count a.place a.held a.flags a.body-length a.log.now a.buffer.now a.index
-    (omega (arith, ltb-true (length a.buffer.now / 16) (c.before.before.before.behind.result + a.body-length) (sym c.before.before.too_long.ensures ∙ c.before.if4.true), c.before.before.before.behind.ensures)) c.not-laid4.result c.not-laid4.ensures
+    let a = c.args in
+    lays-long a.count a.place a.held a.flags a.body_length a.log.now a.buffer.now a.index
+    (omega (arith, ltb-true (length a.buffer.now / 16) (c.behind-from.result + a.body_length) (sym c.too_long.ensures ∙ c.if-too_long.true), c.behind-from.ensures)) c.not_laid-then-too_long.result c.not_laid-then-too_long.ensures
 
-returns-5 : tie.Need-returns-5
+returns-5 : tie.Need-returns-then-index-size
 returns-5 c =
-    let a = c.before.before.before.before.before.before.before.before.before.before.before.args in lays-past a.count a.place a.held a.flags a.body-length a.log.now a.buffer.now a.index (omega arith) c.not-laid5.result c.not-laid5.ensures
+    let a = c.args in lays-past a.count a.place a.held a.flags a.body_length a.log.now a.buffer.now a.index (omega arith) c.not_laid-then-index-size.result c.not_laid-then-index-size.ensures
 
-returns-6 : tie.Need-returns-6
+returns-6 : tie.Need-returns-then-body_length-size
 returns-6 c =
-    let a = c.before.before.before.before.before.before.before.before.before.before.before.before.args in lays-past a.count a.place a.held a.flags a.body-length a.log.now a.buffer.now a.index (omega arith) c.not-laid6.result c.not-laid6.ensures
+    let a = c.args in lays-past a.count a.place a.held a.flags a.body_length a.log.now a.buffer.now a.index (omega arith) c.not_laid-then-body_length-size.result c.not_laid-then-body_length-size.ensures
 
-fits : (c : tie.Else4) → c.before.before.behind.result + c.before.before.before.before.before.before.before.before.before.args.body-length ≤ length c.before.before.before.before.before.before.before.before.before.args.buffer.now / 16
+fits : (c : tie.Else-too_long) → c.behind-from.result + c.args.body_length ≤ length c.args.buffer.now / 16
 fits c =
-    ltb-false (length c.before.before.before.before.before.before.before.before.before.args.buffer.now / 16) (c.before.before.behind.result + c.before.before.before.before.before.before.before.before.before.args.body-length) (sym c.before.too_long.ensures ∙ c.if4.false)
+    ltb-false (length c.args.buffer.now / 16) (c.behind-from.result + c.args.body_length) (sym c.too_long.ensures ∙ c.if-too_long.false)
 
 append-requires : tie.Need-append-requires
 append-requires c κs = (refl, (omega arith, (fits c.before.before.before, omega arith)))
 
-add-t14 : tie.Need-overflow-add-t14
-add-t14 c = record { fits = omega (arith, fits c.before.before.before.before.before.before, c.before.before.before.before.before.before.before.before.before.before.before.before.before.before.before.well-formed) }
+add-t14 : tie.Need-overflow_add-result
+add-t14 c = record { fits = omega (arith, fits c.before.before.before.before.before.before, c.well_formed) }
 
-returns-7 : tie.Need-returns-7
+returns-7 : tie.Need-returns
 returns-7 c =
-    let a = c.before.before.before.before.before.before.before.before.before.before.before.before.before.before.before.args in
-    let e = c.before.before.before.before.before.before.before.before.behind.ensures in
-    lays a.count a.place a.held a.flags a.body-length a.log.now a.buffer.now a.index (omega arith)
-    (sym c.before.before.before.before.before.before.before.before.before.before.before.joins.ensures ∙ not-false _ c.before.before.before.before.before.before.before.before.before.before.if2.false) (omega (arith, c.before.before.before.before.before.before.before.before.before.if3.false)) (omega (arith, e, fits c.before.before.before.before.before.before)) (omega arith) _ c.before.before.append.new.0
-    (ap {B = Laid} (λ (x : ℕ). record { held = x + a.body-length; ends = ends a.flags }) e)
-    (c.before.before.append.ensures ∙ ap (λ (x : ℕ). splice a.buffer.now (a.place * (length a.buffer.now / 16) + x) (take a.body-length (drop a.index a.log.now))) e)
+    let a = c.args in
+    let e = c.behind-from.ensures in
+    lays a.count a.place a.held a.flags a.body_length a.log.now a.buffer.now a.index (omega arith)
+    (sym c.joins.ensures ∙ not-false _ c.if-not-joins.false-raw) (omega (arith, c.if-body_length-eq0.false)) (omega (arith, e, fits c.before.before.before.before.before.before)) (omega arith) _ c.append.new.buffer
+    (ap {B = Laid} (λ (x : ℕ). record { held = x + a.body_length; ends = ends a.flags }) e)
+    (c.append.ensures ∙ ap (λ (x : ℕ). splice a.buffer.now (a.place * (length a.buffer.now / 16) + x) (take a.body_length (drop a.index a.log.now))) e)
 
-pub lay-fragment-spec : {M : Type 1} → statement M
-lay-fragment-spec =
+pub lay_fragment_spec : {M : Type 1} → statement M
+lay_fragment_spec =
     tie.close
     (tie.spec
     (search rules)

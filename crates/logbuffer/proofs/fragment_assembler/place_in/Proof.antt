@@ -5,41 +5,41 @@ use Rattle.logbuffer.proofs.Sessions.{Left, left-all, left_here, left-on, left-n
 use Rattle.logbuffer.proofs.fragment_assembler.place_in.Statement.{statement}
 use Rattle.logbuffer.proofs.fragment_assembler.place_in.Tie as tie
 
-abbrev invariant-loop : tie.invariant-loop
+abbrev invariant-loop : tie.invariant-loop-i
 invariant-loop ids n session i₀ i = (i ≤ n) × Left ids n (to_z w32 session) i
 
-abbrev decreases-loop : tie.decreases-loop
+abbrev decreases-loop : tie.decreases-loop-i
 decreases-loop ids n session i₀ i = n - i
 
-loop-holds : tie.Need-loop-init invariant-loop decreases-loop
+loop-holds : tie.Need-loop-i-init invariant-loop decreases-loop
 loop-holds c = (omega arith, left-all c.args.ids.now c.args.n _)
 
-loop-again : tie.Need-loop-preserved invariant-loop decreases-loop
+loop-again : tie.Need-loop-i-preserved invariant-loop decreases-loop
 loop-again c =
-    let s = c.before.before.before.before in
-    let l = c.before.before.before.loop in
-    (omega arith, left-on s.args.ids.now s.args.n (to_z w32 (of_z w32 s.args.session)) l.i (omega arith) (omega arith) (λ q. c.if1.false (q ∙ ap (of_z w32) (to_z-of_z s.ranges.session))) l.invariant.1)
+    let s = c in
+    let l = c.loop-i in
+    (omega arith, left-on s.args.ids.now s.args.n (to_z w32 (of_z w32 s.args.session)) l.i (omega arith) (omega arith) (λ q. c.if-ids-i.false (q ∙ ap (of_z w32) (to_z-of_z s.ranges.session))) l.invariant.1)
 
-returns : tie.Need-returns invariant-loop decreases-loop
+returns : tie.Need-returns-after-loop-i invariant-loop decreases-loop
 returns c =
-    let s = c.before.before in
-    let l = c.before.loop in (
+    let s = c in
+    let l = c.loop-i in (
       sym (left-none s.args.ids.now s.args.n (to_z w32 (of_z w32 s.args.session)) l.i (omega arith) l.invariant.1)
           ∙ ap (λ (z : ℤ). place_in (take s.args.n s.args.ids.now) z) (to_z-of_z s.ranges.session),
       omega arith,
     )
 
-returns-2 : tie.Need-returns-2 invariant-loop decreases-loop
+returns-2 : tie.Need-returns-then-ids-i invariant-loop decreases-loop
 returns-2 c =
-    let s = c.before.before.before.before in
-    let l = c.before.before.before.loop in (
-      sym (left_here s.args.ids.now s.args.n (to_z w32 (of_z w32 s.args.session)) l.i (omega arith) (omega arith) (c.if1.true ∙ ap (of_z w32) (sym (to_z-of_z s.ranges.session))) l.invariant.1)
+    let s = c in
+    let l = c.loop-i in (
+      sym (left_here s.args.ids.now s.args.n (to_z w32 (of_z w32 s.args.session)) l.i (omega arith) (omega arith) (c.if-ids-i.true ∙ ap (of_z w32) (sym (to_z-of_z s.ranges.session))) l.invariant.1)
           ∙ ap (λ (z : ℤ). place_in (take s.args.n s.args.ids.now) z) (to_z-of_z s.ranges.session),
       omega arith,
     )
 
-pub place-in-spec : {M : Type 1} → statement M
-place-in-spec =
+pub place_in_spec : {M : Type 1} → statement M
+place_in_spec =
     tie.close
     (tie.spec
     invariant-loop

@@ -5,7 +5,7 @@ use Rattle.logbuffer.proofs.frame_descriptor.ends_message.Statement.{statement}
 use Rattle.logbuffer.proofs.frame_descriptor.ends_message.Tie as tie
 
 returns : tie.Need-returns
-returns c = let a = c.before.before.args in ap ends (c.byte.ensures.0 ∙ sym (get_or-drop a.at a.log.now 5 0))
+returns c = let a = c.args in ap ends (c.byte-flags.ensures.0 ∙ sym (get_or-drop a.at a.log.now 5 0))
 
-pub ends-message-spec : {M : Type 1} → statement M
-ends-message-spec = tie.close (tie.spec (search rules) (search rules) returns)
+pub ends_message_spec : {M : Type 1} → statement M
+ends_message_spec = tie.close (tie.spec (search rules) (search rules) returns)

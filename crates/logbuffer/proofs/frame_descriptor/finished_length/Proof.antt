@@ -6,13 +6,13 @@ use Rattle.logbuffer.proofs.Lengths.{unfinished}
 use Rattle.logbuffer.proofs.frame_descriptor.finished_length.Statement.{statement}
 use Rattle.logbuffer.proofs.frame_descriptor.finished_length.Tie as tie
 
-returns : tie.Need-returns
+returns : tie.Need-returns-in_default
 returns c =
-    let t : true ≡ false = sym c.before.before.before.requires ∙ sym (ap is_finished c.before.length_at.ensures) ∙ unfinished c.before.length_at.result c.match.keys2 in
+    let t : true ≡ false = sym c.requires ∙ sym (ap is_finished c.length_at.ensures) ∙ unfinished c.length_at.result c.in_default.in_default-own.keys2 in
     absurd (let z : ◌≡◌ {A = ℕ} 0 1 = cc in omega arith)
 
-returns-2 : tie.Need-returns-2
-returns-2 c = finished-word _ _ (sym c.before.before.before.length_at.ensures ∙ c.before.n.given.1)
+returns-2 : tie.Need-returns
+returns-2 c = finished-word _ _ (sym c.length_at.ensures ∙ c.in-Finished.is)
 
-pub finished-length-spec : {M : Type 1} → statement M
-finished-length-spec = tie.close (tie.spec (search rules) (search rules) returns returns-2)
+pub finished_length_spec : {M : Type 1} → statement M
+finished_length_spec = tie.close (tie.spec (search rules) (search rules) returns returns-2)

@@ -7,7 +7,7 @@ use Rattle.logbuffer.proofs.frame_descriptor.frame_at.Tie as tie
 
 returns : tie.Need-returns
 returns c =
-    frame_is _ _ _ _ _ c.frame-by.ensures (back32 _ _ _ c.before.before.to-i32.ensures c.before.before.before.length-word.ensures.0 c.before.before.before.length-word.ensures.1) c.before.frame-type.ensures
+    frame_is _ _ _ _ _ c.frame_by.ensures (back32 _ _ _ c.to_i32.ensures c.length_word.ensures.0 c.length_word.ensures.1) c.frame_type.ensures
 
-pub frame-at-spec : {M : Type 1} → statement M
-frame-at-spec = tie.close (tie.spec (search rules) (search rules) (search rules) (search rules) returns)
+pub frame_at_spec : {M : Type 1} → statement M
+frame_at_spec = tie.close (tie.spec (search rules) (search rules) (search rules) (search rules) returns)

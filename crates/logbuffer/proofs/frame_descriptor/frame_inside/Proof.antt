@@ -8,9 +8,9 @@ use Rattle.logbuffer.proofs.frame_descriptor.frame_inside.Tie as tie
 
 returns : tie.Need-returns
 returns c =
-    let a = c.before.before.before.before.before.args in
-    frame_is _ _ _ _ _ c.frame-by.ensures (back32 _ _ _ c.before.before.to-i32.ensures c.before.before.before.word4.ensures.0 c.before.before.before.word4.ensures.1)
-    (c.before.half.ensures.0 ∙ ap u16 (sym (drop-drop 6 a.at a.log.now)))
+    let a = c.args in
+    frame_is _ _ _ _ _ c.frame_by.ensures (back32 _ _ _ c.to_i32.ensures c.word4-word.ensures.0 c.word4-word.ensures.1)
+    (c.half.ensures.0 ∙ ap u16 (sym (drop-drop 6 a.at a.log.now)))
 
-pub frame-inside-spec : {M : Type 1} → statement M
-frame-inside-spec = tie.close (tie.spec (search rules) (search rules) (search rules) (search rules) (search rules) returns)
+pub frame_inside_spec : {M : Type 1} → statement M
+frame_inside_spec = tie.close (tie.spec (search rules) (search rules) (search rules) (search rules) (search rules) returns)

@@ -7,14 +7,14 @@ use Rattle.logbuffer.proofs.Signed.{word-by}
 use Rattle.logbuffer.proofs.frame_descriptor.frame_length.Statement.{statement}
 use Rattle.logbuffer.proofs.frame_descriptor.frame_length.Tie as tie
 
-returns : tie.Need-returns
-returns c = length-free _ c.if1.true
+returns : tie.Need-returns-then-length-eq0
+returns c = length-free _ c.if-length-eq0.true
 
-returns-2 : tie.Need-returns-2
-returns-2 c = ap (λ (b : ℕ). Writing (4294967296 - b)) (word-by _ c.before.before.word.ensures.0 c.before.before.before.ranges.length) ∙ length-writing _ (negative _ c.before.before.before.ranges.length c.if2.true)
+returns-2 : tie.Need-returns-then-length-lt0
+returns-2 c = ap (λ (b : ℕ). Writing (4294967296 - b)) (word-by _ c.word-bits.ensures.0 c.ranges.length) ∙ length-writing _ (negative _ c.ranges.length c.if-length-lt0.true)
 
-returns-3 : tie.Need-returns-3
-returns-3 c = ap Finished (word-by _ c.before.before.word.ensures.0 c.before.before.before.ranges.length) ∙ length-finished _ c.before.if1.false (not_negative _ c.before.before.before.ranges.length c.if2.false)
+returns-3 : tie.Need-returns
+returns-3 c = ap Finished (word-by _ c.word-bits.ensures.0 c.ranges.length) ∙ length-finished _ c.if-length-eq0.false (not_negative _ c.ranges.length c.if-length-lt0.false)
 
-pub frame-length-spec : {M : Type 1} → statement M
-frame-length-spec = tie.close (tie.spec (search rules) returns (search rules) returns-2 returns-3)
+pub frame_length_spec : {M : Type 1} → statement M
+frame_length_spec = tie.close (tie.spec (search rules) returns (search rules) returns-2 returns-3)

@@ -12,23 +12,23 @@ use Rattle.model.proofs.HeaderRows.{length-by}
 use Rattle.logbuffer.proofs.frame_descriptor.frame_length_at.Statement.{statement}
 use Rattle.logbuffer.proofs.frame_descriptor.frame_length_at.Tie as tie
 
-abbrev st : tie.After-first-rows → tie.Start
-st c = c.before.before.before.before
+abbrev st : tie.After-first_rows → tie.Start
+st c = c.before.before.before.before.before
 
-abbrev p : tie.After-first-rows → Place
-p c = c.before.before.place.result
+abbrev p : tie.After-first_rows → Place
+p c = c.place-p.result
 
-p-is : (c : tie.After-first-rows) → p c ≡ place_of (st c).args.rec (st c).args.partition (st c).args.offset
-p-is c = c.before.before.place.ensures.0 ∙ search rules
+p-is : (c : tie.After-first_rows) → p c ≡ place_of (st c).args.rec (st c).args.partition (st c).args.offset
+p-is c = c.place-p.ensures.0 ∙ search rules
 
-rows : (c : tie.After-first-rows)
+rows : (c : tie.After-first_rows)
     → first_rows (good_partition (p c).partition && good_offset (p c).offset (p c).read) (sound (p c).read (length (st c).args.log.now)) Pass ≡ c.first_rows.result
-rows c = ap (λ (g : Bool). first_rows g (sound (p c).read (length (st c).args.log.now)) Pass) (sym c.before.good-place.ensures) ∙ sym c.first_rows.ensures
+rows c = ap (λ (g : Bool). first_rows g (sound (p c).read (length (st c).args.log.now)) Pass) (sym c.good_place.ensures) ∙ sym c.first_rows.ensures
 
-place : (c : tie.After-first-rows) → c.first_rows.result ≡ Pass → Placed (p c).read (length (st c).args.log.now) (p c).partition (p c).offset
+place : (c : tie.After-first_rows) → c.first_rows.result ≡ Pass → Placed (p c).read (length (st c).args.log.now) (p c).partition (p c).offset
 place c h = passed-place (p c) (length (st c).args.log.now) (rows c ∙ h)
 
-by : (c : tie.After-first-rows) (x : Verdict) → c.first_rows.result ≡ x
+by : (c : tie.After-first_rows) (x : Verdict) → c.first_rows.result ≡ x
     → length_by (length_at (drop ((p c).partition * (p c).read.term + (p c).offset) (st c).args.log.now)) x
     ≡ length_call (st c).args.rec (st c).args.log.now (st c).args.partition (st c).args.offset
 by c x h =
@@ -36,24 +36,24 @@ by c x h =
     ap (length_by (length_at (drop ((p c).partition * (p c).read.term + (p c).offset) a.log.now))) (sym (rows c ∙ h))
     ∙ length-by a.rec a.log.now a.partition a.offset (p c) (p-is c)
 
-mul-length-at : tie.Need-overflow-mul-length-at
+mul-length-at : tie.Need-overflow_mul-p
 mul-length-at c =
-    let q = c.before.before.before in record { fits = omega (arith, (place q c.before.enum_told.given.1).inside, (st q).well-formed) }
+    let q = c in record { fits = omega (arith, (place c.before.before c.in-Pass.is).inside, (st c.before.before).well_formed) }
 
-add-length-at : tie.Need-overflow-add-length-at
+add-length-at : tie.Need-overflow_add-p
 add-length-at c =
-    let q = c.before.before.before.before in
-    let f = place q c.before.before.enum_told.given.1 in
-    record { fits = omega (arith, f.inside, f.below, (st q).well-formed) }
+    let q = c in
+    let f = place c.before.before.before c.in-Pass.is in
+    record { fits = omega (arith, f.inside, f.below, (st c.before.before.before).well_formed) }
 
-returns : tie.Need-returns
-returns c = by c.before.before.before (Refuse c.before.e.given.0.0) c.before.e.given.1
+returns : tie.Need-returns-in-Refuse
+returns c = by c.before (Refuse c.in-Refuse.e) c.in-Refuse.is
 
-returns-2 : tie.Need-returns-2
-returns-2 c = ap Length c.length_at.ensures ∙ by c.before.before.before.before.before Pass c.before.before.before.enum_told.given.1
+returns-2 : tie.Need-returns-in-Pass
+returns-2 c = ap Length c.length_at.ensures ∙ by c.before.before.before.before Pass c.in-Pass.is
 
-pub frame-length-at-spec : {M : Type 1} → statement M
-frame-length-at-spec =
+pub frame_length_at_spec : {M : Type 1} → statement M
+frame_length_at_spec =
     tie.close
     (tie.spec
     (search rules)

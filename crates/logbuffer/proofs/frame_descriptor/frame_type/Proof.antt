@@ -4,17 +4,17 @@ use Rattle.model.specs.Bytes.{u16}
 use Rattle.logbuffer.proofs.frame_descriptor.frame_type.Statement.{statement}
 use Rattle.logbuffer.proofs.frame_descriptor.frame_type.Tie as tie
 
-returns : tie.Need-returns
-returns c = let a = c.before.before.before.before.args in c.half.ensures.0 ∙ ap u16 (sym (drop-drop 6 a.at a.log.now))
+returns : tie.Need-returns-then-at-n
+returns c = let a = c.args in c.half.ensures.0 ∙ ap u16 (sym (drop-drop 6 a.at a.log.now))
 
-returns-2 : tie.Need-returns-2
+returns-2 : tie.Need-returns
 unfolding u16
 returns-2 c =
-    let s = drop c.before.before.before.before.args.at c.before.before.before.before.args.log.now in
+    let s = drop c.args.at c.args.log.now in
     omega (arith, get_or-drop 6 s 0 0, get_or-drop 6 s 1 0)
 
-pub frame-type-spec : {M : Type 1} → statement M
-frame-type-spec =
+pub frame_type_spec : {M : Type 1} → statement M
+frame_type_spec =
     tie.close
     (tie.spec
     (search rules)

@@ -4,12 +4,12 @@ use Rattle.model.specs.Bytes.{u32}
 use Rattle.logbuffer.proofs.frame_descriptor.length_word.Statement.{statement}
 use Rattle.logbuffer.proofs.frame_descriptor.length_word.Tie as tie
 
-returns-2 : tie.Need-returns-2
+returns-2 : tie.Need-returns
 unfolding u32
 returns-2 c = omega arith
 
-pub length-word-spec : {M : Type 1} → statement M
-length-word-spec =
+pub length_word_spec : {M : Type 1} → statement M
+length_word_spec =
     tie.close
     (tie.spec
     (search rules)

@@ -4,18 +4,18 @@ use Rattle.model.specs.Bytes.{u32}
 use Rattle.logbuffer.proofs.frame_descriptor.term_id_at.Statement.{statement}
 use Rattle.logbuffer.proofs.frame_descriptor.term_id_at.Tie as tie
 
-returns : tie.Need-returns
-returns c = let a = c.before.before.before.before.args in c.word4.ensures.0 ∙ ap u32 (sym (drop-drop 20 a.at a.log.now))
+returns : tie.Need-returns-then-at-n
+returns c = let a = c.args in c.word4.ensures.0 ∙ ap u32 (sym (drop-drop 20 a.at a.log.now))
 
-returns-2 : tie.Need-returns-2
+returns-2 : tie.Need-returns
 unfolding u32
 returns-2 c =
-    let a = c.before.before.before.before.before.before.args in
+    let a = c.args in
     let s = drop a.at a.log.now in
     omega (arith, get_or-drop 20 s 0 0, get_or-drop 20 s 1 0, get_or-drop 20 s 2 0, get_or-drop 20 s 3 0)
 
-pub term-id-at-spec : {M : Type 1} → statement M
-term-id-at-spec =
+pub term_id_at_spec : {M : Type 1} → statement M
+term_id_at_spec =
     tie.close
     (tie.spec
     (search rules)

@@ -3,5 +3,5 @@ use Rattle.model.proofs.FrameLaws.{refusal-short, refusal-long}
 use Rattle.logbuffer.proofs.frame_descriptor.unsound_frame.Statement.{statement}
 use Rattle.logbuffer.proofs.frame_descriptor.unsound_frame.Tie as tie
 
-pub unsound-frame-spec : {M : Type 1} → statement M
-unsound-frame-spec = tie.close (tie.spec (λ c. refusal-short _ _ c.if1.true) (λ c. refusal-long _ _ c.if1.false))
+pub unsound_frame_spec : {M : Type 1} → statement M
+unsound_frame_spec = tie.close (tie.spec (λ c. refusal-short _ _ c.if-length-lt-HEADER_LENGTH.true) (λ c. refusal-long _ _ c.if-length-lt-HEADER_LENGTH.false))

@@ -5,11 +5,11 @@ use Rattle.logbuffer.proofs.Past.{sum-asks, aligned-asks, aligned-lands}
 use Rattle.logbuffer.proofs.header.aligned_length.Statement.{statement}
 use Rattle.logbuffer.proofs.header.aligned_length.Tie as tie
 
-cast-result : tie.Need-overflow-cast-result
+cast-result : tie.Need-overflow_cast-result
 cast-result c = subst (SFits w64) (sym (to_z-of_z c.ranges.length)) (sfits_widen tt c.ranges.length)
 
-pub aligned-length-spec : {M : Type 1} → statement M
-aligned-length-spec =
+pub aligned_length_spec : {M : Type 1} → statement M
+aligned_length_spec =
     tie.close
     (tie.spec
     cast-result

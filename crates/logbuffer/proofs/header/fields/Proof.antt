@@ -15,31 +15,31 @@ use Rattle.model.proofs.HeaderRows.{header-by}
 use Rattle.logbuffer.proofs.header.fields.Statement.{statement}
 use Rattle.logbuffer.proofs.header.fields.Tie as tie
 
-abbrev st : tie.After-first-rows → tie.Start
-st c = c.before.before.before.before
+abbrev st : tie.After-first_rows → tie.Start
+st c = c.before.before.before.before.before
 
-abbrev p : tie.After-first-rows → Place
-p c = c.before.before.place.result
+abbrev p : tie.After-first_rows → Place
+p c = c.place-p.result
 
-p-is : (c : tie.After-first-rows) → p c ≡ place_of (st c).args.rec (st c).args.partition (st c).args.offset
-p-is c = c.before.before.place.ensures.0 ∙ search rules
+p-is : (c : tie.After-first_rows) → p c ≡ place_of (st c).args.rec (st c).args.partition (st c).args.offset
+p-is c = c.place-p.ensures.0 ∙ search rules
 
-rows : (c : tie.After-first-rows)
+rows : (c : tie.After-first_rows)
     → first_rows (good_partition (p c).partition && good_offset (p c).offset (p c).read) (sound (p c).read (length (st c).args.log.now)) Pass ≡ c.first_rows.result
-rows c = ap (λ (g : Bool). first_rows g (sound (p c).read (length (st c).args.log.now)) Pass) (sym c.before.good-place.ensures) ∙ sym c.first_rows.ensures
+rows c = ap (λ (g : Bool). first_rows g (sound (p c).read (length (st c).args.log.now)) Pass) (sym c.good_place.ensures) ∙ sym c.first_rows.ensures
 
-place : (c : tie.After-first-rows) → c.first_rows.result ≡ Pass → Placed (p c).read (length (st c).args.log.now) (p c).partition (p c).offset
+place : (c : tie.After-first_rows) → c.first_rows.result ≡ Pass → Placed (p c).read (length (st c).args.log.now) (p c).partition (p c).offset
 place c h = passed-place (p c) (length (st c).args.log.now) (rows c ∙ h)
 
-one_bit : (c : tie.After-first-rows) → c.first_rows.result ≡ Pass → ones (p c).read.term ≡ 1
+one_bit : (c : tie.After-first_rows) → c.first_rows.result ≡ Pass → ones (p c).read.term ≡ 1
 one_bit c h =
     let g = rows_pass (good_partition (p c).partition && good_offset (p c).offset (p c).read) (sound (p c).read (length (st c).args.log.now)) (rows c ∙ h) in (sound-true _ _ g.1).one_bit
 
 -- an id has 32 bits
-initial-in : (c : tie.After-first-rows) → (p c).read.initial < 4294967296
+initial-in : (c : tie.After-first_rows) → (p c).read.initial < 4294967296
 initial-in c = let r = (st c).args.rec in subst (λ (x : Place). x.read.initial < 4294967296) (sym (p-is c)) (initial-small r (active r))
 
-by : (c : tie.After-first-rows) (x : Verdict) → c.first_rows.result ≡ x
+by : (c : tie.After-first_rows) (x : Verdict) → c.first_rows.result ≡ x
     → header_by (fields_of (p c).read (p c).offset (header_at (drop ((p c).partition * (p c).read.term + (p c).offset) (st c).args.log.now))) x
     ≡ header_call (st c).args.rec (st c).args.log.now (st c).args.partition (st c).args.offset
 by c x h =
@@ -47,30 +47,30 @@ by c x h =
     ap (header_by (fields_of (p c).read (p c).offset (header_at (drop ((p c).partition * (p c).read.term + (p c).offset) a.log.now)))) (sym (rows c ∙ h))
     ∙ header-by a.rec a.log.now a.partition a.offset (p c) (p-is c)
 
-mul-index : tie.Need-overflow-mul-index
+mul-index : tie.Need-overflow_mul-index
 mul-index c =
-    let q = c.before.before.before in record { fits = omega (arith, (place q c.before.enum_told.given.1).inside, (st q).well-formed) }
+    let q = c in record { fits = omega (arith, (place c.before.before c.in-Pass.is).inside, (st c.before.before).well_formed) }
 
-add-index : tie.Need-overflow-add-index
+add-index : tie.Need-overflow_add-index
 add-index c =
-    let q = c.before.before.before.before in
-    let f = place q c.before.before.enum_told.given.1 in
-    record { fits = omega (arith, f.inside, f.below, (st q).well-formed) }
+    let q = c in
+    let f = place c.before.before.before c.in-Pass.is in
+    record { fits = omega (arith, f.inside, f.below, (st c.before.before.before).well_formed) }
 
-fields-at-requires : tie.Need-fields-at-requires
+fields-at-requires : tie.Need-fields_at-requires
 fields-at-requires c κs =
-    let q = c.before.before.before.before in
-    let f = place q c.before.before.enum_told.given.1 in
-    (omega (arith, f.inside, f.header), (initial-in q, (f.term-high, (q.before.before.place.ensures.1.1, one_bit q c.before.before.enum_told.given.1))))
+    let q = c in
+    let f = place c.before.before.before.before c.in-Pass.is in
+    (omega (arith, f.inside, f.header), (initial-in c.before.before.before.before, (f.term-high, (q.place-p.ensures.1.1, one_bit c.before.before.before.before c.in-Pass.is))))
 
-returns : tie.Need-returns
-returns c = by c.before.before.before (Refuse c.before.e.given.0.0) c.before.e.given.1
+returns : tie.Need-returns-in-Refuse
+returns c = by c.before (Refuse c.in-Refuse.e) c.in-Refuse.is
 
-returns-2 : tie.Need-returns-2
-returns-2 c = ap Fields c.fields_at.ensures ∙ by c.before.before.before.before.before Pass c.before.before.before.enum_told.given.1
+returns-2 : tie.Need-returns-in-Pass
+returns-2 c = ap Fields c.fields_at.ensures ∙ by c.before.before.before.before.before Pass c.in-Pass.is
 
-pub fields-spec : {M : Type 1} → statement M
-fields-spec =
+pub fields_spec : {M : Type 1} → statement M
+fields_spec =
     tie.close
     (tie.spec
     (search rules)

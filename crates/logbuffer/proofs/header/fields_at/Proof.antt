@@ -10,33 +10,33 @@ use Rattle.logbuffer.proofs.header.fields_at.Statement.{statement}
 use Rattle.logbuffer.proofs.header.fields_at.Tie as tie
 
 -- the bits to shift are those of the term
-term_is : (c : tie.After-position-bits-to-shift) → 2 ^ c.position-bits-to-shift.result ≡ c.before.before.before.before.before.before.args.v.term
-term_is c = let s = c.before.before.before.before.before.before in ap (λ (b : ℕ). 2 ^ b) c.position-bits-to-shift.ensures ∙ shifted s.args.v.term s.requires.1.1.0 s.requires.1.1.1.1
+term_is : (c : tie.After-position_bits_to_shift) → 2 ^ c.position_bits_to_shift.result ≡ c.args.v.term
+term_is c = let s = c in ap (λ (b : ℕ). 2 ^ b) c.position_bits_to_shift.ensures ∙ shifted s.args.v.term s.requires.1.1.0 s.requires.1.1.1.1
 
-position-past-requires : tie.Need-position-past-requires
+position-past-requires : tie.Need-position_past-position-requires
 position-past-requires c κs =
-    let s = c.before.before.before.before.before.before in
-    (omega arith, (s.requires.1.0, (omega (arith, bits-high s.args.v.term s.requires.1.1.0 s.requires.1.1.1.1, c.position-bits-to-shift.ensures), s.requires.1.1.1.0)))
+    let s = c in
+    (omega arith, (s.requires.1.0, (omega (arith, bits-high s.args.v.term s.requires.1.1.0 s.requires.1.1.1.1, c.position_bits_to_shift.ensures), s.requires.1.1.1.0)))
 
 returns : tie.Need-returns
 returns c =
-    let a = c.before.before.before.before.before.before.before.before.before.before.before.before.before.before.before.before.before.before.before.args in
-    let t = c.before.before.before.before.before.before.before.before.before.before.before.before.before.before.before.word42.ensures.0 ∙ ap u32 (sym (drop-drop 20 a.index a.log.now)) in
-    let n = (field32 c.before.before.before.before.before.before.before.before.before.before.before.before.before.before.before.before.to-i32.result c.before.before.before.before.before.before.before.before.before.before.before.before.before.before.before.before.before.word4.result _ c.before.before.before.before.before.before.before.before.before.before.before.before.before.before.before.before.to-i32.ensures c.before.before.before.before.before.before.before.before.before.before.before.before.before.before.before.before.before.word4.ensures.1 c.before.before.before.before.before.before.before.before.before.before.before.before.before.before.before.before.before.word4.ensures.0) in
+    let a = c.args in
+    let t = c.word4-term_id.ensures.0 ∙ ap u32 (sym (drop-drop 20 a.index a.log.now)) in
+    let n = (field32 c.to_i32-frame_length.result c.word4.result _ c.to_i32-frame_length.ensures c.word4.ensures.1 c.word4.ensures.0) in
     same-fields a.v a.at (header_at (drop a.index a.log.now)) _ _ _ _ _ _ _ _ _ _
     n
     (sym (get_or-drop a.index a.log.now 4 0))
     (sym (get_or-drop a.index a.log.now 5 0))
-    (c.before.before.before.before.before.before.before.before.before.half.ensures.0 ∙ ap u16 (sym (drop-drop 6 a.index a.log.now)))
-    (field32 c.before.before.before.before.before.before.before.to-i322.result c.before.before.before.before.before.before.before.before.word43.result _ c.before.before.before.before.before.before.before.to-i322.ensures c.before.before.before.before.before.before.before.before.word43.ensures.1 (c.before.before.before.before.before.before.before.before.word43.ensures.0 ∙ ap u32 (sym (drop-drop 8 a.index a.log.now))))
-    (field32 c.before.before.before.before.before.to-i323.result c.before.before.before.before.before.before.word44.result _ c.before.before.before.before.before.to-i323.ensures c.before.before.before.before.before.before.word44.ensures.1 (c.before.before.before.before.before.before.word44.ensures.0 ∙ ap u32 (sym (drop-drop 12 a.index a.log.now))))
-    (field32 c.before.before.before.to-i324.result c.before.before.before.before.word45.result _ c.before.before.before.to-i324.ensures c.before.before.before.before.word45.ensures.1 (c.before.before.before.before.word45.ensures.0 ∙ ap u32 (sym (drop-drop 16 a.index a.log.now))))
-    (field32 c.before.before.to-i325.result c.before.before.before.before.before.before.before.before.before.before.before.before.before.before.before.word42.result _ c.before.before.to-i325.ensures c.before.before.before.before.before.before.before.before.before.before.before.before.before.before.before.word42.ensures.1 (c.before.before.before.before.before.before.before.before.before.before.before.before.before.before.before.word42.ensures.0 ∙ ap u32 (sym (drop-drop 20 a.index a.log.now))))
-    (field64 c.to-i64.result c.before.long8.result _ c.to-i64.ensures (record { fits = c.before.long8.type-inv }) (c.before.long8.ensures ∙ ap u64 (sym (drop-drop 24 a.index a.log.now))))
-    (past-field a.v a.at c.before.before.before.before.before.before.before.before.before.before.before.before.before.before.before.word42.result (u32 (drop 20 (drop a.index a.log.now))) (u32 (drop a.index a.log.now)) (to_z w32 (of_z w32 c.before.before.before.before.before.before.before.before.before.before.before.before.before.before.before.before.to-i32.result)) c.before.before.before.before.before.before.before.before.before.before.before.before.position_past.result (c.before.before.before.before.before.before.before.before.before.before.before.before.position_past.ensures ∙ ap (λ (t : ℕ). position_of c.before.before.before.before.before.before.before.before.before.before.before.before.before.before.before.word42.result a.v.initial t a.at +ℤ alignℤ (to_z w32 (of_z w32 c.before.before.before.before.before.before.before.before.before.before.before.before.before.before.before.before.to-i32.result))) (term_is c.before.before.before.before.before.before.before.before.before.before.before.before.before)) (record { sfits = c.before.before.before.before.before.before.before.before.before.before.before.before.position_past.type-inv }) t n)
+    (c.half.ensures.0 ∙ ap u16 (sym (drop-drop 6 a.index a.log.now)))
+    (field32 c.to_i32.result c.word4-2.result _ c.to_i32.ensures c.word4-2.ensures.1 (c.word4-2.ensures.0 ∙ ap u32 (sym (drop-drop 8 a.index a.log.now))))
+    (field32 c.to_i32-2.result c.word4-3.result _ c.to_i32-2.ensures c.word4-3.ensures.1 (c.word4-3.ensures.0 ∙ ap u32 (sym (drop-drop 12 a.index a.log.now))))
+    (field32 c.to_i32-3.result c.word4-4.result _ c.to_i32-3.ensures c.word4-4.ensures.1 (c.word4-4.ensures.0 ∙ ap u32 (sym (drop-drop 16 a.index a.log.now))))
+    (field32 c.to_i32-4.result c.word4-term_id.result _ c.to_i32-4.ensures c.word4-term_id.ensures.1 (c.word4-term_id.ensures.0 ∙ ap u32 (sym (drop-drop 20 a.index a.log.now))))
+    (field64 c.to_i64.result c.long8.result _ c.to_i64.ensures (record { fits = c.long8.type_inv }) (c.long8.ensures ∙ ap u64 (sym (drop-drop 24 a.index a.log.now))))
+    (past-field a.v a.at c.word4-term_id.result (u32 (drop 20 (drop a.index a.log.now))) (u32 (drop a.index a.log.now)) (to_z w32 (of_z w32 c.to_i32-frame_length.result)) c.position_past-position.result (c.position_past-position.ensures ∙ ap (λ (t : ℕ). position_of c.word4-term_id.result a.v.initial t a.at +ℤ alignℤ (to_z w32 (of_z w32 c.to_i32-frame_length.result))) (term_is c.before.before.before.before.before.before.before.before.before.before.before.before.before)) (record { sfits = c.position_past-position.type_inv }) t n)
 
-pub fields-at-spec : {M : Type 1} → statement M
-fields-at-spec =
+pub fields_at_spec : {M : Type 1} → statement M
+fields_at_spec =
     tie.close
     (tie.spec
     (search rules)

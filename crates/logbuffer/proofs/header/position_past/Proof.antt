@@ -7,7 +7,7 @@ use Rattle.logbuffer.proofs.Past.{here-asks, past-asks, past-lands}
 use Rattle.logbuffer.proofs.header.position_past.Statement.{statement}
 use Rattle.logbuffer.proofs.header.position_past.Tie as tie
 
-module _ (c : tie.After-term-begin) where
+module _ (c : tie.After-term_begin-begin) where
   abbrev s : tie.Start
   s = c.before
 
@@ -17,21 +17,21 @@ module _ (c : tie.After-term-begin) where
   count_fits : SFits w32 count
   count_fits = let l : id_minus s.args.id s.args.initial < 4294967296 = omega arith in sfits_to_z {n = id_minus s.args.id s.args.initial} (record { fits = l })
 
-add-result : tie.Need-overflow-add-result
-add-result c = here-asks (count c) c.term-begin.result (s c).args.bits (s c).args.at (s c).args.length (count_fits c) (omega arith) c.term-begin.ensures (omega arith) (s c).ranges.length
+add-result : tie.Need-overflow_add-result
+add-result c = here-asks (count c) c.term_begin-begin.result (s c).args.bits (s c).args.at (s c).args.length (count_fits c) (omega arith) c.term_begin-begin.ensures (omega arith) (s c).ranges.length
 
-add-result-2 : tie.Need-overflow-add-result-2
+add-result-2 : tie.Need-overflow_add-result-2
 add-result-2 c =
-    let t = c.before in
-    past-asks (count t) t.term-begin.result (s t).args.bits (s t).args.at (s t).args.length (count_fits t) (omega arith) t.term-begin.ensures (omega arith) (s t).ranges.length c.aligned-length.result (c.aligned-length.ensures ∙ ap alignℤ (to_z-of_z (s t).ranges.length))
+    let t = c in
+    past-asks (count c.before) t.term_begin-begin.result (s c.before).args.bits (s c.before).args.at (s c.before).args.length (count_fits c.before) (omega arith) t.term_begin-begin.ensures (omega arith) (s c.before).ranges.length c.aligned_length.result (c.aligned_length.ensures ∙ ap alignℤ (to_z-of_z (s c.before).ranges.length))
 
 returns : tie.Need-returns
 returns c =
-    let t = c.before in
-    past-lands (count t) t.term-begin.result (s t).args.bits (s t).args.at (s t).args.length (count_fits t) (omega arith) t.term-begin.ensures (omega arith) (s t).ranges.length c.aligned-length.result (c.aligned-length.ensures ∙ ap alignℤ (to_z-of_z (s t).ranges.length))
+    let t = c in
+    past-lands (count c.before) t.term_begin-begin.result (s c.before).args.bits (s c.before).args.at (s c.before).args.length (count_fits c.before) (omega arith) t.term_begin-begin.ensures (omega arith) (s c.before).ranges.length c.aligned_length.result (c.aligned_length.ensures ∙ ap alignℤ (to_z-of_z (s c.before).ranges.length))
 
-pub position-past-spec : {M : Type 1} → statement M
-position-past-spec =
+pub position_past_spec : {M : Type 1} → statement M
+position_past_spec =
     tie.close
     (tie.spec
     (search rules)

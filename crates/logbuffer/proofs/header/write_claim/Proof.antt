@@ -7,11 +7,11 @@ use Rattle.logbuffer.proofs.header.write_claim.Tie as tie
 
 returns : tie.Need-returns
 unfolding claimed
-returns c = let s = c.before.before.before.before.before.before.args in
-    c.before.before.write-header.ensures ∙ ap (λ (x : ℕ). splice s.log.now (s.base + s.v.offset) (header s.v s.v.offset x 192 1)) c.before.before.before.negated.ensures
+returns c = let s = c.args in
+    c.write_header.ensures ∙ ap (λ (x : ℕ). splice s.log.now (s.base + s.v.offset) (header s.v s.v.offset x 192 1)) c.negated.ensures
 
-pub write-claim-spec : {M : Type 1} → statement M
-write-claim-spec =
+pub write_claim_spec : {M : Type 1} → statement M
+write_claim_spec =
     tie.close
     (tie.spec
     (search rules)

@@ -5,12 +5,12 @@ use Rattle.logbuffer.proofs.header.write_fragment.Statement.{statement}
 use Rattle.logbuffer.proofs.header.write_fragment.Tie as tie
 
 returns : tie.Need-returns
-returns c = let s = c.before.before.before.before.before.before.before.before.before.before.before.before.before.before.before.before.before.before.before in
-    fragment-by s.args.log.now _ _ _ _ s.args.at s.args.v s.args.offset c.before.before.before.before.before.before.before.before.before.before.before.before.before.before.before.negated.result s.args.flags s.args.reserved s.args.body.now (omega (arith, s.requires.0))
-    c.before.before.before.before.before.before.before.before.before.before.before.before.before.before.write-header.ensures c.before.before.before.before.before.before.before.before.before.before.put8.ensures c.before.before.before.before.before.before.copy.ensures c.before.before.put4.ensures
+returns c = let s = c in
+    fragment-by s.args.log.now _ _ _ _ s.args.at s.args.v s.args.offset c.negated.result s.args.flags s.args.reserved s.args.body.now (omega (arith, s.requires.0))
+    c.write_header.ensures c.put8.ensures c.copy.ensures c.put4.ensures
 
-pub write-fragment-spec : {M : Type 1} → statement M
-write-fragment-spec =
+pub write_fragment_spec : {M : Type 1} → statement M
+write_fragment_spec =
     tie.close
     (tie.spec
     (search rules)

@@ -5,12 +5,12 @@ use Rattle.logbuffer.proofs.header.write_header.Statement.{statement}
 use Rattle.logbuffer.proofs.header.write_header.Tie as tie
 
 returns : tie.Need-returns
-returns c = let s = c.before.before.before.before.before.before.before.before.before.before.before.before.before.before.before.before.before.before.before.before.before.before.before.before.before in
+returns c = let s = c in
     header-by s.args.log.now _ _ _ _ _ _ s.args.at s.args.v s.args.offset s.args.len s.args.flags s.args.kind (omega arith) (omega arith) (omega arith)
-    c.before.before.before.before.before.before.before.before.before.before.before.before.before.before.before.before.before.before.before.before.before.before.put4.ensures c.before.before.before.before.before.before.before.before.before.before.before.before.before.before.before.before.before.before.put42.ensures c.before.before.before.before.before.before.before.before.before.before.before.before.before.before.put43.ensures c.before.before.before.before.before.before.before.before.before.before.put44.ensures c.before.before.before.before.before.before.put45.ensures c.before.before.put46.ensures
+    c.put4.ensures c.put4-2.ensures c.put4-3.ensures c.put4-4.ensures c.put4-5.ensures c.put4-6.ensures
 
-pub write-header-spec : {M : Type 1} → statement M
-write-header-spec =
+pub write_header_spec : {M : Type 1} → statement M
+write_header_spec =
     tie.close
     (tie.spec
     (search rules)

@@ -8,42 +8,42 @@ use Rattle.logbuffer.proofs.Past.{here-asks, here-lands}
 use Rattle.logbuffer.proofs.log_buffer_descriptor.compute_position.Statement.{statement}
 use Rattle.logbuffer.proofs.log_buffer_descriptor.compute_position.Tie as tie
 
-returns : tie.Need-returns
+returns : tie.Need-returns-then-bits-gt30
 unfolding compute_position
-returns c = simp (lt-ltb 30 c.before.args.bits c.if1.true)
+returns c = simp (lt-ltb 30 c.args.bits c.if-bits-gt30.true)
 
-module _ (c : tie.After-term-begin) where
+module _ (c : tie.After-term_begin-begin) where
   abbrev s : tie.Start
   s = c.before.before.before.before
 
   abbrev count : ℤ
-  count = to_z w32 (id_minus (word s.args.term-id) (word s.args.initial))
+  count = to_z w32 (id_minus (word s.args.term_id) (word s.args.initial))
 
   count_fits : SFits w32 count
-  count_fits = let l : id_minus (word s.args.term-id) (word s.args.initial) < 4294967296 = omega arith in sfits_to_z {n = id_minus (word s.args.term-id) (word s.args.initial)} (record { fits = l })
+  count_fits = let l : id_minus (word s.args.term_id) (word s.args.initial) < 4294967296 = omega arith in sfits_to_z {n = id_minus (word s.args.term_id) (word s.args.initial)} (record { fits = l })
 
-  begins : c.term-begin.result ≡ count *ℤ pos (2 ^ s.args.bits)
+  begins : c.term_begin-begin.result ≡ count *ℤ pos (2 ^ s.args.bits)
   begins =
-      c.term-begin.ensures
-      ∙ ap₂ (λ (i j : ℕ). to_z w32 (id_minus i j) *ℤ pos (2 ^ s.args.bits)) (c.before.before.word.ensures.0 ∙ ap word (to_z-of_z s.fits.term-id)) (c.before.word2.ensures.0 ∙ ap word (to_z-of_z s.fits.initial))
+      c.term_begin-begin.ensures
+      ∙ ap₂ (λ (i j : ℕ). to_z w32 (id_minus i j) *ℤ pos (2 ^ s.args.bits)) (c.word.ensures.0 ∙ ap word (to_z-of_z s.ranges.term_id)) (c.word-2.ensures.0 ∙ ap word (to_z-of_z s.ranges.initial))
 
-add-t11 : tie.Need-overflow-add-t11
-add-t11 c = here-asks (count c) c.term-begin.result (s c).args.bits (s c).args.offset (pos 0) (count_fits c) c.before.before.before.if1.false (begins c) (s c).ranges.offset.fits (record { sfits = omega arith })
+add-t11 : tie.Need-overflow_add-result
+add-t11 c = here-asks (count c) c.term_begin-begin.result (s c).args.bits (s c).args.offset (pos 0) (count_fits c) c.if-bits-gt30.false (begins c) (s c).ranges.offset.fits (record { sfits = omega arith })
 
-returns-2 : tie.Need-returns-2
+returns-2 : tie.Need-returns
 unfolding compute_position
 returns-2 c =
-    simp (le-ltb 30 (s c).args.bits c.before.before.before.if1.false)
-    (ap Position (here-lands (count c) c.term-begin.result (s c).args.bits (s c).args.offset (pos 0) (count_fits c) c.before.before.before.if1.false (begins c) (s c).ranges.offset.fits (record { sfits = omega arith })))
+    simp (le-ltb 30 (s c).args.bits c.if-bits-gt30.false)
+    (ap Position (here-lands (count c) c.term_begin-begin.result (s c).args.bits (s c).args.offset (pos 0) (count_fits c) c.if-bits-gt30.false (begins c) (s c).ranges.offset.fits (record { sfits = omega arith })))
 
-pub compute-position-spec : {M : Type 1} → statement M
-compute-position-spec =
+pub compute_position_spec : {M : Type 1} → statement M
+compute_position_spec =
     tie.close
     (tie.spec
     returns
     (search rules)
     (search rules)
-    (λ c κs. (c.before.word.ensures.1, (c.word2.ensures.1, c.before.before.if1.false)))
+    (λ c κs. (c.word.ensures.1, (c.word-2.ensures.1, c.if-bits-gt30.false)))
     (search rules)
     add-t11
     returns-2)

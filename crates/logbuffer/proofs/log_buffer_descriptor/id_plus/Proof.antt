@@ -4,7 +4,7 @@ use Rattle.logbuffer.proofs.log_buffer_descriptor.id_plus.Statement.{statement}
 use Rattle.logbuffer.proofs.log_buffer_descriptor.id_plus.Tie as tie
 
 returns : tie.Need-returns
-returns c = omega (arith, c.wrapping-add-u32.ensures, c.wrapping-add-u32.type-inv)
+returns c = omega (arith, c.wrapping_add_u32.ensures, c.wrapping_add_u32.type_inv)
 
-pub id-plus-spec : {M : Type 1} → statement M
-id-plus-spec = tie.close (tie.spec (search rules) returns)
+pub id_plus_spec : {M : Type 1} → statement M
+id_plus_spec = tie.close (tie.spec (search rules) returns)

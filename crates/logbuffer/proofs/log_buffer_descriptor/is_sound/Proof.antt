@@ -5,14 +5,14 @@ use Rattle.model.proofs.SoundRecord.{sound-length, unsound-length, sound-record-
 use Rattle.logbuffer.proofs.log_buffer_descriptor.is_sound.Statement.{statement}
 use Rattle.logbuffer.proofs.log_buffer_descriptor.is_sound.Tie as tie
 
-returns : tie.Need-returns
-returns c = unsound-length _ _ (sym c.before.is-sound-record.ensures ∙ not-true _ c.if1.true)
+returns : tie.Need-returns-then-not-is_sound_record
+returns c = unsound-length _ _ (sym c.is_sound_record.ensures ∙ not-true _ c.if-not-is_sound_record.true-raw)
 
-mul-result : tie.Need-overflow-mul-result
-mul-result c = omega (arith, sound-record-true _ (sym c.before.before.is-sound-record.ensures ∙ not-false _ c.before.if1.false))
+mul-result : tie.Need-overflow_mul-result
+mul-result c = omega (arith, sound-record-true _ (sym c.is_sound_record.ensures ∙ not-false _ c.if-not-is_sound_record.false-raw))
 
-returns-2 : tie.Need-returns-2
-returns-2 c = sound-length _ _ (sym c.before.before.is-sound-record.ensures ∙ not-false _ c.before.if1.false)
+returns-2 : tie.Need-returns
+returns-2 c = sound-length _ _ (sym c.is_sound_record.ensures ∙ not-false _ c.if-not-is_sound_record.false-raw)
 
-pub is-sound-spec : {M : Type 1} → statement M
-is-sound-spec = tie.close (tie.spec (search rules) returns mul-result returns-2)
+pub is_sound_spec : {M : Type 1} → statement M
+is_sound_spec = tie.close (tie.spec (search rules) returns mul-result returns-2)

@@ -8,28 +8,28 @@ use Rattle.model.proofs.Rotate.{next-set, next-kept}
 use Rattle.logbuffer.proofs.log_buffer_descriptor.next_tail.Statement.{statement}
 use Rattle.logbuffer.proofs.log_buffer_descriptor.next_tail.Tie as tie
 
-cast-id-plus : tie.Need-overflow-cast-id-plus
-cast-id-plus c = record { fits = subst (λ (x : Reading). x.id < 4294967296) (sym c.before.read.ensures) (id-small _ _) }
+cast-id-plus : tie.Need-overflow_cast-v
+cast-id-plus c = record { fits = subst (λ (x : Reading). x.id < 4294967296) (sym c.read-v.ensures) (id-small _ _) }
 
 -- two terms after the next partition's id
-two-on : (c : tie.After-id-plus) → (let a = c.before.before.before.args in c.id-plus.result ≡ id_plus (reading_of a.rec ((a.count + 1) % 3)).id 2)
-two-on c = c.id-plus.ensures ∙ ap (λ (x : Reading). id_plus x.id 2) c.before.before.read.ensures
+two-on : (c : tie.After-id_plus) → (let a = c.args in c.id_plus.result ≡ id_plus (reading_of a.rec ((a.count + 1) % 3)).id 2)
+two-on c = c.id_plus.ensures ∙ ap (λ (x : Reading). id_plus x.id 2) c.read-v.ensures
 
-returns : tie.Need-returns
+returns : tie.Need-returns-then-id_plus-id
 returns c =
-    let a = c.before.before.before.before.before.before.before.args in
-    c.with-mark.ensures
+    let a = c.args in
+    c.with_mark.ensures
     ∙ ap (λ (x : LogRecord). with_mark x ((a.count + 1) % 3) false)
-    (c.before.with_tail.ensures ∙ ap (λ (i : ℕ). with_tail a.rec ((a.count + 1) % 3) i 0) c.before.before.id-plus2.ensures)
-    ∙ next-set a.rec a.count a.id (sym (two-on c.before.before.before.before) ∙ c.before.before.before.if1.true)
+    (c.with_tail-next.ensures ∙ ap (λ (i : ℕ). with_tail a.rec ((a.count + 1) % 3) i 0) c.id_plus-then-id_plus-id.ensures)
+    ∙ next-set a.rec a.count a.id (sym (two-on c.before.before.before.before) ∙ c.if-id_plus-id.true)
 
-returns-2 : tie.Need-returns-2
+returns-2 : tie.Need-returns
 returns-2 c =
-    let a = c.before.before.before.before.before.args in
-    c.with-mark2.ensures ∙ next-kept a.rec a.count a.id (λ h. c.before.if1.false (two-on c.before.before ∙ h))
+    let a = c.args in
+    c.with_mark-2.ensures ∙ next-kept a.rec a.count a.id (λ h. c.if-id_plus-id.false (two-on c.before.before ∙ h))
 
-pub next-tail-spec : {M : Type 1} → statement M
-next-tail-spec =
+pub next_tail_spec : {M : Type 1} → statement M
+next_tail_spec =
     tie.close
     (tie.spec
     (search rules)

@@ -5,11 +5,11 @@ use Rattle.logbuffer.proofs.Signed.{masked, masked-asks}
 use Rattle.logbuffer.proofs.log_buffer_descriptor.offset_bits.Statement.{statement}
 use Rattle.logbuffer.proofs.log_buffer_descriptor.offset_bits.Tie as tie
 
-cast-result : tie.Need-overflow-cast-result
-cast-result c = masked-asks w64 (of_z w64 c.args.raw-tail) tt
+cast-result : tie.Need-overflow_cast-result
+cast-result c = masked-asks w64 (of_z w64 c.args.raw_tail) tt
 
 returns : tie.Need-returns
-returns c = ap nat_abs (masked (of_z w64 c.args.raw-tail)) ∙ and_mask (of_z w64 c.args.raw-tail) 32
+returns c = ap nat_abs (masked (of_z w64 c.args.raw_tail)) ∙ and_mask (of_z w64 c.args.raw_tail) 32
 
-pub offset-bits-spec : {M : Type 1} → statement M
-offset-bits-spec = tie.close (tie.spec cast-result returns)
+pub offset_bits_spec : {M : Type 1} → statement M
+offset_bits_spec = tie.close (tie.spec cast-result returns)

@@ -7,8 +7,8 @@ use Rattle.logbuffer.proofs.log_buffer_descriptor.read.Tie as tie
 
 returns : tie.Need-returns
 returns c =
-    let a = c.before.before.args in
-    c.read-with.ensures ∙ ap (reading_with a.rec) (to_z-of_z (let h = c.before.tail.type-inv in search (rules, h)) ∙ c.before.tail.ensures) ∙ reading-with a.rec a.partition
+    let a = c.args in
+    c.read_with.ensures ∙ ap (reading_with a.rec) (to_z-of_z (let h = c.tail.type_inv in search (rules, h)) ∙ c.tail.ensures) ∙ reading-with a.rec a.partition
 
 pub read_spec : {M : Type 1} → statement M
 read_spec = tie.close (tie.spec (search rules) (search rules) returns)

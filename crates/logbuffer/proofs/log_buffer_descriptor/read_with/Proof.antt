@@ -15,7 +15,7 @@ same-reading : (r : LogRecord) (raw : ℤ) (t m c i s st co l b o sl : ℕ) → 
 unfolding reading_with
 same-reading r raw t m c i s st co l b o sl h1 h2 h3 h4 h5 h6 h7 h8 h9 h10 h11 = cc
 
-id-fits : (c : tie.After-term-id) → SFits w32 c.term-id.result
+id-fits : (c : tie.After-term_id) → SFits w32 c.term_id.result
 id-fits c = search rules
 
 term_fits : (c : tie.Start) → SFits w32 c.args.rec.term_length
@@ -46,10 +46,10 @@ slowest-fits : (c : tie.Start) → SFits w64 c.args.rec.slowest_position
 slowest-fits c = search rules
 
 -- the upper half of the tail
-id-is : (c : tie.After-word) → (let s = c.before.before.args in c.word.result ≡ long s.raw-tail / 4294967296)
+id-is : (c : tie.After-word-id) → (let s = c.args in c.word-id.result ≡ long s.raw_tail / 4294967296)
 id-is c =
-    let s = c.before.before in
-    word-by c.before.term-id.result c.word.ensures.0 (id-fits c.before) ∙ id-bits _ _ s.ranges.raw-tail (c.before.term-id.ensures ∙ ap term_id_of (to_z-of_z s.ranges.raw-tail))
+    let s = c in
+    word-by c.term_id.result c.word-id.ensures.0 (id-fits c.before) ∙ id-bits _ _ s.ranges.raw_tail (c.term_id.ensures ∙ ap term_id_of (to_z-of_z s.ranges.raw_tail))
 
 -- a number of 32 bits is its own 32 bits
 own_bits : (n m : ℕ) → n ≡ m → n < 4294967296 → n ≡ id_bits m
@@ -57,25 +57,25 @@ own_bits n m e h = omega arith
 
 returns : tie.Need-returns
 returns d =
-    let c = d.before.before in
-    let s = c.before.before.before.before.before.before.before.before.before.before.before.before.before.before.before.before.before.before.before in
+    let c = d in
+    let s = d in
     let r = s.args.rec in
-    let w = c.before.before.before.before.before.before.before.before.before.before.before.before.before.before.before.before.before in
-    same-reading r s.args.raw-tail _ _ _ _ _ _ _ _ _ _ _
-    (word-by r.term_length c.before.before.before.before.before.before.before.before.before.before.before.before.before.before.word2.ensures.0 (term_fits s))
-    (word-by r.mtu_length c.before.before.before.before.before.before.before.before.before.before.before.before.word3.ensures.0 (mtu-fits s))
-    (word-by r.active_term_count c.before.before.before.before.before.before.before.before.before.before.word4.ensures.0 (count_fits s))
-    (own_bits _ _ (word-by r.initial_term_id c.before.before.before.before.before.before.before.before.word5.ensures.0 (initial-fits s)) c.before.before.before.before.before.before.before.before.word5.ensures.1)
-    (word-by r.session_id c.before.before.before.before.before.before.word6.ensures.0 (session-fits s))
-    (word-by r.stream_id c.before.before.before.before.word7.ensures.0 (stream-fits s))
-    (word-by r.is_connected c.before.before.word8.ensures.0 (connected-fits s))
-    (long-by r.publication_limit c.long.ensures.0 (limit-fits s))
-    (own_bits _ _ (id-is w) w.word.ensures.1)
-    (c.before.before.before.before.before.before.before.before.before.before.before.before.before.before.before.before.offset-bits.ensures ∙ ap offset_of (to_z-of_z s.ranges.raw-tail))
-    (long-by r.slowest_position d.long2.ensures.0 (slowest-fits s))
+    let w = d in
+    same-reading r s.args.raw_tail _ _ _ _ _ _ _ _ _ _ _
+    (word-by r.term_length c.word.ensures.0 (term_fits d.before.before.before.before.before.before.before.before.before.before.before.before.before.before.before.before.before.before.before.before.before))
+    (word-by r.mtu_length c.word-2.ensures.0 (mtu-fits d.before.before.before.before.before.before.before.before.before.before.before.before.before.before.before.before.before.before.before.before.before))
+    (word-by r.active_term_count c.word-3.ensures.0 (count_fits d.before.before.before.before.before.before.before.before.before.before.before.before.before.before.before.before.before.before.before.before.before))
+    (own_bits _ _ (word-by r.initial_term_id c.word-4.ensures.0 (initial-fits d.before.before.before.before.before.before.before.before.before.before.before.before.before.before.before.before.before.before.before.before.before)) c.word-4.ensures.1)
+    (word-by r.session_id c.word-5.ensures.0 (session-fits d.before.before.before.before.before.before.before.before.before.before.before.before.before.before.before.before.before.before.before.before.before))
+    (word-by r.stream_id c.word-6.ensures.0 (stream-fits d.before.before.before.before.before.before.before.before.before.before.before.before.before.before.before.before.before.before.before.before.before))
+    (word-by r.is_connected c.word-7.ensures.0 (connected-fits d.before.before.before.before.before.before.before.before.before.before.before.before.before.before.before.before.before.before.before.before.before))
+    (long-by r.publication_limit c.long.ensures.0 (limit-fits d.before.before.before.before.before.before.before.before.before.before.before.before.before.before.before.before.before.before.before.before.before))
+    (own_bits _ _ (id-is d.before.before.before.before.before.before.before.before.before.before.before.before.before.before.before.before.before.before.before) w.word-id.ensures.1)
+    (c.offset_bits-offset.ensures ∙ ap offset_of (to_z-of_z s.ranges.raw_tail))
+    (long-by r.slowest_position d.long-2.ensures.0 (slowest-fits d.before.before.before.before.before.before.before.before.before.before.before.before.before.before.before.before.before.before.before.before.before))
 
-pub read-with-spec : {M : Type 1} → statement M
-read-with-spec =
+pub read_with_spec : {M : Type 1} → statement M
+read_with_spec =
     tie.close
     (tie.spec
     (search rules)

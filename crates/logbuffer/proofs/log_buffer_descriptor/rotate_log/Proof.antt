@@ -11,52 +11,52 @@ use Rattle.logbuffer.proofs.log_buffer_descriptor.rotate_log.Statement.{statemen
 use Rattle.logbuffer.proofs.log_buffer_descriptor.rotate_log.Tie as tie
 
 -- what the code has read, where the verdict is known
-module _ (c : tie.After-rotate-verdict) where
+module _ (c : tie.After-rotate_verdict) where
   abbrev s : tie.Start
   s = c.before.before.before.before
 
   abbrev k : ℕ
-  k = c.before.before.before.word.result
+  k = c.word-given.result
 
   abbrev t : ℕ
-  t = c.before.before.word2.result
+  t = c.word-term.result
 
   given_is : k ≡ word s.args.count
-  given_is = c.before.before.before.word.ensures.0 ∙ ap (of_z w32) (to_z-of_z s.fits.count)
+  given_is = c.word-given.ensures.0 ∙ ap (of_z w32) (to_z-of_z s.ranges.count)
 
   term_is : t ≡ word s.args.id
-  term_is = c.before.before.word2.ensures.0 ∙ ap (of_z w32) (to_z-of_z s.fits.id)
+  term_is = c.word-term.ensures.0 ∙ ap (of_z w32) (to_z-of_z s.ranges.id)
 
-  count-is : c.before.read-active.result.count ≡ word s.args.rec.active_term_count
+  count-is : c.read_active-v.result.count ≡ word s.args.rec.active_term_count
   unfolding reading_of
-  count-is = ap (λ (v : Reading). v.count) c.before.read-active.ensures
+  count-is = ap (λ (v : Reading). v.count) c.read_active-v.ensures
 
-  law : (x : Verdict) → c.rotate-verdict.result ≡ x → rotate_by s.args.rec k t x ≡ rotate_log_of s.args.rec s.args.count s.args.id
-  law x e = rotate-is s.args.rec s.args.count s.args.id k t c.before.read-active.result x given_is term_is c.before.read-active.ensures (sym e ∙ c.rotate-verdict.ensures)
+  law : (x : Verdict) → c.rotate_verdict.result ≡ x → rotate_by s.args.rec k t x ≡ rotate_log_of s.args.rec s.args.count s.args.id
+  law x e = rotate-is s.args.rec s.args.count s.args.id k t c.read_active-v.result x given_is term_is c.read_active-v.ensures (sym e ∙ c.rotate_verdict.ensures)
 
-  low : c.rotate-verdict.result ≡ Pass → k < 2147483647
-  low e = rotate-passed c.before.read-active.result k (sym c.rotate-verdict.ensures ∙ e)
+  low : c.rotate_verdict.result ≡ Pass → k < 2147483647
+  low e = rotate-passed c.read_active-v.result k (sym c.rotate_verdict.ensures ∙ e)
 
-next-tail-requires : tie.Need-next-tail-requires
-next-tail-requires c κs = let h = low c.before.before c.enum_told.given.1 in omega arith
+next-tail-requires : tie.Need-next_tail-next-requires
+next-tail-requires c κs = let h = low c.before.before c.in-Pass.is in omega arith
 
-with-count-requires : tie.Need-with-count-requires
-with-count-requires c κs = let h = low c.before.before.before.before.before c.before.before.before.enum_told.given.1 in omega arith
+with-count-requires : tie.Need-with_count-risen-requires
+with-count-requires c κs = let h = low c.before.before.before.before.before c.in-Pass.is in omega arith
 
-returns : tie.Need-returns
-returns c = let j = c.before.before.before.before.before.before in
-    rotate-risen (s j).args.rec c.with-count.result (k j) (t j) (sym (count-is j) ∙ c.before.if1.true) (c.with-count.ensures ∙ ap (λ (x : LogRecord). with_count x (k j + 1)) c.before.before.before.next-tail.ensures)
-    ∙ law j Pass c.before.before.before.before.enum_told.given.1
+returns : tie.Need-returns-then-v-given
+returns c = let j = c in
+    rotate-risen (s j).args.rec c.with_count-risen.result (k j) (t j) (sym (count-is j) ∙ c.if-v-given.true) (c.with_count-risen.ensures ∙ ap (λ (x : LogRecord). with_count x (k j + 1)) c.next_tail-next.ensures)
+    ∙ law j Pass c.in-Pass.is
 
-returns-2 : tie.Need-returns-2
-returns-2 c = law c.before.before.before _ c.before.e.given.1
+returns-2 : tie.Need-returns-in-Refuse
+returns-2 c = law c.before.before.before _ c.in-Refuse.is
 
-returns-3 : tie.Need-returns-3
-returns-3 c = let j = c.before.before.before.before.before in
-    rotate-kept (s j).args.rec c.before.before.next-tail.result (k j) (t j) (λ h. c.if1.false (count-is j ∙ h)) c.before.before.next-tail.ensures ∙ law j Pass c.before.before.before.enum_told.given.1
+returns-3 : tie.Need-returns-else-v-given
+returns-3 c = let j = c in
+    rotate-kept (s j).args.rec c.next_tail-next.result (k j) (t j) (λ h. c.if-v-given.false (count-is j ∙ h)) c.next_tail-next.ensures ∙ law j Pass c.in-Pass.is
 
-pub rotate-log-spec : {M : Type 1} → statement M
-rotate-log-spec =
+pub rotate_log_spec : {M : Type 1} → statement M
+rotate_log_spec =
     tie.close
     (tie.spec
     (search rules)

@@ -5,18 +5,18 @@ use Rattle.model.proofs.Rotate.{rotate-argument, rotate-record, rotate-last, rot
 use Rattle.logbuffer.proofs.log_buffer_descriptor.rotate_verdict.Statement.{statement}
 use Rattle.logbuffer.proofs.log_buffer_descriptor.rotate_verdict.Tie as tie
 
-returns : tie.Need-returns
-returns c = rotate-argument _ _ c.if1.true
+returns : tie.Need-returns-then-count-gt2147483647
+returns c = rotate-argument _ _ c.if-count-gt2147483647.true
 
-returns-2 : tie.Need-returns-2
-returns-2 c = rotate-record _ _ c.before.before.if1.false (sym c.before.is-sound-record.ensures ∙ not-true _ c.if2.true)
+returns-2 : tie.Need-returns-then-not-is_sound_record
+returns-2 c = rotate-record _ _ c.if-count-gt2147483647.false (sym c.is_sound_record.ensures ∙ not-true _ c.if-not-is_sound_record.true-raw)
 
-returns-3 : tie.Need-returns-3
-returns-3 c = rotate-last _ _ c.before.before.before.if1.false (sym c.before.before.is-sound-record.ensures ∙ not-false _ c.before.if2.false) c.if3.true
+returns-3 : tie.Need-returns-then-count-eq2147483647
+returns-3 c = rotate-last _ _ c.if-count-gt2147483647.false (sym c.is_sound_record.ensures ∙ not-false _ c.if-not-is_sound_record.false-raw) c.if-count-eq2147483647.true
 
-returns-4 : tie.Need-returns-4
-returns-4 c = rotate-pass _ _ c.before.before.before.if1.false (sym c.before.before.is-sound-record.ensures ∙ not-false _ c.before.if2.false) c.if3.false
+returns-4 : tie.Need-returns
+returns-4 c = rotate-pass _ _ c.if-count-gt2147483647.false (sym c.is_sound_record.ensures ∙ not-false _ c.if-not-is_sound_record.false-raw) c.if-count-eq2147483647.false
 
-pub rotate-verdict-spec : {M : Type 1} → statement M
-rotate-verdict-spec =
+pub rotate_verdict_spec : {M : Type 1} → statement M
+rotate_verdict_spec =
     tie.close (tie.spec returns (search rules) returns-2 returns-3 returns-4)

@@ -5,30 +5,30 @@ use Rattle.logbuffer.proofs.log_buffer_descriptor.tail.Statement.{statement}
 use Rattle.logbuffer.proofs.log_buffer_descriptor.tail.Tie as tie
 
 -- the tail at a partition by the constant that it is
-at : (s : tie.Start) (k : ℕ) → s.args.partition ≡ k → get_or s.args.t1.tails k (pos 0) ≡ get_or s.args.t1.tails s.args.partition (pos 0)
-at s k e = ap (λ (i : ℕ). get_or s.args.t1.tails i (pos 0)) (sym e)
+at : (s : tie.Start) (k : ℕ) → s.args.partition ≡ k → get_or s.args.rec.tails k (pos 0) ≡ get_or s.args.rec.tails s.args.partition (pos 0)
+at s k e = ap (λ (i : ℕ). get_or s.args.rec.tails i (pos 0)) (sym e)
 
-returns : tie.Need-returns
-returns c = let s = c.before.before in
-    let x : to_z w64 (of_z w64 (get_or s.args.t1.tails 0 (pos 0))) ≡ get_or s.args.t1.tails 0 (pos 0) = search rules in
-    x ∙ at s 0 c.before.if1.true
+returns : tie.Need-returns-then-partition-eq0
+returns c = let s = c in
+    let x : to_z w64 (of_z w64 (get_or s.args.rec.tails 0 (pos 0))) ≡ get_or s.args.rec.tails 0 (pos 0) = search rules in
+    x ∙ at c.before.before 0 c.if-partition-eq0.true
 
-returns-2 : tie.Need-returns-2
-returns-2 c = let s = c.before.before.before in
-    let x : to_z w64 (of_z w64 (get_or s.args.t1.tails 1 (pos 0))) ≡ get_or s.args.t1.tails 1 (pos 0) = search rules in
-    x ∙ at s 1 c.before.if2.true
+returns-2 : tie.Need-returns-then-partition-eq1
+returns-2 c = let s = c in
+    let x : to_z w64 (of_z w64 (get_or s.args.rec.tails 1 (pos 0))) ≡ get_or s.args.rec.tails 1 (pos 0) = search rules in
+    x ∙ at c.before.before.before 1 c.if-partition-eq1.true
 
-returns-3 : tie.Need-returns-3
-returns-3 c = let s = c.before.before.before.before in
-    let x : to_z w64 (of_z w64 (get_or s.args.t1.tails 2 (pos 0))) ≡ get_or s.args.t1.tails 2 (pos 0) = search rules in
-    x ∙ at s 2 c.before.if3.true
+returns-3 : tie.Need-returns-then-partition-eq2
+returns-3 c = let s = c in
+    let x : to_z w64 (of_z w64 (get_or s.args.rec.tails 2 (pos 0))) ≡ get_or s.args.rec.tails 2 (pos 0) = search rules in
+    x ∙ at c.before.before.before.before 2 c.if-partition-eq2.true
 
-returns-4 : tie.Need-returns-4
-returns-4 c = let s = c.before.before.before in
-    let three : length s.args.t1.tails ≡ 3 = sym (length-map s.args.t1.tails (λ (v : ℤ). v)) ∙ s.well-formed.0.1.1.0.1.0.1 in
-    sym (get_or-eq_default s.args.t1.tails (pos 0) (omega arith))
+returns-4 : tie.Need-returns
+returns-4 c = let s = c in
+    let three : length s.args.rec.tails ≡ 3 = sym (length-map s.args.rec.tails (λ (v : ℤ). v)) ∙ s.well_formed.0.1.1.0.1.0.1 in
+    sym (get_or-eq_default s.args.rec.tails (pos 0) (omega arith))
 
-pub tail-spec : {M : Type 1} → statement M
-tail-spec =
+pub tail_spec : {M : Type 1} → statement M
+tail_spec =
     tie.close
     (tie.spec (search rules) returns (search rules) returns-2 (search rules) returns-3 returns-4)

@@ -8,5 +8,5 @@ returns : tie.Need-returns
 unfolding with_count changed
 returns c = refl
 
-pub with-count-spec : {M : Type 1} → statement M
-with-count-spec = tie.close (tie.spec (search rules) returns)
+pub with_count_spec : {M : Type 1} → statement M
+with_count_spec = tie.close (tie.spec (search rules) returns)

@@ -8,5 +8,5 @@ returns : tie.Need-returns
 unfolding with_mark noted
 returns c = refl
 
-pub with-mark-spec : {M : Type 1} → statement M
-with-mark-spec = tie.close (tie.spec (search rules) returns)
+pub with_mark_spec : {M : Type 1} → statement M
+with_mark_spec = tie.close (tie.spec (search rules) returns)

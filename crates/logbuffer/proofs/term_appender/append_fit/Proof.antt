@@ -11,33 +11,33 @@ use Rattle.logbuffer.proofs.Ways.{Fits, fits-true}
 use Rattle.logbuffer.proofs.term_appender.append_fit.Statement.{statement}
 use Rattle.logbuffer.proofs.term_appender.append_fit.Tie as tie
 
-is : (c : tie.Else1) → (let a = c.before.before.before.before.args in frame_fits a.numbers (length a.log.now) a.partition (length a.message.now) ≡ true)
-is c = sym c.before.fits2.ensures ∙ not-false _ c.if1.false
+is : (c : tie.Else-not-fits) → (let a = c.args in frame_fits a.numbers (length a.log.now) a.partition (length a.message.now) ≡ true)
+is c = sym c.fits.ensures ∙ not-false _ c.if-not-fits.false-raw
 
-lies : (c : tie.Else1) → (let a = c.before.before.before.before.args in Fits a.numbers (length a.log.now) a.partition (length a.message.now))
+lies : (c : tie.Else-not-fits) → (let a = c.args in Fits a.numbers (length a.log.now) a.partition (length a.message.now))
 lies c = fits-true _ _ _ _ (is c)
 
-returns : tie.Need-returns
+returns : tie.Need-returns-then-not-fits
 returns c =
-    let no = sym c.before.fits2.ensures ∙ not-true _ c.if1.true in
+    let no = sym c.fits.ensures ∙ not-true _ c.if-not-fits.true-raw in
     (sym (cond-false _ _ _ no), sym (cond-false _ _ _ no))
 
-write-fragment-requires : tie.Need-write-fragment-requires
+write-fragment-requires : tie.Need-write_fragment-requires
 write-fragment-requires c κs = let f = lies c.before.before in (omega (arith, f.room, f.inside), (f.id-in, (omega arith, omega (arith, f.room, f.term-high))))
 
-returns-2 : tie.Need-returns-2
+returns-2 : tie.Need-returns
 returns-2 c =
-    let e = c.before.before.before.before.before in
-    let s = e.before.before.before.before in
+    let e = c in
+    let s = c in
     let a = s.args in (
-      sym (cond-true _ _ _ (is e)),
-      one_written a.numbers a.log.now _ (a.partition * a.numbers.term) a.numbers.offset _ c.before.before.write-fragment.ensures
-          ∙ ap (λ (z : ℕ). written a.numbers a.log.now (a.partition * a.numbers.term) a.numbers.offset (fragment 192 z a.message.now ∷ [])) (long-by a.reserved-value c.before.before.before.long.ensures.0 s.ranges.reserved-value)
-          ∙ sym (cond-true _ _ _ (is e)),
+      sym (cond-true _ _ _ (is c.before.before.before.before.before)),
+      one_written a.numbers a.log.now _ (a.partition * a.numbers.term) a.numbers.offset _ c.write_fragment.ensures
+          ∙ ap (λ (z : ℕ). written a.numbers a.log.now (a.partition * a.numbers.term) a.numbers.offset (fragment 192 z a.message.now ∷ [])) (long-by a.reserved_value c.long.ensures.0 s.ranges.reserved_value)
+          ∙ sym (cond-true _ _ _ (is c.before.before.before.before.before)),
     )
 
-pub append-fit-spec : {M : Type 1} → statement M
-append-fit-spec =
+pub append_fit_spec : {M : Type 1} → statement M
+append_fit_spec =
     tie.close
     (tie.spec
     (search rules)

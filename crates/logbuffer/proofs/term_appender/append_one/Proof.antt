@@ -9,35 +9,35 @@ use Rattle.logbuffer.proofs.Ways.{claiming-true, claim-good, claim-no, one-way-i
 use Rattle.logbuffer.proofs.term_appender.append_one.Statement.{statement}
 use Rattle.logbuffer.proofs.term_appender.append_one.Tie as tie
 
-yes-good : (c : tie.Else1) → (let a = c.before.before.before.before.args in good_claiming a.numbers a.partition (length a.message.now) ≡ true)
-yes-good c = sym c.before.good-claiming.ensures ∙ not-false _ c.if1.false
+yes-good : (c : tie.Else-not-good_claiming) → (let a = c.args in good_claiming a.numbers a.partition (length a.message.now) ≡ true)
+yes-good c = sym c.good_claiming.ensures ∙ not-false _ c.if-not-good_claiming.false-raw
 
-good : (c : tie.Else1) → (let a = c.before.before.before.before.args in (a.partition ≤ 2) × ((a.numbers.id < 4294967296) × (length a.message.now ≤ 2147483647)))
-good c = let a = c.before.before.before.before.args in claiming-true a.numbers a.partition (length a.message.now) (yes-good c)
+good : (c : tie.Else-not-good_claiming) → (let a = c.args in (a.partition ≤ 2) × ((a.numbers.id < 4294967296) × (length a.message.now ≤ 2147483647)))
+good c = let a = c.args in claiming-true a.numbers a.partition (length a.message.now) (yes-good c)
 
-returns : tie.Need-returns
+returns : tie.Need-returns-then-not-good_claiming
 returns c =
-    let q = c.before in
-    let a = q.before.before.before.before.args in
-    let no = claim-no a.numbers (length a.log.now) a.partition (length a.message.now) a.term-id (sym q.before.good-claiming.ensures ∙ not-true _ q.if1.true) _ _ in
+    let q = c in
+    let a = q.args in
+    let no = claim-no a.numbers (length a.log.now) a.partition (length a.message.now) a.term_id (sym q.good_claiming.ensures ∙ not-true _ q.if-not-good_claiming.true-raw) _ _ in
     (c.refused.ensures ∙ no.0, no.1)
 
-one-frame-requires : tie.Need-one-frame-requires
+one-frame-requires : tie.Need-one_frame-course-requires
 one-frame-requires c κs = good c.before.before
 
-way-by-requires : tie.Need-way-by-requires
-way-by-requires c κs = let a = c.before.before.before.before.before.before.before.before.before.args in
-    ((good c.before.before.before.before.before).1.0, subst (Room a.numbers (space (length a.message.now))) (sym c.before.before.one-frame.ensures.0) (course-room _ _ _ _))
+way-by-requires : tie.Need-way_by-requires
+way-by-requires c κs = let a = c.args in
+    ((good c.before.before.before.before.before).1.0, subst (Room a.numbers (space (length a.message.now))) (sym c.one_frame-course.ensures.0) (course-room _ _ _ _))
 
-returns-2 : tie.Need-returns-2
-returns-2 c = let s = c.before.before.before.before.before.before.before.before.before.before in
+returns-2 : tie.Need-returns
+returns-2 c = let s = c in
     let a = s.args in
-    let d = c.before.before.before in
-    one-way-is a.numbers a.partition a.term-id _ _ a.log.now d.one-frame.new.1.0 a.message.now d.one-frame.result c.Way-by.result
-    (claim-good _ _ _ _ _ (yes-good c.before.before.before.before.before.before)) (long-by a.reserved-value c.before.before.before.before.before.long.ensures.0 s.ranges.reserved-value) d.one-frame.ensures.0 c.Way-by.ensures d.one-frame.ensures.1
+    let d = c in
+    one-way-is a.numbers a.partition a.term_id _ _ a.log.now d.one_frame-course.new.log a.message.now d.one_frame-course.result c.way_by.result
+    (claim-good _ _ _ _ _ (yes-good c.before.before.before.before.before.before)) (long-by a.reserved_value c.long-bits.ensures.0 s.ranges.reserved_value) d.one_frame-course.ensures.0 c.way_by.ensures d.one_frame-course.ensures.1
 
-pub append-one-spec : {M : Type 1} → statement M
-append-one-spec =
+pub append_one_spec : {M : Type 1} → statement M
+append_one_spec =
     tie.close
     (tie.spec
     (search rules)

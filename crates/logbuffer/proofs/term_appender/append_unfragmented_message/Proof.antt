@@ -7,15 +7,15 @@ use Rattle.logbuffer.proofs.term_appender.append_unfragmented_message.Tie as tie
 
 returns : tie.Need-returns
 returns c =
-    let s = c.before.before.before.before.before.before.before in
+    let s = c in
     let a = s.args in
-    let m = c.before.before.append-message.ensures in
-    let k : c.before.before.before.before.word.result ≡ word a.partition = c.before.before.before.before.word.ensures.0 ∙ search rules in
-    let t : to_z w32 (of_z w32 a.term-id) ≡ a.term-id = to_z-of_z s.ranges.term-id in
-    let z : to_z w64 (of_z w64 a.reserved-value) ≡ a.reserved-value = to_z-of_z s.ranges.reserved-value in
-    let law = unfragmented-is a.rec a.log.now a.message.now (word a.partition) (long a.reserved-value) (word a.term-id) in
+    let m = c.append_message.ensures in
+    let k : c.word-k.result ≡ word a.partition = c.word-k.ensures.0 ∙ search rules in
+    let t : to_z w32 (of_z w32 a.term_id) ≡ a.term_id = to_z-of_z s.ranges.term_id in
+    let z : to_z w64 (of_z w64 a.reserved_value) ≡ a.reserved_value = to_z-of_z s.ranges.reserved_value in
+    let law = unfragmented-is a.rec a.log.now a.message.now (word a.partition) (long a.reserved_value) (word a.term_id) in
     (m.0 ∙ (cc) ∙ law.0, m.1 ∙ (cc) ∙ law.1)
 
-pub append-unfragmented-message-spec : {M : Type 1} → statement M
-append-unfragmented-message-spec =
+pub append_unfragmented_message_spec : {M : Type 1} → statement M
+append_unfragmented_message_spec =
     tie.close (tie.spec (search rules) (search rules) (search rules) returns)

@@ -8,25 +8,25 @@ use Rattle.logbuffer.proofs.Ways.{Fits, fits-true}
 use Rattle.logbuffer.proofs.term_appender.claim_fit.Statement.{statement}
 use Rattle.logbuffer.proofs.term_appender.claim_fit.Tie as tie
 
-is : (c : tie.Else1) → (let a = c.before.before.before.args in frame_fits a.numbers (length a.log.now) a.partition a.body-length ≡ true)
-is c = sym c.before.fits2.ensures ∙ not-false _ c.if1.false
+is : (c : tie.Else-not-fits) → (let a = c.args in frame_fits a.numbers (length a.log.now) a.partition a.body_length ≡ true)
+is c = sym c.fits.ensures ∙ not-false _ c.if-not-fits.false-raw
 
-lies : (c : tie.Else1) → (let a = c.before.before.before.args in Fits a.numbers (length a.log.now) a.partition a.body-length)
+lies : (c : tie.Else-not-fits) → (let a = c.args in Fits a.numbers (length a.log.now) a.partition a.body_length)
 lies c = fits-true _ _ _ _ (is c)
 
-returns : tie.Need-returns
+returns : tie.Need-returns-then-not-fits
 returns c =
-    let no = sym c.before.fits2.ensures ∙ not-true _ c.if1.true in
+    let no = sym c.fits.ensures ∙ not-true _ c.if-not-fits.true-raw in
     (sym (cond-false _ _ _ no), sym (cond-false _ _ _ no))
 
-write-claim-requires : tie.Need-write-claim-requires
+write-claim-requires : tie.Need-write_claim-requires
 write-claim-requires c κs = let f = lies c.before in (omega (arith, f.room, f.inside), (f.id-in, omega (arith, f.room, f.term-high)))
 
-returns-2 : tie.Need-returns-2
-returns-2 c = let e = is c.before.before.before.before in (sym (cond-true _ _ _ e), c.before.before.write-claim.ensures ∙ sym (cond-true _ _ _ e))
+returns-2 : tie.Need-returns
+returns-2 c = let e = is c.before.before.before.before in (sym (cond-true _ _ _ e), c.write_claim.ensures ∙ sym (cond-true _ _ _ e))
 
-pub claim-fit-spec : {M : Type 1} → statement M
-claim-fit-spec =
+pub claim_fit_spec : {M : Type 1} → statement M
+claim_fit_spec =
     tie.close
     (tie.spec
     (search rules)

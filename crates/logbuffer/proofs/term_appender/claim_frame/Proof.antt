@@ -8,33 +8,33 @@ use Rattle.logbuffer.proofs.term_appender.claim_frame.Statement.{statement}
 use Rattle.logbuffer.proofs.term_appender.claim_frame.Tie as tie
 
 -- an append that fits: the log is as it was, and its partition has the room
-fit : (c : tie.After-enum-told) → (let s = c.before.before.before.before.before.before.before.args in
-    (c.before.before.before.before.begin-append.new.1.0 ≡ s.log.now) × (Sound s.v (length s.log.now) × ((s.v.offset + space s.n ≤ s.v.term) × (s.k * s.v.term + s.v.term ≤ length s.log.now))))
-fit c = let s = c.before.before.before.before.before.before.before in
-    fits s.args.v s.args.k s.args.log.now c.before.before.before.before.begin-append.new.1.0 (space s.args.n) s.args.given
-    (sym c.enum_told.given.1 ∙ c.before.before.before.before.begin-append.ensures.0) c.before.before.before.before.begin-append.ensures.1 s.requires.0
+fit : (c : tie.In-Fit) → (let s = c.args in
+    (c.begin_append-way.new.log ≡ s.log.now) × (Sound s.v (length s.log.now) × ((s.v.offset + space s.n ≤ s.v.term) × (s.k * s.v.term + s.v.term ≤ length s.log.now))))
+fit c = let s = c in
+    fits s.args.v s.args.k s.args.log.now c.begin_append-way.new.log (space s.args.n) s.args.given
+    (sym c.in-Fit.is ∙ c.begin_append-way.ensures.0) c.begin_append-way.ensures.1 s.requires.0
 
-mul-write-claim : tie.Need-overflow-mul-write-claim
+mul-write-claim : tie.Need-overflow_mul-k
 mul-write-claim c = let f = fit c.before in omega (arith, f.1)
 
-write-claim-requires : tie.Need-write-claim-requires
-write-claim-requires c κs = let f = fit c.before in let s = c.before.before.before.before.before.before.before.before in
+write-claim-requires : tie.Need-write_claim-requires
+write-claim-requires c κs = let f = fit c.before in let s = c in
     (omega (arith, f.1.1, ap length f.0), (s.requires.1.0, omega (arith, f.1)))
 
-returns : tie.Need-returns
-returns c = let s = c.before.before.before.before.before.before.before.before.before.before.before.args in
+returns : tie.Need-returns-in-Fit
+returns c = let s = c.args in
     let f = fit c.before.before.before.before in
     let made : List ℕ → List ℕ = λ l. claimed s.v l (s.k * s.v.term) s.n in
-    (c.before.before.before.before.before.before.before.before.begin-append.ensures.0, c.before.before.write-claim.ensures ∙ ap made f.0 ∙ ap (bytes_by s.v s.k s.log.now (made s.log.now)) (sym c.before.before.before.before.enum_told.given.1 ∙ c.before.before.before.before.before.before.before.before.begin-append.ensures.0))
+    (c.begin_append-way.ensures.0, c.write_claim.ensures ∙ ap made f.0 ∙ ap (bytes_by s.v s.k s.log.now (made s.log.now)) (sym c.in-Fit.is ∙ c.begin_append-way.ensures.0))
 
-returns-2 : tie.Need-returns-2
-returns-2 c = let s = c.before.before.before.before.before.before.args in
-    let b = c.before.before.before.begin-append in
+returns-2 : tie.Need-returns-in_default
+returns-2 c = let s = c.args in
+    let b = c.begin_append-way in
     let new = claimed s.v s.log.now (s.k * s.v.term) s.n in
-    (b.ensures.0, b.ensures.1 ∙ ap (bytes_by s.v s.k s.log.now s.log.now) (sym b.ensures.0) ∙ no-fit s.v s.k s.log.now new b.result c.match.keys2 ∙ ap (bytes_by s.v s.k s.log.now new) b.ensures.0)
+    (b.ensures.0, b.ensures.1 ∙ ap (bytes_by s.v s.k s.log.now s.log.now) (sym b.ensures.0) ∙ no-fit s.v s.k s.log.now new b.result c.in_default.in_default-own.keys2 ∙ ap (bytes_by s.v s.k s.log.now new) b.ensures.0)
 
-pub claim-frame-spec : {M : Type 1} → statement M
-claim-frame-spec =
+pub claim_frame_spec : {M : Type 1} → statement M
+claim_frame_spec =
     tie.close
     (tie.spec
     (search rules)

@@ -6,22 +6,22 @@ use Rattle.logbuffer.proofs.Ways.{claiming-true}
 use Rattle.logbuffer.proofs.term_appender.fits.Statement.{statement}
 use Rattle.logbuffer.proofs.term_appender.fits.Tie as tie
 
-good : (c : tie.Else1) → good_claiming c.before.before.args.v c.before.before.args.k c.before.before.args.m ≡ true
-good c = sym c.before.good-claiming.ensures ∙ not-false _ c.if1.false
+good : (c : tie.Else-not-good_claiming) → good_claiming c.args.v c.args.k c.args.m ≡ true
+good c = sym c.good_claiming.ensures ∙ not-false _ c.if-not-good_claiming.false-raw
 
-short : (c : tie.Else1) → c.before.before.args.m ≤ 2147483647
-short c = (claiming-true c.before.before.args.v c.before.before.args.k c.before.before.args.m (good c)).1.1
+short : (c : tie.Else-not-good_claiming) → c.args.m ≤ 2147483647
+short c = (claiming-true c.args.v c.args.k c.args.m (good c)).1.1
 
-returns : tie.Need-returns
+returns : tie.Need-returns-then-not-good_claiming
 unfolding frame_fits
-returns c = simp (sym c.before.good-claiming.ensures ∙ not-true _ c.if1.true)
+returns c = simp (sym c.good_claiming.ensures ∙ not-true _ c.if-not-good_claiming.true-raw)
 
-returns-2 : tie.Need-returns-2
+returns-2 : tie.Need-returns
 unfolding frame_fits
 returns-2 c = simp (good c.before, sym c.has_room.ensures)
 
-pub fits-spec : {M : Type 1} → statement M
-fits-spec =
+pub fits_spec : {M : Type 1} → statement M
+fits_spec =
     tie.close
     (tie.spec
     (search rules)

@@ -4,11 +4,11 @@ use borrow.Author.Tests.{not-true, not-false}
 use Rattle.logbuffer.proofs.term_appender.good_claiming.Statement.{statement}
 use Rattle.logbuffer.proofs.term_appender.good_claiming.Tie as tie
 
-returns : tie.Need-returns
-returns c = simp (sym c.before.good-message.ensures ∙ not-true _ c.if1.true)
+returns : tie.Need-returns-then-not-good_message
+returns c = simp (sym c.good_message.ensures ∙ not-true _ c.if-not-good_message.true-raw)
 
-returns-2 : tie.Need-returns-2
-returns-2 c = let d = c.before in simp (sym d.before.good-message.ensures ∙ not-false _ d.if1.false)
+returns-2 : tie.Need-returns
+returns-2 c = let d = c in simp (sym d.good_message.ensures ∙ not-false _ d.if-not-good_message.false-raw)
 
-pub good-claiming-spec : {M : Type 1} → statement M
-good-claiming-spec = tie.close (tie.spec (search rules) returns returns-2)
+pub good_claiming_spec : {M : Type 1} → statement M
+good_claiming_spec = tie.close (tie.spec (search rules) returns returns-2)

@@ -5,24 +5,24 @@ use Rattle.logbuffer.specs.Ways.{has_room}
 use Rattle.logbuffer.proofs.term_appender.has_room.Statement.{statement}
 use Rattle.logbuffer.proofs.term_appender.has_room.Tie as tie
 
-returns : tie.Need-returns
+returns : tie.Need-returns-then-v-gt2147483647
 unfolding has_room
-returns c = simp (lt-leb _ _ c.if1.true)
+returns c = simp (lt-leb _ _ c.if-v-gt2147483647.true)
 
-returns-2 : tie.Need-returns-2
+returns-2 : tie.Need-returns-then-v-gt-TERM_MAX_LENGTH
 unfolding has_room
-returns-2 c = simp (le-leb _ _ c.before.before.if1.false, lt-leb _ _ c.if2.true)
+returns-2 c = simp (le-leb _ _ c.if-v-gt2147483647.false, lt-leb _ _ c.if-v-gt-TERM_MAX_LENGTH.true)
 
-returns-3 : tie.Need-returns-3
+returns-3 : tie.Need-returns-then-n-v
 unfolding has_room
-returns-3 c = simp (le-leb _ _ c.before.before.before.before.if1.false, le-leb _ _ c.before.before.if2.false, ne_eqb _ _ c.if3.true)
+returns-3 c = simp (le-leb _ _ c.if-v-gt2147483647.false, le-leb _ _ c.if-v-gt-TERM_MAX_LENGTH.false, ne_eqb _ _ c.if-n-v.true)
 
-returns-4 : tie.Need-returns-4
+returns-4 : tie.Need-returns
 unfolding has_room
-returns-4 c = simp (le-leb _ _ c.before.before.before.before.before.before.if1.false, le-leb _ _ c.before.before.before.before.if2.false, eq-eqb _ _ c.before.before.if3.false)
+returns-4 c = simp (le-leb _ _ c.if-v-gt2147483647.false, le-leb _ _ c.if-v-gt-TERM_MAX_LENGTH.false, eq-eqb _ _ c.if-n-v.false)
 
-pub has-room-spec : {M : Type 1} → statement M
-has-room-spec =
+pub has_room_spec : {M : Type 1} → statement M
+has_room_spec =
     tie.close
     (tie.spec
     returns

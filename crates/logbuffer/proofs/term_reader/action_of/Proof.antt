@@ -4,14 +4,14 @@ use Rattle.logbuffer.proofs.Actions.{action-given, action-none}
 use Rattle.logbuffer.proofs.term_reader.action_of.Statement.{statement}
 use Rattle.logbuffer.proofs.term_reader.action_of.Tie as tie
 
-cast-result : tie.Need-overflow-cast-result
-cast-result c = omega (arith, c.shared-slice-known.given c.before.before.args.passed)
+cast-result : tie.Need-overflow_cast-result
+cast-result c = omega (arith, c.shared_slice_known-1.given c.args.passed)
 
-returns : tie.Need-returns
-returns c = let a = c.before.before.args in action-given a.actions.now a.passed c.before.if1.true
+returns : tie.Need-returns-then-passed-actions
+returns c = let a = c.args in action-given a.actions.now a.passed c.if-passed-actions.true
 
-returns-2 : tie.Need-returns-2
-returns-2 c = let a = c.before.args in action-none a.actions.now a.passed c.if1.false
+returns-2 : tie.Need-returns-else-passed-actions
+returns-2 c = let a = c.args in action-none a.actions.now a.passed c.if-passed-actions.false
 
-pub action-of-spec : {M : Type 1} → statement M
-action-of-spec = tie.close (tie.spec (search rules) cast-result returns returns-2)
+pub action_of_spec : {M : Type 1} → statement M
+action_of_spec = tie.close (tie.spec (search rules) cast-result returns returns-2)

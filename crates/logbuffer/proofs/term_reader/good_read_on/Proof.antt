@@ -5,24 +5,24 @@ use Rattle.model.specs.LogBufferDescriptor.{sound}
 use Rattle.logbuffer.proofs.term_reader.good_read_on.Statement.{statement}
 use Rattle.logbuffer.proofs.term_reader.good_read_on.Tie as tie
 
-is-so : (c : tie.Else1) → sound c.before.before.args.v c.before.before.args.n ≡ true
-is-so c = sym c.before.is-sound.ensures ∙ not-false _ c.if1.false
+is-so : (c : tie.Else-not-is_sound) → sound c.args.v c.args.n ≡ true
+is-so c = sym c.is_sound.ensures ∙ not-false _ c.if-not-is_sound.false-raw
 
-returns : tie.Need-returns
-returns c = simp (sym c.before.is-sound.ensures ∙ not-true _ c.if1.true)
+returns : tie.Need-returns-then-not-is_sound
+returns c = simp (sym c.is_sound.ensures ∙ not-true _ c.if-not-is_sound.true-raw)
 
-returns-2 : tie.Need-returns-2
-returns-2 c = simp (is-so c.before, lt-leb _ _ c.if2.true)
+returns-2 : tie.Need-returns-then-k-gt2
+returns-2 c = simp (is-so c.before, lt-leb _ _ c.if-k-gt2.true)
 
-returns-3 : tie.Need-returns-3
-returns-3 c = simp (is-so c.before.before, le-leb _ _ c.before.if2.false, ne_eqb _ _ c.if3.true)
+returns-3 : tie.Need-returns-then-at-ne0
+returns-3 c = simp (is-so c.before.before, le-leb _ _ c.if-k-gt2.false, ne_eqb _ _ c.if-at-ne0.true)
 
-returns-4 : tie.Need-returns-4
-returns-4 c = simp (is-so c.before.before.before, le-leb _ _ c.before.before.if2.false, eq-eqb _ _ c.before.if3.false, lt-leb _ _ c.if4.true)
+returns-4 : tie.Need-returns-then-slots-gt2147483647
+returns-4 c = simp (is-so c.before.before.before, le-leb _ _ c.if-k-gt2.false, eq-eqb _ _ c.if-at-ne0.false, lt-leb _ _ c.if-slots-gt2147483647.true)
 
-returns-5 : tie.Need-returns-5
-returns-5 c = simp (is-so c.before.before.before, le-leb _ _ c.before.before.if2.false, eq-eqb _ _ c.before.if3.false, le-leb _ _ c.if4.false)
+returns-5 : tie.Need-returns
+returns-5 c = simp (is-so c.before.before.before, le-leb _ _ c.if-k-gt2.false, eq-eqb _ _ c.if-at-ne0.false, le-leb _ _ c.if-slots-gt2147483647.false)
 
-pub good-read-on-spec : {M : Type 1} → statement M
-good-read-on-spec =
+pub good_read_on_spec : {M : Type 1} → statement M
+good_read_on_spec =
     tie.close (tie.spec (search rules) returns returns-2 returns-3 returns-4 returns-5)

@@ -5,13 +5,13 @@ use Rattle.model.specs.TermReader.{good_view}
 use Rattle.logbuffer.proofs.term_reader.good_view.Statement.{statement}
 use Rattle.logbuffer.proofs.term_reader.good_view.Tie as tie
 
-returns : tie.Need-returns
+returns : tie.Need-returns-then-p-gt2
 unfolding good_view
-returns c = let a = c.before.before.args in rw (lt-leb a.p.partition 2 c.if1.true)
+returns c = let a = c.args in rw (lt-leb a.p.partition 2 c.if-p-gt2.true)
 
-returns-2 : tie.Need-returns-2
+returns-2 : tie.Need-returns
 unfolding good_view
-returns-2 c = let a = c.before.before.before.before.args in rw (le-leb a.p.partition 2 c.before.before.if1.false) c.within-term.ensures
+returns-2 c = let a = c.args in rw (le-leb a.p.partition 2 c.if-p-gt2.false) c.within_term.ensures
 
-pub good-view-spec : {M : Type 1} → statement M
-good-view-spec = tie.close (tie.spec returns (search rules) (search rules) returns-2)
+pub good_view_spec : {M : Type 1} → statement M
+good_view_spec = tie.close (tie.spec returns (search rules) (search rules) returns-2)

@@ -11,78 +11,78 @@ use Rattle.model.proofs.ReadLaws.{good_read, read-placed, read-refused, read_goe
 use Rattle.logbuffer.proofs.term_reader.read.Statement.{statement}
 use Rattle.logbuffer.proofs.term_reader.read.Tie as tie
 
-abbrev st : tie.After-first-rows → tie.Start
-st c = c.before.before.before.before.before
+abbrev st : tie.After-first_rows → tie.Start
+st c = c.before.before.before.before.before.before
 
-abbrev p : tie.After-first-rows → Place
-p c = c.before.before.before.place.result
+abbrev p : tie.After-first_rows → Place
+p c = c.place-p.result
 
-abbrev most : tie.After-first-rows → ℕ
-most c = c.before.before.natural.result
+abbrev most : tie.After-first_rows → ℕ
+most c = c.natural-most.result
 
-p-is : (c : tie.After-first-rows) → p c ≡ place_of (st c).args.rec (st c).args.partition (st c).args.offset
-p-is c = c.before.before.before.place.ensures.0 ∙ search rules
+p-is : (c : tie.After-first_rows) → p c ≡ place_of (st c).args.rec (st c).args.partition (st c).args.offset
+p-is c = c.place-p.ensures.0 ∙ search rules
 
-most-is : (c : tie.After-first-rows) → most c ≡ natural (st c).args.fragment-limit
-most-is c = c.before.before.natural.ensures.0 ∙ search rules
+most-is : (c : tie.After-first_rows) → most c ≡ natural (st c).args.fragment_limit
+most-is c = c.natural-most.ensures.0 ∙ search rules
 
-rows : (c : tie.After-first-rows)
+rows : (c : tie.After-first_rows)
     → first_rows (good_read (p c) (most c) (length (st c).args.entries.now)) (sound (p c).read (length (st c).args.log.now)) Pass ≡ c.first_rows.result
-rows c = ap (λ (g : Bool). first_rows g (sound (p c).read (length (st c).args.log.now)) Pass) (sym c.before.good-read.ensures) ∙ sym c.first_rows.ensures
+rows c = ap (λ (g : Bool). first_rows g (sound (p c).read (length (st c).args.log.now)) Pass) (sym c.good_read-good.ensures) ∙ sym c.first_rows.ensures
 
-place : (c : tie.After-first-rows) → c.first_rows.result ≡ Pass → Started (p c).read (length (st c).args.log.now) (p c).partition (p c).offset
+place : (c : tie.After-first_rows) → c.first_rows.result ≡ Pass → Started (p c).read (length (st c).args.log.now) (p c).partition (p c).offset
 place c h =
     let g = rows_pass (good_read (p c) (most c) (length (st c).args.entries.now)) (sound (p c).read (length (st c).args.log.now)) (rows c ∙ h) in
     read-placed (p c) (length (st c).args.log.now) (most c) (length (st c).args.entries.now) g.0 g.1
 
 -- the walk's answer
-abbrev num : tie.After-read-frames → tie.After-first-rows
-num c = c.before.before.before.before.before.before
+abbrev num : tie.After-read_frames-frames → tie.After-first_rows
+num c = c.before.before.before.before.before
 
-passed : (c : tie.After-read-frames) → (num c).first_rows.result ≡ Pass
-passed c = c.before.before.before.before.enum_told.given.1
+passed : (c : tie.After-read_frames-frames) → (num c).first_rows.result ≡ Pass
+passed c = c.in_default.is
 
-goes : (c : tie.After-read-frames) → (read_from (p (num c)).offset c.read-frames.result ≡ read_of (st (num c)).args.rec (st (num c)).args.log.now (st (num c)).args.partition (st (num c)).args.offset (st (num c)).args.fragment-limit (st (num c)).args.entries.now)
-    × (c.read-frames.new.1.1.1.1.1.1.1.0 ≡ read_entries (st (num c)).args.rec (st (num c)).args.log.now (st (num c)).args.partition (st (num c)).args.offset (st (num c)).args.fragment-limit (st (num c)).args.entries.now)
+goes : (c : tie.After-read_frames-frames) → (read_from (p (num c)).offset c.read_frames-frames.result ≡ read_of (st (num c)).args.rec (st (num c)).args.log.now (st (num c)).args.partition (st (num c)).args.offset (st (num c)).args.fragment_limit (st (num c)).args.entries.now)
+    × (c.read_frames-frames.new.entries.1.1.1.1.1.1.0 ≡ read_entries (st (num c)).args.rec (st (num c)).args.log.now (st (num c)).args.partition (st (num c)).args.offset (st (num c)).args.fragment_limit (st (num c)).args.entries.now)
 goes c =
     let q = num c in
     let a = (st q).args in
-    let e = read_goes a.rec a.log.now a.partition a.offset a.fragment-limit a.entries.now (p q) (most q) (p-is q) (most-is q) (rows q ∙ passed c) in
-    (ap (read_from (p q).offset) c.read-frames.ensures.0 ∙ e.0, c.read-frames.ensures.1 ∙ e.1)
+    let e = read_goes a.rec a.log.now a.partition a.offset a.fragment_limit a.entries.now (p q) (most q) (p-is q) (most-is q) (rows q ∙ passed c) in
+    (ap (read_from (p q).offset) c.read_frames-frames.ensures.0 ∙ e.0, c.read_frames-frames.ensures.1 ∙ e.1)
 
-returns : tie.Need-returns
+returns : tie.Need-returns-in-Refuse
 returns c =
-    let q = c.before.before.before in
-    let a = (st q).args in
-    read-refused a.rec a.log.now a.partition a.offset a.fragment-limit a.entries.now (p q) (most q) (p-is q) (most-is q) (rows q ∙ c.before.e.given.1)
+    let q = c in
+    let a = (st c.before).args in
+    read-refused a.rec a.log.now a.partition a.offset a.fragment_limit a.entries.now (p c.before) (most c.before) (p-is c.before) (most-is c.before) (rows c.before ∙ c.in-Refuse.is)
 
-mul-base : tie.Need-overflow-mul-base
+mul-base : tie.Need-overflow_mul-base
 mul-base c =
-    let q = c.before.before.before in record { fits = omega (arith, (place q c.before.enum_told.given.1).inside, (st q).well-formed) }
+    let q = c in record { fits = omega (arith, (place c.before.before c.in_default.is).inside, (st c.before.before).well_formed) }
 
-walks : (c : tie.After-read-frames) → let q = num c in
+walks : (c : tie.After-read_frames-frames) → let q = num c in
     good_walk (length (st q).args.log.now) ((p q).partition * (p q).read.term) (p q).read.term (p q).read.term (p q).offset (most q) (length (st q).args.entries.now) ≡ true
 walks c =
     let q = num c in
     let g = rows_pass (good_read (p q) (most q) (length (st q).args.entries.now)) (sound (p q).read (length (st q).args.log.now)) (rows q ∙ passed c) in
     read_walk (p q) (length (st q).args.log.now) (most q) (length (st q).args.entries.now) g.0 g.1
 
-returns-2 : tie.Need-returns-2
+returns-2 : tie.Need-returns-in_default-frames
 returns-2 c =
-    let f = c.before.before.before.before in
-    let told = c.before.enum-told2.given.1 in
-    (ap Refused (c.refusal.ensures ∙ ap frames_refusal told) ∙ ap (read_from (p (num f)).offset) (sym told) ∙ (goes f).0, (goes f).1)
+    let f = c in
+    let told = c.in_default-frames.is in
+    (ap Refused (c.refusal.ensures ∙ ap frames_refusal told) ∙ ap (read_from (p (num c.before.before.before)).offset) (sym told) ∙ (goes c.before.before.before).0, (goes c.before.before.before).1)
 
-add-t16 : tie.Need-overflow-add-t16
+add-t16 : tie.Need-overflow_add-result
 add-t16 c =
-    let f = c.before.before.before.before.before in
-    let m = frames-moved _ _ _ _ _ _ [] _ (walks f) refl _ (sym f.read-frames.ensures.0 ∙ c.before.before.frames.given.1) in
-    omega (arith, m, place (num f) (passed f))
+    let f = c in
+    let m = frames-moved _ _ _ _ _ _ [] _ (walks c.before.before.before) refl _ (sym f.read_frames-frames.ensures.0 ∙ c.in-Walked.is) in
+    omega (arith, m, place (num c.before.before.before) (passed c.before.before.before))
 
-returns-3 : tie.Need-returns-3
+returns-3 : tie.Need-returns
 returns-3 c =
-    let f = c.before.before.before.before.before in
-    (ap (read_from (p (num f)).offset) (sym c.before.before.frames.given.1) ∙ (goes f).0, (goes f).1)
+    let f = c in
+    (ap (read_from (p (num c.before.before.before)).offset) (sym c.in-Walked.is) ∙ (goes c.before.before.before).0, (goes c.before.before.before).1)
 
 pub read_spec : {M : Type 1} → statement M
 read_spec =

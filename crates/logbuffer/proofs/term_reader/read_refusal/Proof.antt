@@ -4,5 +4,5 @@ use Rattle.logbuffer.specs.Reads.{read_refusal}
 use Rattle.logbuffer.proofs.term_reader.read_refusal.Statement.{statement}
 use Rattle.logbuffer.proofs.term_reader.read_refusal.Tie as tie
 
-pub read-refusal-spec : {M : Type 1} → statement M
-read-refusal-spec = tie.close (tie.spec (search rules) (search rules) (λ c. ap read_refusal (sym c.enum_told.given.1)) (λ c. ap read_refusal (sym c.before.read.given.1)))
+pub read_refusal_spec : {M : Type 1} → statement M
+read_refusal_spec = tie.close (tie.spec (search rules) (search rules) (λ c. ap read_refusal (sym c.in-Outcome.is)) (λ c. ap read_refusal (sym c.in-Refused.is)))

@@ -7,20 +7,20 @@ use Rattle.logbuffer.proofs.term_reader.view_number.Statement.{statement}
 use Rattle.logbuffer.proofs.term_reader.view_number.Tie as tie
 
 -- the span, of the arguments as they came
-located : (c : tie.After-view-span) → let s = c.before.before in
-    c.view-span.result ≡ view_of s.args.rec s.args.log.now s.args.partition s.args.offset s.args.length
+located : (c : tie.After-view_span) → let s = c in
+    c.view_span.result ≡ view_of s.args.rec s.args.log.now s.args.partition s.args.offset s.args.length
 located c =
-    let s = c.before.before in
+    let s = c in
     let a = s.args in
-    c.view-span.ensures ∙ passed_on (view_of a.rec a.log.now) a.partition a.offset a.length s.ranges.partition s.ranges.offset s.ranges.length
+    c.view_span.ensures ∙ passed_on (view_of a.rec a.log.now) a.partition a.offset a.length s.ranges.partition s.ranges.offset s.ranges.length
 
-returns : tie.Need-returns
-returns c = ap located_number (sym c.enum_told.given.1 ∙ located c.before.before)
+returns : tie.Need-returns-in-Span
+returns c = ap located_number (sym c.in-Span.is ∙ located c.before)
 
-returns-2 : tie.Need-returns-2
-returns-2 c = to_z-of_z (record { sfits = c.number.type-inv }) ∙ c.number.ensures ∙ ap located_number (sym c.before.before.e.given.1 ∙ located c.before.before.before.before)
+returns-2 : tie.Need-returns-in-Refused
+returns-2 c = to_z-of_z (record { sfits = c.number.type_inv }) ∙ c.number.ensures ∙ ap located_number (sym c.in-Refused.is ∙ located c.before.before)
 
-pub view-number-spec : {M : Type 1} → statement M
-view-number-spec =
+pub view_number_spec : {M : Type 1} → statement M
+view_number_spec =
     tie.close
     (tie.spec (search rules) (search rules) (search rules) (search rules) returns returns-2)

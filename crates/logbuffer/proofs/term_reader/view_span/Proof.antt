@@ -13,31 +13,31 @@ use Rattle.logbuffer.proofs.Signed.{word-by}
 use Rattle.logbuffer.proofs.term_reader.view_span.Statement.{statement}
 use Rattle.logbuffer.proofs.term_reader.view_span.Tie as tie
 
-abbrev st : tie.After-first-rows → tie.Start
-st c = c.before.before.before.before.before
+abbrev st : tie.After-first_rows → tie.Start
+st c = c.before.before.before.before.before.before
 
-abbrev p : tie.After-first-rows → Place
-p c = c.before.before.before.place.result
+abbrev p : tie.After-first_rows → Place
+p c = c.place-p.result
 
-abbrev size : tie.After-first-rows → ℕ
-size c = c.before.before.word.result
+abbrev size : tie.After-first_rows → ℕ
+size c = c.word-size.result
 
-p-is : (c : tie.After-first-rows) → p c ≡ place_of (st c).args.rec (st c).args.partition (st c).args.offset
-p-is c = c.before.before.before.place.ensures.0 ∙ search rules
+p-is : (c : tie.After-first_rows) → p c ≡ place_of (st c).args.rec (st c).args.partition (st c).args.offset
+p-is c = c.place-p.ensures.0 ∙ search rules
 
-size_is : (c : tie.After-first-rows) → size c ≡ word (st c).args.length
-size_is c = word-by (st c).args.length c.before.before.word.ensures.0 (st c).ranges.length
+size_is : (c : tie.After-first_rows) → size c ≡ word (st c).args.length
+size_is c = word-by (st c).args.length c.word-size.ensures.0 (st c).ranges.length
 
-rows : (c : tie.After-first-rows)
+rows : (c : tie.After-first_rows)
     → first_rows (good_view (p c).read (p c).partition (p c).offset (size c)) (sound (p c).read (length (st c).args.log.now)) Pass ≡ c.first_rows.result
-rows c = ap (λ (g : Bool). first_rows g (sound (p c).read (length (st c).args.log.now)) Pass) (sym c.before.good-view.ensures) ∙ sym c.first_rows.ensures
+rows c = ap (λ (g : Bool). first_rows g (sound (p c).read (length (st c).args.log.now)) Pass) (sym c.good_view.ensures) ∙ sym c.first_rows.ensures
 
-inside : (c : tie.After-first-rows) → c.first_rows.result ≡ Pass → (p c).partition * (p c).read.term + (p c).offset + size c ≤ length (st c).args.log.now
+inside : (c : tie.After-first_rows) → c.first_rows.result ≡ Pass → (p c).partition * (p c).read.term + (p c).offset + size c ≤ length (st c).args.log.now
 inside c h =
     let g = rows_pass (good_view (p c).read (p c).partition (p c).offset (size c)) (sound (p c).read (length (st c).args.log.now)) (rows c ∙ h) in
     (view_in (p c).read (length (st c).args.log.now) (p c).partition (p c).offset (size c) g.0 g.1).0
 
-by : (c : tie.After-first-rows) (x : Verdict) → c.first_rows.result ≡ x
+by : (c : tie.After-first_rows) (x : Verdict) → c.first_rows.result ≡ x
     → located_by ((p c).partition * (p c).read.term + (p c).offset) ((p c).partition * (p c).read.term + (p c).offset + size c) x
     ≡ view_of (st c).args.rec (st c).args.log.now (st c).args.partition (st c).args.offset (st c).args.length
 by c x h =
@@ -45,26 +45,26 @@ by c x h =
     ap (located_by ((p c).partition * (p c).read.term + (p c).offset) ((p c).partition * (p c).read.term + (p c).offset + size c)) (sym (rows c ∙ h))
     ∙ view-by a.rec a.log.now a.partition a.offset a.length (p c) (size c) (p-is c) (size_is c)
 
-mul-from : tie.Need-overflow-mul-from
+mul-from : tie.Need-overflow_mul-from
 mul-from c =
-    let q = c.before.before.before in record { fits = omega (arith, inside q c.before.enum_told.given.1, (st q).well-formed) }
+    let q = c in record { fits = omega (arith, inside c.before.before c.in-Pass.is, (st c.before.before).well_formed) }
 
-add-from : tie.Need-overflow-add-from
+add-from : tie.Need-overflow_add-from
 add-from c =
-    let q = c.before.before.before.before in record { fits = omega (arith, inside q c.before.before.enum_told.given.1, (st q).well-formed) }
+    let q = c in record { fits = omega (arith, inside c.before.before.before c.in-Pass.is, (st c.before.before.before).well_formed) }
 
 add-t14 : tie.Need-overflow-add-t14
 add-t14 c =
-    let q = c.before.before.before.before in record { fits = omega (arith, inside q c.before.before.enum_told.given.1, (st q).well-formed) }
+    let q = c.before.before.before.before in record { fits = omega (arith, inside q c.in-Pass.is, (st q).well_formed) }
 
-returns : tie.Need-returns
-returns c = by c.before.before.before (Refuse c.before.e.given.0.0) c.before.e.given.1
+returns : tie.Need-returns-in-Refuse
+returns c = by c.before (Refuse c.in-Refuse.e) c.in-Refuse.is
 
-returns-2 : tie.Need-returns-2
-returns-2 c = by c.before.before.before.before Pass c.before.before.enum_told.given.1
+returns-2 : tie.Need-returns-in-Pass
+returns-2 c = by c.before.before.before Pass c.in-Pass.is
 
-pub view-span-spec : {M : Type 1} → statement M
-view-span-spec =
+pub view_span_spec : {M : Type 1} → statement M
+view_span_spec =
     tie.close
     (tie.spec
     (search rules)

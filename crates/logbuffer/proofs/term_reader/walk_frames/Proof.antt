@@ -12,147 +12,147 @@ use Rattle.model.proofs.WalkLoop as walks
 use Rattle.logbuffer.proofs.term_reader.walk_frames.Statement.{statement}
 use Rattle.logbuffer.proofs.term_reader.walk_frames.Tie as tie
 
-abbrev invariant-loop : tie.invariant-loop
+abbrev invariant-loop : tie.invariant-loop-count
 invariant-loop log base term end at limit actions entries₀ offset₀ moved₀ settled₀ count₀ entries offset moved settled count =
     (lib.ListN.length entries ≡ lib.ListN.length entries₀) × ((moved ≡ offset - at) × Going log base term end at limit actions entries₀ entries offset settled count)
 
-abbrev decreases-loop : tie.decreases-loop
+abbrev decreases-loop : tie.decreases-loop-count
 decreases-loop log base term end at limit actions entries₀ offset₀ moved₀ settled₀ count₀ entries offset moved settled count =
     end - offset
 
 -- the entry, and what is seen of a frame, from the loop's head
-abbrev st : tie.At-loop invariant-loop decreases-loop → tie.Start invariant-loop decreases-loop
+abbrev st : tie.At-loop-count invariant-loop decreases-loop → tie.Start invariant-loop decreases-loop
 st c = c.before.before.before
 
-abbrev head : tie.After-frame-at invariant-loop decreases-loop → tie.At-loop invariant-loop decreases-loop
+abbrev head : tie.After-frame_at invariant-loop decreases-loop → tie.At-loop-count invariant-loop decreases-loop
 head c = c.before.before.before
 
-is-padding : (c : tie.After-known-told2 invariant-loop decreases-loop) → let l = head c.before.before.before in
-    frame_at (drop ((st l).args.base + l.loop.offset) (st l).args.log.now) ((st l).args.term - l.loop.offset) ≡ Padding c.before.n.given.0.0
-is-padding c = sym c.before.before.before.frame_at.ensures ∙ c.before.n.given.1
+is-padding : (c : tie.In-Padding invariant-loop decreases-loop) → let l = head c.before in
+    frame_at (drop ((st l).args.base + l.loop-count.offset) (st l).args.log.now) ((st l).args.term - l.loop-count.offset) ≡ Padding c.in-Padding.n
+is-padding c = sym c.frame_at.ensures ∙ c.in-Padding.is
 
-padding-in : (c : tie.After-known-told2 invariant-loop decreases-loop) → let l = head c.before.before.before in Lies c.before.n.given.0.0 ((st l).args.term - l.loop.offset)
-padding-in c = lies _ _ (Padding c.before.n.given.0.0) (is-padding c) refl
+padding-in : (c : tie.In-Padding invariant-loop decreases-loop) → let l = head c.before in Lies c.in-Padding.n ((st l).args.term - l.loop-count.offset)
+padding-in c = lies _ _ (Padding c.in-Padding.n) (is-padding c) refl
 
-is-data : (c : tie.After-known-told3 invariant-loop decreases-loop) → let l = head c.before.before.before in
-    frame_at (drop ((st l).args.base + l.loop.offset) (st l).args.log.now) ((st l).args.term - l.loop.offset) ≡ Data c.before.n2.given.0.0
-is-data c = sym c.before.before.before.frame_at.ensures ∙ c.before.n2.given.1
+is-data : (c : tie.In-Data invariant-loop decreases-loop) → let l = head c.before in
+    frame_at (drop ((st l).args.base + l.loop-count.offset) (st l).args.log.now) ((st l).args.term - l.loop-count.offset) ≡ Data c.in-Data.n
+is-data c = sym c.frame_at.ensures ∙ c.in-Data.is
 
-data-in : (c : tie.After-known-told3 invariant-loop decreases-loop) → let l = head c.before.before.before in Lies c.before.n2.given.0.0 ((st l).args.term - l.loop.offset)
-data-in c = lies _ _ (Data c.before.n2.given.0.0) (is-data c) refl
+data-in : (c : tie.In-Data invariant-loop decreases-loop) → let l = head c.before in Lies c.in-Data.n ((st l).args.term - l.loop-count.offset)
+data-in c = lies _ _ (Data c.in-Data.n) (is-data c) refl
 
-loop-holds : tie.Need-loop-init invariant-loop decreases-loop
+loop-holds : tie.Need-loop-count-init invariant-loop decreases-loop
 loop-holds c =
-    let a = c.before.before.args in
+    let a = c.args in
     (refl, (omega arith, walks.start a.log.now a.base a.term a.end a.at a.limit a.actions.now a.entries.now (omega arith)))
 
-returns : tie.Need-returns invariant-loop decreases-loop
+returns : tie.Need-returns-then-offset-at invariant-loop decreases-loop
 returns c =
-    let l = c.before.before.before.before.before.before.before.before in
-    let a = (st l).args in
-    let w = l.loop in
-    let e = sym c.before.before.before.before.before.frame_at.ensures ∙ c.before.before.before.found.given.1 in
-    let z = ap (λ (o : ℕ). frame_at (drop (a.base + o) a.log.now) (a.term - o)) (sym c.before.if2.true) ∙ e in
-    let f = frames-first a.log.now a.base a.term a.end a.at a.limit a.actions.now a.entries.now w.entries (walks.unsound-first a.log.now a.base a.term a.end a.at a.limit a.actions.now a.entries.now w.entries w.offset w.settled w.count _ w.invariant.1.1 c.before.if2.true (omega arith) (omega arith) e) in
-    (ap WalkRefused (c.unsound-frame.ensures ∙ unsound-refusal a.log.now a.base a.term a.at _ z) ∙ f.0, f.1)
+    let l = c in
+    let a = (st c.before.before.before.before.before.before).args in
+    let w = l.loop-count in
+    let e = sym c.frame_at.ensures ∙ c.in-Unsound.is in
+    let z = ap (λ (o : ℕ). frame_at (drop (a.base + o) a.log.now) (a.term - o)) (sym c.if-offset-at.true) ∙ e in
+    let f = frames-first a.log.now a.base a.term a.end a.at a.limit a.actions.now a.entries.now w.entries (walks.unsound-first a.log.now a.base a.term a.end a.at a.limit a.actions.now a.entries.now w.entries w.offset w.settled w.count _ w.invariant.1.1 c.if-offset-at.true (omega arith) (omega arith) e) in
+    (ap WalkRefused (c.unsound_frame.ensures ∙ unsound-refusal a.log.now a.base a.term a.at _ z) ∙ f.0, f.1)
 
-sub-moved : tie.Need-overflow-sub-moved invariant-loop decreases-loop
-sub-moved c = omega (arith, padding-in c, c.before.before.before.before.before.before.loop.invariant.1.1.later)
+sub-moved : tie.Need-overflow_sub-moved invariant-loop decreases-loop
+sub-moved c = omega (arith, padding-in c, c.loop-count.invariant.1.1.later)
 
-loop-again : tie.Need-loop-preserved invariant-loop decreases-loop
+loop-again : tie.Need-loop-count-preserved-in-Padding invariant-loop decreases-loop
 loop-again c =
-    let l = c.before.before.before.before.before.before in
-    let a = (st l).args in
-    let w = l.loop in
-    (w.invariant.0, (refl, walks.padding a.log.now a.base a.term a.end a.at a.limit a.actions.now a.entries.now w.entries w.offset w.settled w.count c.before.n.given.0.0 w.invariant.1.1 (omega arith) (omega arith) (is-padding c)))
+    let l = c in
+    let a = (st c.before.before.before.before).args in
+    let w = l.loop-count in
+    (w.invariant.0, (refl, walks.padding a.log.now a.base a.term a.end a.at a.limit a.actions.now a.entries.now w.entries w.offset w.settled w.count c.in-Padding.n w.invariant.1.1 (omega arith) (omega arith) (is-padding c)))
 
-add-ends-message : tie.Need-overflow-add-ends-message invariant-loop decreases-loop
+add-ends-message : tie.Need-overflow_add-base-in-Data invariant-loop decreases-loop
 add-ends-message c = omega (arith, data-in c.before)
 
-ends-message-requires : tie.Need-ends-message-requires invariant-loop decreases-loop
+ends-message-requires : tie.Need-ends_message-whole-requires invariant-loop decreases-loop
 ends-message-requires c κs = omega (arith, data-in c.before)
 
-cast-entries : tie.Need-overflow-cast-entries invariant-loop decreases-loop
+cast-entries : tie.Need-overflow_cast-entries invariant-loop decreases-loop
 cast-entries c = record { sfits = omega (arith, data-in c.before.before) }
 
-cast-entries-2 : tie.Need-overflow-cast-entries-2 invariant-loop decreases-loop
+cast-entries-2 : tie.Need-overflow_cast-entries-in-Data invariant-loop decreases-loop
 cast-entries-2 c = record { sfits = omega (arith, data-in c.before.before) }
 
-slice-set-from-entries-2 : tie.Need-slice-set-from-entries-2 invariant-loop decreases-loop
+slice-set-from-entries-2 : tie.Need-bounds-entries-p-in-Data invariant-loop decreases-loop
 slice-set-from-entries-2 c = simp length-set (omega arith)
 
-same-length-2 : tie.Need-same-length-2 invariant-loop decreases-loop
+same-length-2 : tie.Need-shape_of-entries-then-action-eq1 invariant-loop decreases-loop
 same-length-2 c = simp length-set (search rules)
 
-returns-2 : tie.Need-returns-2 invariant-loop decreases-loop
-returns-2 c = let d = c.before.before.before in
-    let l = c.before.before.before.before.before.before.before.before.before in
-    let a = (st l).args in
-    let w = l.loop in
-    let n = d.before.n2.given.0.0 in
-    let x : to_z w32 (w.offset + 32) ≡ pos (w.offset + 32) = to_z_pos w32 (omega (arith, data-in d)) in
-    let y : to_z w32 (n - 32) ≡ pos (n - 32) = to_z_pos w32 (omega (arith, data-in d)) in
-    frames-came a.log.now a.base a.term a.end a.at a.limit a.actions.now a.entries.now _ (w.count + 1) w.count w.moved w.moved w.settled (walks.turn-aborted a.log.now a.base a.term a.end a.at a.limit a.actions.now a.entries.now w.entries w.offset w.settled w.count n w.invariant.1.1 (omega arith) (omega arith) (is-data d) (omega arith) _ _ x y c.before.before.action-of.result w.moved c.before.before.action-of.ensures c.if3.true w.invariant.1.0) refl
+returns-2 : tie.Need-returns-then-action-eq1 invariant-loop decreases-loop
+returns-2 c = let d = c in
+    let l = c in
+    let a = (st c.before.before.before.before.before.before.before).args in
+    let w = l.loop-count in
+    let n = d.in-Data.n in
+    let x : to_z w32 (w.offset + 32) ≡ pos (w.offset + 32) = to_z_pos w32 (omega (arith, data-in c.before.before.before)) in
+    let y : to_z w32 (n - 32) ≡ pos (n - 32) = to_z_pos w32 (omega (arith, data-in c.before.before.before)) in
+    frames-came a.log.now a.base a.term a.end a.at a.limit a.actions.now a.entries.now _ (w.count + 1) w.count w.moved w.moved w.settled (walks.turn-aborted a.log.now a.base a.term a.end a.at a.limit a.actions.now a.entries.now w.entries w.offset w.settled w.count n w.invariant.1.1 (omega arith) (omega arith) (is-data c.before.before.before) (omega arith) _ _ x y c.action_of-action.result w.moved c.action_of-action.ensures c.if-action-eq1.true w.invariant.1.0) refl
 
-sub-moved-2 : tie.Need-overflow-sub-moved-2 invariant-loop decreases-loop
-sub-moved-2 c = omega (arith, data-in c.before.before.before, c.before.before.before.before.before.before.before.before.before.loop.invariant.1.1.later)
+sub-moved-2 : tie.Need-overflow_sub-moved-in-Data invariant-loop decreases-loop
+sub-moved-2 c = omega (arith, data-in c.before.before.before, c.loop-count.invariant.1.1.later)
 
-loop-less-2 : tie.Need-loop-smaller-2 invariant-loop decreases-loop
+loop-less-2 : tie.Need-loop-count-smaller invariant-loop decreases-loop
 loop-less-2 c = omega (arith, data-in c.before.before.before.before.before)
 
-loop-again-2 : tie.Need-loop-preserved-2 invariant-loop decreases-loop
-loop-again-2 c = let d = c.before.before.before.before.before in
-    let l = c.before.before.before.before.before.before.before.before.before.before.before in
-    let a = (st l).args in
-    let w = l.loop in
-    let n = d.before.n2.given.0.0 in
-    let x : to_z w32 (w.offset + 32) ≡ pos (w.offset + 32) = to_z_pos w32 (omega (arith, data-in d)) in
-    let y : to_z w32 (n - 32) ≡ pos (n - 32) = to_z_pos w32 (omega (arith, data-in d)) in
-    (simp length-set w.invariant.0, (refl, walks.turn_on a.log.now a.base a.term a.end a.at a.limit a.actions.now a.entries.now w.entries w.offset w.settled w.count n w.invariant.1.1 (omega arith) (omega arith) (is-data d) (omega arith) c.before.before.before.ends-message.result c.before.last-settled.result _ _ c.before.before.before.ends-message.ensures c.before.last-settled.ensures x y c.before.before.before.before.action-of.result c.before.before.before.before.action-of.ensures c.before.before.if3.false c.if4.false))
+loop-again-2 : tie.Need-loop-count-preserved invariant-loop decreases-loop
+loop-again-2 c = let d = c in
+    let l = c in
+    let a = (st c.before.before.before.before.before.before.before.before.before).args in
+    let w = l.loop-count in
+    let n = d.in-Data.n in
+    let x : to_z w32 (w.offset + 32) ≡ pos (w.offset + 32) = to_z_pos w32 (omega (arith, data-in c.before.before.before.before.before)) in
+    let y : to_z w32 (n - 32) ≡ pos (n - 32) = to_z_pos w32 (omega (arith, data-in c.before.before.before.before.before)) in
+    (simp length-set w.invariant.0, (refl, walks.turn_on a.log.now a.base a.term a.end a.at a.limit a.actions.now a.entries.now w.entries w.offset w.settled w.count n w.invariant.1.1 (omega arith) (omega arith) (is-data c.before.before.before.before.before) (omega arith) c.ends_message-whole.result c.last_settled-settled.result _ _ c.ends_message-whole.ensures c.last_settled-settled.ensures x y c.action_of-action.result c.action_of-action.ensures c.if-action-eq1.false c.if-action-eq2.false))
 
-returns-3 : tie.Need-returns-3 invariant-loop decreases-loop
+returns-3 : tie.Need-returns-then-limit-count invariant-loop decreases-loop
 returns-3 c =
-    let l = c.before in
-    let a = (st l).args in
-    let w = l.loop in
-    frames-came a.log.now a.base a.term a.end a.at a.limit a.actions.now a.entries.now w.entries w.count w.count (w.offset - a.at) w.moved w.settled (walks.full a.log.now a.base a.term a.end a.at a.limit a.actions.now a.entries.now w.entries w.offset w.settled w.count w.invariant.1.1 c.loop-test.true) w.invariant.1.0
+    let l = c in
+    let a = (st c.before).args in
+    let w = l.loop-count in
+    frames-came a.log.now a.base a.term a.end a.at a.limit a.actions.now a.entries.now w.entries w.count w.count (w.offset - a.at) w.moved w.settled (walks.full a.log.now a.base a.term a.end a.at a.limit a.actions.now a.entries.now w.entries w.offset w.settled w.count w.invariant.1.1 c.if-limit-count.true) w.invariant.1.0
 
-returns-4 : tie.Need-returns-4 invariant-loop decreases-loop
+returns-4 : tie.Need-returns-then-end-offset invariant-loop decreases-loop
 returns-4 c =
-    let l = c.before.before in
-    let a = (st l).args in
-    let w = l.loop in
-    frames-came a.log.now a.base a.term a.end a.at a.limit a.actions.now a.entries.now w.entries w.count w.count (w.offset - a.at) w.moved w.settled (walks.past a.log.now a.base a.term a.end a.at a.limit a.actions.now a.entries.now w.entries w.offset w.settled w.count w.invariant.1.1 c.if1.true) w.invariant.1.0
+    let l = c in
+    let a = (st c.before.before).args in
+    let w = l.loop-count in
+    frames-came a.log.now a.base a.term a.end a.at a.limit a.actions.now a.entries.now w.entries w.count w.count (w.offset - a.at) w.moved w.settled (walks.past a.log.now a.base a.term a.end a.at a.limit a.actions.now a.entries.now w.entries w.offset w.settled w.count w.invariant.1.1 c.if-end-offset.true) w.invariant.1.0
 
-returns-5 : tie.Need-returns-5 invariant-loop decreases-loop
+returns-5 : tie.Need-returns-in-Absent invariant-loop decreases-loop
 returns-5 c =
-    let l = c.before.before.before.before.before in
-    let a = (st l).args in
-    let w = l.loop in
-    frames-came a.log.now a.base a.term a.end a.at a.limit a.actions.now a.entries.now w.entries w.count w.count (w.offset - a.at) w.moved w.settled (walks.absent a.log.now a.base a.term a.end a.at a.limit a.actions.now a.entries.now w.entries w.offset w.settled w.count w.invariant.1.1 (sym c.before.before.frame_at.ensures ∙ c.enum_told.given.1)) w.invariant.1.0
+    let l = c in
+    let a = (st c.before.before.before.before).args in
+    let w = l.loop-count in
+    frames-came a.log.now a.base a.term a.end a.at a.limit a.actions.now a.entries.now w.entries w.count w.count (w.offset - a.at) w.moved w.settled (walks.absent a.log.now a.base a.term a.end a.at a.limit a.actions.now a.entries.now w.entries w.offset w.settled w.count w.invariant.1.1 (sym c.frame_at.ensures ∙ c.in-Absent.is)) w.invariant.1.0
 
-returns-6 : tie.Need-returns-6 invariant-loop decreases-loop
+returns-6 : tie.Need-returns-else-offset-at invariant-loop decreases-loop
 returns-6 c =
-    let l = c.before.before.before.before.before.before.before in
-    let a = (st l).args in
-    let w = l.loop in
-    frames-came a.log.now a.base a.term a.end a.at a.limit a.actions.now a.entries.now w.entries w.count w.count (w.offset - a.at) w.moved w.settled (walks.unsound a.log.now a.base a.term a.end a.at a.limit a.actions.now a.entries.now w.entries w.offset w.settled w.count _ w.invariant.1.1 (sym c.before.before.before.before.frame_at.ensures ∙ c.before.before.found.given.1) c.if2.false) w.invariant.1.0
+    let l = c in
+    let a = (st c.before.before.before.before.before).args in
+    let w = l.loop-count in
+    frames-came a.log.now a.base a.term a.end a.at a.limit a.actions.now a.entries.now w.entries w.count w.count (w.offset - a.at) w.moved w.settled (walks.unsound a.log.now a.base a.term a.end a.at a.limit a.actions.now a.entries.now w.entries w.offset w.settled w.count _ w.invariant.1.1 (sym c.frame_at.ensures ∙ c.in-Unsound.is) c.if-offset-at.false) w.invariant.1.0
 
-same-length-7 : tie.Need-same-length-7 invariant-loop decreases-loop
+same-length-7 : tie.Need-shape_of-entries-then-action-eq2 invariant-loop decreases-loop
 same-length-7 c = simp length-set (search rules)
 
-returns-7 : tie.Need-returns-7 invariant-loop decreases-loop
-returns-7 c = let d = c.before.before.before.before.before in
-    let l = c.before.before.before.before.before.before.before.before.before.before.before in
-    let a = (st l).args in
-    let w = l.loop in
-    let n = d.before.n2.given.0.0 in
-    let x : to_z w32 (w.offset + 32) ≡ pos (w.offset + 32) = to_z_pos w32 (omega (arith, data-in d)) in
-    let y : to_z w32 (n - 32) ≡ pos (n - 32) = to_z_pos w32 (omega (arith, data-in d)) in
-    frames-came a.log.now a.base a.term a.end a.at a.limit a.actions.now a.entries.now _ (w.count + 1) (w.count + 1) (w.offset + (n + 31) / 32 * 32 - a.at) _ c.before.last-settled.result (walks.turn-broken a.log.now a.base a.term a.end a.at a.limit a.actions.now a.entries.now w.entries w.offset w.settled w.count n w.invariant.1.1 (omega arith) (omega arith) (is-data d) (omega arith) c.before.before.before.ends-message.result c.before.last-settled.result _ _ c.before.before.before.ends-message.ensures c.before.last-settled.ensures x y c.before.before.before.before.action-of.result c.before.before.before.before.action-of.ensures c.if4.true) refl
+returns-7 : tie.Need-returns-then-action-eq2 invariant-loop decreases-loop
+returns-7 c = let d = c in
+    let l = c in
+    let a = (st c.before.before.before.before.before.before.before.before.before).args in
+    let w = l.loop-count in
+    let n = d.in-Data.n in
+    let x : to_z w32 (w.offset + 32) ≡ pos (w.offset + 32) = to_z_pos w32 (omega (arith, data-in c.before.before.before.before.before)) in
+    let y : to_z w32 (n - 32) ≡ pos (n - 32) = to_z_pos w32 (omega (arith, data-in c.before.before.before.before.before)) in
+    frames-came a.log.now a.base a.term a.end a.at a.limit a.actions.now a.entries.now _ (w.count + 1) (w.count + 1) (w.offset + (n + 31) / 32 * 32 - a.at) _ c.last_settled-settled.result (walks.turn-broken a.log.now a.base a.term a.end a.at a.limit a.actions.now a.entries.now w.entries w.offset w.settled w.count n w.invariant.1.1 (omega arith) (omega arith) (is-data c.before.before.before.before.before) (omega arith) c.ends_message-whole.result c.last_settled-settled.result _ _ c.ends_message-whole.ensures c.last_settled-settled.ensures x y c.action_of-action.result c.action_of-action.ensures c.if-action-eq2.true) refl
 
-pub walk-frames-spec : {M : Type 1} → statement M
-walk-frames-spec =
+pub walk_frames_spec : {M : Type 1} → statement M
+walk_frames_spec =
     tie.close
     (tie.spec
     invariant-loop

@@ -6,15 +6,15 @@ use Rattle.model.specs.LogBufferDescriptor.{good_partition, good_offset}
 use Rattle.logbuffer.proofs.term_scan.good_scan.Statement.{statement}
 use Rattle.logbuffer.proofs.term_scan.good_scan.Tie as tie
 
-returns : tie.Need-returns
+returns : tie.Need-returns-then-not-good_place
 returns c =
-    let a = c.before.before.args in
-    and-not (good_partition a.p.partition) (good_offset a.p.offset a.p.read) _ (sym c.before.good-place.ensures ∙ not-true _ c.if1.true)
+    let a = c.args in
+    and-not (good_partition a.p.partition) (good_offset a.p.offset a.p.read) _ (sym c.good_place.ensures ∙ not-true _ c.if-not-good_place.true-raw)
 
-returns-2 : tie.Need-returns-2
+returns-2 : tie.Need-returns
 returns-2 c =
-    let a = c.before.before.before.args in
-    c.within-term.ensures ∙ and_then (good_partition a.p.partition) (good_offset a.p.offset a.p.read) _ (sym c.before.before.good-place.ensures ∙ not-false _ c.before.if1.false)
+    let a = c.args in
+    c.within_term.ensures ∙ and_then (good_partition a.p.partition) (good_offset a.p.offset a.p.read) _ (sym c.good_place.ensures ∙ not-false _ c.if-not-good_place.false-raw)
 
-pub good-scan-spec : {M : Type 1} → statement M
-good-scan-spec = tie.close (tie.spec (search rules) returns (search rules) returns-2)
+pub good_scan_spec : {M : Type 1} → statement M
+good_scan_spec = tie.close (tie.spec (search rules) returns (search rules) returns-2)

@@ -8,5 +8,5 @@ use Rattle.logbuffer.proofs.term_scan.outcome.Tie as tie
 returns : tie.Need-returns
 returns c = ap Outcome (to_z_pos w64 (omega arith))
 
-pub outcome-spec : {M : Type 1} → statement M
-outcome-spec = tie.close (tie.spec (search rules) (search rules) (search rules) returns)
+pub outcome_spec : {M : Type 1} → statement M
+outcome_spec = tie.close (tie.spec (search rules) (search rules) (search rules) returns)

@@ -11,55 +11,55 @@ use Rattle.logbuffer.proofs.Signed.{word-by}
 use Rattle.logbuffer.proofs.term_scan.scan_for_gap.Statement.{statement}
 use Rattle.logbuffer.proofs.term_scan.scan_for_gap.Tie as tie
 
-abbrev st : tie.After-first-rows → tie.Start
-st c = c.before.before.before.before.before
+abbrev st : tie.After-first_rows → tie.Start
+st c = c.before.before.before.before.before.before
 
-abbrev p : tie.After-first-rows → Place
-p c = c.before.before.before.place.result
+abbrev p : tie.After-first_rows → Place
+p c = c.place-p.result
 
-abbrev mark : tie.After-first-rows → ℕ
-mark c = c.before.before.word.result
+abbrev mark : tie.After-first_rows → ℕ
+mark c = c.word-mark.result
 
-p-is : (c : tie.After-first-rows) → p c ≡ place_of (st c).args.rec (st c).args.partition (st c).args.offset
-p-is c = c.before.before.before.place.ensures.0 ∙ search rules
+p-is : (c : tie.After-first_rows) → p c ≡ place_of (st c).args.rec (st c).args.partition (st c).args.offset
+p-is c = c.place-p.ensures.0 ∙ search rules
 
-mark-is : (c : tie.After-first-rows) → mark c ≡ word (st c).args.high
-mark-is c = word-by (st c).args.high c.before.before.word.ensures.0 (st c).ranges.high
+mark-is : (c : tie.After-first_rows) → mark c ≡ word (st c).args.high
+mark-is c = word-by (st c).args.high c.word-mark.ensures.0 (st c).ranges.high
 
-rows : (c : tie.After-first-rows)
+rows : (c : tie.After-first_rows)
     → first_rows (good_partition (p c).partition && (good_offset (p c).offset (p c).read && (eqb (mark c % 32) 0 && within_term (mark c) (p c).read))) (sound (p c).read (length (st c).args.log.now)) Pass ≡ c.first_rows.result
-rows c = ap (λ (g : Bool). first_rows g (sound (p c).read (length (st c).args.log.now)) Pass) (sym c.before.good-gap.ensures) ∙ sym c.first_rows.ensures
+rows c = ap (λ (g : Bool). first_rows g (sound (p c).read (length (st c).args.log.now)) Pass) (sym c.good_gap.ensures) ∙ sym c.first_rows.ensures
 
-place : (c : tie.After-first-rows) → c.first_rows.result ≡ Pass
+place : (c : tie.After-first_rows) → c.first_rows.result ≡ Pass
     → Placed (p c).read (length (st c).args.log.now) (p c).partition (p c).offset × ((mark c ≤ (p c).read.term) × (mark c % 32 ≡ 0))
 place c h =
     let q = rows-placed (p c) _ _ (rows c ∙ h) in
     let m = and-true (eqb (mark c % 32) 0) _ q.1 in
     (q.0, (within (mark c) (p c).read m.1, eqb-true _ _ m.0))
 
-mul-gap-frames : tie.Need-overflow-mul-gap-frames
+mul-gap-frames : tie.Need-overflow_mul-p
 mul-gap-frames c =
-    let q = c.before.before.before in record { fits = omega (arith, (place q c.before.enum_told.given.1).0.inside, (st q).well-formed) }
+    let q = c in record { fits = omega (arith, (place c.before.before c.in-Pass.is).0.inside, (st c.before.before).well_formed) }
 
-gap-frames-requires : tie.Need-gap-frames-requires
+gap-frames-requires : tie.Need-gap_frames-requires
 gap-frames-requires c κs =
-    let f = place c.before.before.before c.before.enum_told.given.1 in (f.0.inside, (f.0.term-high, (f.1.0, (f.1.1, (f.0.at-32, f.0.below)))))
+    let f = place c.before.before c.in-Pass.is in (f.0.inside, (f.0.term-high, (f.1.0, (f.1.1, (f.0.at-32, f.0.below)))))
 
-returns : tie.Need-returns
+returns : tie.Need-returns-in-Refuse
 returns c =
-    let q = c.before.before.before in
-    let a = (st q).args in
-    gap-refused a.rec a.log.now a.partition a.offset (p q) (p-is q) a.«term-id» a.high (mark q) (mark-is q) (rows q ∙ c.before.e.given.1)
+    let q = c in
+    let a = (st c.before).args in
+    gap-refused a.rec a.log.now a.partition a.offset (p c.before) (p-is c.before) a.term_id a.high (mark c.before) (mark-is c.before) (rows c.before ∙ c.in-Refuse.is)
 
-returns-2 : tie.Need-returns-2
+returns-2 : tie.Need-returns-in-Pass
 returns-2 c =
-    let q = c.before.before.before.before in
-    let a = (st q).args in
-    c.gap-frames.ensures ∙ gap-goes a.rec a.log.now a.partition a.offset (p q) (p-is q) (to_z w32 (of_z w32 a.«term-id»)) a.high (mark q) (mark-is q) (rows q ∙ c.before.before.enum_told.given.1)
+    let q = c in
+    let a = (st c.before.before.before).args in
+    c.gap_frames.ensures ∙ gap-goes a.rec a.log.now a.partition a.offset (p c.before.before.before) (p-is c.before.before.before) (to_z w32 (of_z w32 a.term_id)) a.high (mark c.before.before.before) (mark-is c.before.before.before) (rows c.before.before.before ∙ c.in-Pass.is)
     ∙ search rules
 
-pub scan-for-gap-spec : {M : Type 1} → statement M
-scan-for-gap-spec =
+pub scan_for_gap_spec : {M : Type 1} → statement M
+scan_for_gap_spec =
     tie.close
     (tie.spec
     (search rules)

@@ -9,90 +9,90 @@ use Rattle.model.proofs.ScanLaws as laws
 use Rattle.logbuffer.proofs.term_scan.scan_frames.Statement.{statement}
 use Rattle.logbuffer.proofs.term_scan.scan_frames.Tie as tie
 
-abbrev invariant-loop : tie.invariant-loop
+abbrev invariant-loop : tie.invariant-loop-offset
 invariant-loop log base term limit at offset₀ offset = Scanning log base term limit at offset
 
-abbrev decreases-loop : tie.decreases-loop
+abbrev decreases-loop : tie.decreases-loop-offset
 decreases-loop log base term limit at offset₀ offset = limit - offset
 
 -- the entry, and what is seen of a frame, from the loop's head
-abbrev st : tie.At-loop invariant-loop decreases-loop → tie.Start invariant-loop decreases-loop
+abbrev st : tie.At-loop-offset invariant-loop decreases-loop → tie.Start invariant-loop decreases-loop
 st c = c.before.before
 
-abbrev head : tie.After-frame-at invariant-loop decreases-loop → tie.At-loop invariant-loop decreases-loop
+abbrev head : tie.After-frame_at invariant-loop decreases-loop → tie.At-loop-offset invariant-loop decreases-loop
 head c = c.before.before
 
-is-padding : (c : tie.After-known-told2 invariant-loop decreases-loop) → let l = head c.before.before.before in
-    frame_at (drop ((st l).args.base + l.loop.offset) (st l).args.log.now) ((st l).args.term - l.loop.offset) ≡ Padding c.before.n.given.0.0
-is-padding c = sym c.before.before.before.frame_at.ensures ∙ c.before.n.given.1
+is-padding : (c : tie.In-Padding invariant-loop decreases-loop) → let l = head c.before in
+    frame_at (drop ((st l).args.base + l.loop-offset.offset) (st l).args.log.now) ((st l).args.term - l.loop-offset.offset) ≡ Padding c.in-Padding.n
+is-padding c = sym c.frame_at.ensures ∙ c.in-Padding.is
 
-padding-in : (c : tie.After-known-told2 invariant-loop decreases-loop) → let l = head c.before.before.before in Lies c.before.n.given.0.0 ((st l).args.term - l.loop.offset)
-padding-in c = lies _ _ (Padding c.before.n.given.0.0) (is-padding c) refl
+padding-in : (c : tie.In-Padding invariant-loop decreases-loop) → let l = head c.before in Lies c.in-Padding.n ((st l).args.term - l.loop-offset.offset)
+padding-in c = lies _ _ (Padding c.in-Padding.n) (is-padding c) refl
 
-is-data : (c : tie.After-known-told3 invariant-loop decreases-loop) → let l = head c.before.before.before in
-    frame_at (drop ((st l).args.base + l.loop.offset) (st l).args.log.now) ((st l).args.term - l.loop.offset) ≡ Data c.before.n2.given.0.0
-is-data c = sym c.before.before.before.frame_at.ensures ∙ c.before.n2.given.1
+is-data : (c : tie.In-Data invariant-loop decreases-loop) → let l = head c.before in
+    frame_at (drop ((st l).args.base + l.loop-offset.offset) (st l).args.log.now) ((st l).args.term - l.loop-offset.offset) ≡ Data c.in-Data.n
+is-data c = sym c.frame_at.ensures ∙ c.in-Data.is
 
-data-in : (c : tie.After-known-told3 invariant-loop decreases-loop) → let l = head c.before.before.before in Lies c.before.n2.given.0.0 ((st l).args.term - l.loop.offset)
-data-in c = lies _ _ (Data c.before.n2.given.0.0) (is-data c) refl
+data-in : (c : tie.In-Data invariant-loop decreases-loop) → let l = head c.before in Lies c.in-Data.n ((st l).args.term - l.loop-offset.offset)
+data-in c = lies _ _ (Data c.in-Data.n) (is-data c) refl
 
-loop-holds : tie.Need-loop-init invariant-loop decreases-loop
-loop-holds c = let a = c.before.args in laws.scan-start a.log.now a.base a.term a.limit a.at (omega arith)
+loop-holds : tie.Need-loop-offset-init invariant-loop decreases-loop
+loop-holds c = let a = c.args in laws.scan-start a.log.now a.base a.term a.limit a.at (omega arith)
 
-returns : tie.Need-returns invariant-loop decreases-loop
+returns : tie.Need-returns-then-offset-at invariant-loop decreases-loop
 returns c =
-    let l = c.before.before.before.before.before.before.before in
-    let a = (st l).args in
-    ap Refused c.unsound-frame.ensures
-    ∙ laws.scan-first a.log.now a.base a.term a.limit a.at l.loop.offset _ c.before.if1.true (omega arith) (sym c.before.before.before.before.before.frame_at.ensures ∙ c.before.before.before.found.given.1)
+    let l = c in
+    let a = (st c.before.before.before.before.before).args in
+    ap Refused c.unsound_frame.ensures
+    ∙ laws.scan-first a.log.now a.base a.term a.limit a.at l.loop-offset.offset _ c.if-offset-at.true (omega arith) (sym c.frame_at.ensures ∙ c.in-Unsound.is)
 
-returns-2 : tie.Need-returns-2 invariant-loop decreases-loop
+returns-2 : tie.Need-returns-then-offset-at-2 invariant-loop decreases-loop
 returns-2 c =
-    let l = c.before.before.before.before.before.before in
-    let a = (st l).args in
-    laws.scan-past a.log.now a.base a.term a.limit a.at l.loop.offset c.before.before.n.given.0.0 l.loop.invariant (omega arith) (is-padding c.before) c.if2.true
+    let l = c in
+    let a = (st c.before.before.before.before).args in
+    laws.scan-past a.log.now a.base a.term a.limit a.at l.loop-offset.offset c.in-Padding.n l.loop-offset.invariant (omega arith) (is-padding c.before) c.if-offset-at-2.true
 
-loop-less : tie.Need-loop-smaller invariant-loop decreases-loop
+loop-less : tie.Need-loop-offset-smaller invariant-loop decreases-loop
 loop-less c = omega (arith, data-in c.before)
 
-loop-again : tie.Need-loop-preserved invariant-loop decreases-loop
+loop-again : tie.Need-loop-offset-preserved invariant-loop decreases-loop
 loop-again c =
-    let l = c.before.before.before.before.before.before in
-    let a = (st l).args in
-    laws.scan-on a.log.now a.base a.term a.limit a.at l.loop.offset c.before.before.n2.given.0.0 l.loop.invariant (omega arith) c.if3.false (is-data c.before)
+    let l = c in
+    let a = (st c.before.before.before.before).args in
+    laws.scan-on a.log.now a.base a.term a.limit a.at l.loop-offset.offset c.in-Data.n l.loop-offset.invariant (omega arith) c.if-next-limit.false (is-data c.before)
 
-returns-3 : tie.Need-returns-3 invariant-loop decreases-loop
+returns-3 : tie.Need-returns-then-limit-offset invariant-loop decreases-loop
 returns-3 c =
-    let l = c.before in
-    let a = (st l).args in
-    laws.scan-full a.log.now a.base a.term a.limit a.at l.loop.offset l.loop.invariant c.loop-test.true
+    let l = c in
+    let a = (st c.before).args in
+    laws.scan-full a.log.now a.base a.term a.limit a.at l.loop-offset.offset l.loop-offset.invariant c.if-limit-offset.true
 
-returns-4 : tie.Need-returns-4 invariant-loop decreases-loop
+returns-4 : tie.Need-returns-in-Absent invariant-loop decreases-loop
 returns-4 c =
-    let l = c.before.before.before.before in
-    let a = (st l).args in
-    laws.scan-absent a.log.now a.base a.term a.limit a.at l.loop.offset l.loop.invariant (sym c.before.before.frame_at.ensures ∙ c.enum_told.given.1)
+    let l = c in
+    let a = (st c.before.before.before).args in
+    laws.scan-absent a.log.now a.base a.term a.limit a.at l.loop-offset.offset l.loop-offset.invariant (sym c.frame_at.ensures ∙ c.in-Absent.is)
 
-returns-5 : tie.Need-returns-5 invariant-loop decreases-loop
+returns-5 : tie.Need-returns-else-offset-at invariant-loop decreases-loop
 returns-5 c =
-    let l = c.before.before.before.before.before.before in
-    let a = (st l).args in
-    laws.scan-unsound a.log.now a.base a.term a.limit a.at l.loop.offset _ l.loop.invariant (sym c.before.before.before.before.frame_at.ensures ∙ c.before.before.found.given.1) c.if1.false
+    let l = c in
+    let a = (st c.before.before.before.before).args in
+    laws.scan-unsound a.log.now a.base a.term a.limit a.at l.loop-offset.offset _ l.loop-offset.invariant (sym c.frame_at.ensures ∙ c.in-Unsound.is) c.if-offset-at.false
 
-returns-6 : tie.Need-returns-6 invariant-loop decreases-loop
+returns-6 : tie.Need-returns-else-offset-at-2 invariant-loop decreases-loop
 returns-6 c =
-    let l = c.before.before.before.before.before.before in
-    let a = (st l).args in
-    laws.scan-padding a.log.now a.base a.term a.limit a.at l.loop.offset c.before.before.n.given.0.0 l.loop.invariant (is-padding c.before) c.if2.false
+    let l = c in
+    let a = (st c.before.before.before.before).args in
+    laws.scan-padding a.log.now a.base a.term a.limit a.at l.loop-offset.offset c.in-Padding.n l.loop-offset.invariant (is-padding c.before) c.if-offset-at-2.false
 
-returns-7 : tie.Need-returns-7 invariant-loop decreases-loop
+returns-7 : tie.Need-returns-then-next-limit invariant-loop decreases-loop
 returns-7 c =
-    let l = c.before.before.before.before.before.before in
-    let a = (st l).args in
-    laws.scan-long a.log.now a.base a.term a.limit a.at l.loop.offset c.before.before.n2.given.0.0 l.loop.invariant (is-data c.before) c.if3.true
+    let l = c in
+    let a = (st c.before.before.before.before).args in
+    laws.scan-long a.log.now a.base a.term a.limit a.at l.loop-offset.offset c.in-Data.n l.loop-offset.invariant (is-data c.before) c.if-next-limit.true
 
-pub scan-frames-spec : {M : Type 1} → statement M
-scan-frames-spec =
+pub scan_frames_spec : {M : Type 1} → statement M
+scan_frames_spec =
     tie.close
     (tie.spec
     invariant-loop

@@ -4,7 +4,7 @@ use Rattle.logbuffer.proofs.way.append_reply.Statement.{statement}
 use Rattle.logbuffer.proofs.way.append_reply.Tie as tie
 
 returns : tie.Need-returns
-returns c = cc (c.before.moved.ensures, c.appended.ensures)
+returns c = cc (c.moved-next.ensures, c.appended.ensures)
 
-pub append-reply-spec : {M : Type 1} → statement M
-append-reply-spec = tie.close (tie.spec (search rules) (search rules) returns)
+pub append_reply_spec : {M : Type 1} → statement M
+append_reply_spec = tie.close (tie.spec (search rules) (search rules) returns)

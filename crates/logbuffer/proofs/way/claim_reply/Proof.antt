@@ -4,7 +4,7 @@ use Rattle.logbuffer.proofs.way.claim_reply.Statement.{statement}
 use Rattle.logbuffer.proofs.way.claim_reply.Tie as tie
 
 returns : tie.Need-returns
-returns c = cc (c.before.moved.ensures, c.claimed.ensures)
+returns c = cc (c.moved-next.ensures, c.claimed.ensures)
 
-pub claim-reply-spec : {M : Type 1} → statement M
-claim-reply-spec = tie.close (tie.spec (search rules) (search rules) returns)
+pub claim_reply_spec : {M : Type 1} → statement M
+claim_reply_spec = tie.close (tie.spec (search rules) (search rules) returns)

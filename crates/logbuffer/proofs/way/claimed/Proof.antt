@@ -3,17 +3,17 @@ use Rattle.std.proofs.Common.{rules}
 use Rattle.logbuffer.proofs.way.claimed.Statement.{statement}
 use Rattle.logbuffer.proofs.way.claimed.Tie as tie
 
-returns : tie.Need-returns
-returns c = rw c.before.course.given.1
+returns : tie.Need-returns-in-Refuse
+returns c = rw c.in-Refuse.is
 
-returns-2 : tie.Need-returns-2
-returns-2 c = rw c.enum_told.given.1
+returns-2 : tie.Need-returns-in-Stray
+returns-2 c = rw c.in-Stray.is
 
-returns-4 : tie.Need-returns-4
-returns-4 c = rw c.enum-told3.given.1
+returns-4 : tie.Need-returns-in-Fit
+returns-4 c = rw c.in-Fit.is
 
-pub claimed-spec : {M : Type 1} → statement M
-claimed-spec =
+pub claimed_spec : {M : Type 1} → statement M
+claimed_spec =
     tie.close
     (tie.spec
     (search rules)

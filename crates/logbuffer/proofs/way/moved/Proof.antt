@@ -5,29 +5,29 @@ use Rattle.logbuffer.proofs.Ways.{tail-moves, none_moves, refused-moves}
 use Rattle.logbuffer.proofs.way.moved.Statement.{statement}
 use Rattle.logbuffer.proofs.way.moved.Tie as tie
 
-returns : tie.Need-returns
-returns c = let a = c.before.before.args in refused-moves a.rec a.k a.way a.way.course _ c.enum_told.given.1
+returns : tie.Need-returns-in-Refuse
+returns c = let a = c.args in refused-moves a.rec a.k a.way a.way.course _ c.in-Refuse.is
 
-returns-2 : tie.Need-returns-2
-returns-2 c = let a = c.before.before.before.before.before.args in
-    c.with-tails.ensures ∙ tail-moves a.rec a.k 0 a.way a.way.course _ c.before.before.before.before.match.keys2 (omega arith) (to_z-of_z {w = w64} {z = a.way.tail} (search rules))
+returns-2 : tie.Need-returns-then-k-eq0
+returns-2 c = let a = c.args in
+    c.with_tails.ensures ∙ tail-moves a.rec a.k 0 a.way a.way.course _ c.in_default.in_default-own.keys2 (omega arith) (to_z-of_z {w = w64} {z = a.way.tail} (search rules))
 
-returns-3 : tie.Need-returns-3
-returns-3 c = let a = c.before.before.before.before.before.before.args in
-    c.with-tails2.ensures ∙ tail-moves a.rec a.k 1 a.way a.way.course _ c.before.before.before.before.before.match.keys2 (omega arith) (to_z-of_z {w = w64} {z = a.way.tail} (search rules))
+returns-3 : tie.Need-returns-then-k-eq1
+returns-3 c = let a = c.args in
+    c.with_tails-then-k-eq1.ensures ∙ tail-moves a.rec a.k 1 a.way a.way.course _ c.in_default.in_default-own.keys2 (omega arith) (to_z-of_z {w = w64} {z = a.way.tail} (search rules))
 
-returns-4 : tie.Need-returns-4
-returns-4 c = let a = c.before.before.before.before.before.before.before.args in
-    c.with-tails3.ensures ∙ tail-moves a.rec a.k 2 a.way a.way.course _ c.before.before.before.before.before.before.match.keys2 (omega arith) (to_z-of_z {w = w64} {z = a.way.tail} (search rules))
+returns-4 : tie.Need-returns-then-k-eq2
+returns-4 c = let a = c.args in
+    c.with_tails-then-k-eq2.ensures ∙ tail-moves a.rec a.k 2 a.way a.way.course _ c.in_default.in_default-own.keys2 (omega arith) (to_z-of_z {w = w64} {z = a.way.tail} (search rules))
 
-returns-5 : tie.Need-returns-5
+returns-5 : tie.Need-returns
 returns-5 c =
-    let s = c.before.before.before.before.before.before in
-    let three : length s.args.rec.tails ≡ 3 = sym (length-map s.args.rec.tails (λ (v : ℤ). v)) ∙ s.well-formed.0.1.1.0.1.0.1 in
+    let s = c in
+    let three : length s.args.rec.tails ≡ 3 = sym (length-map s.args.rec.tails (λ (v : ℤ). v)) ∙ s.well_formed.0.1.1.0.1.0.1 in
     none_moves s.args.rec s.args.k s.args.way s.args.way.course (omega arith)
 
-pub moved-spec : {M : Type 1} → statement M
-moved-spec =
+pub moved_spec : {M : Type 1} → statement M
+moved_spec =
     tie.close
     (tie.spec
     (search rules)

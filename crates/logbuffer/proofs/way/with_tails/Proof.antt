@@ -28,8 +28,8 @@ unfolding changed
 rebuilt r t a b c d e f g i j k l m n ea eb ec ed ee ef eg ei ej ek el em en = cc
 
 returns : tie.Need-returns
-returns c = let r = c.before.before.args.rec in
-    rebuilt r c.before.before.args.tails _ _ _ _ _ _ _ _ _ _ _ _ _
+returns c = let r = c.args.rec in
+    rebuilt r c.args.tails _ _ _ _ _ _ _ _ _ _ _ _ _
     (to_z-of_z {w = w32} {z = r.active_term_count} (search rules))
     (to_z-of_z {w = w32} {z = r.initial_term_id} (search rules))
     (to_z-of_z {w = w32} {z = r.term_length} (search rules))
@@ -44,5 +44,5 @@ returns c = let r = c.before.before.args.rec in
     (to_z-of_z {w = w64} {z = r.correlation_id} (search rules))
     (to_z-of_z {w = w32} {z = r.page_size} (search rules))
 
-pub with-tails-spec : {M : Type 1} → statement M
-with-tails-spec = tie.close (tie.spec returns)
+pub with_tails_spec : {M : Type 1} → statement M
+with_tails_spec = tie.close (tie.spec returns)

@@ -8,7 +8,7 @@ use Rattle.metadata.proofs.bytes.get_i32.Statement.{statement}
 use Rattle.metadata.proofs.bytes.get_i32.Tie as tie
 
 returns : tie.Need-returns
-returns c = kept4 (c.to-i32.ensures ∙ ap (to_z w32) c.before.word4.ensures.0) (search rules)
+returns c = kept4 (c.to_i32.ensures ∙ ap (to_z w32) c.word4.ensures.0) (search rules)
 
-pub get-i32-spec : {M : Type 1} → statement M
-get-i32-spec = tie.close (tie.spec (search rules) (search rules) returns)
+pub get_i32_spec : {M : Type 1} → statement M
+get_i32_spec = tie.close (tie.spec (search rules) (search rules) returns)

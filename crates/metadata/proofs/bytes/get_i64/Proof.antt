@@ -8,7 +8,7 @@ use Rattle.metadata.proofs.bytes.get_i64.Statement.{statement}
 use Rattle.metadata.proofs.bytes.get_i64.Tie as tie
 
 returns : tie.Need-returns
-returns c = kept8 (c.to-i64.ensures ∙ ap (to_z w64) c.before.long8.ensures) (search rules)
+returns c = kept8 (c.to_i64.ensures ∙ ap (to_z w64) c.long8.ensures) (search rules)
 
-pub get-i64-spec : {M : Type 1} → statement M
-get-i64-spec = tie.close (tie.spec (search rules) (search rules) returns)
+pub get_i64_spec : {M : Type 1} → statement M
+get_i64_spec = tie.close (tie.spec (search rules) (search rules) returns)

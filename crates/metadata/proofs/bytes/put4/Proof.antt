@@ -7,23 +7,23 @@ use Rattle.logbuffer.proofs.Bytes.{fits-low8, four}
 use Rattle.metadata.proofs.bytes.put4.Statement.{statement}
 use Rattle.metadata.proofs.bytes.put4.Tie as tie
 
-cast-out : tie.Need-overflow-cast-out
+cast-out : tie.Need-overflow_cast-out
 cast-out c = fits-low8 c.args.n
 
-cast-out-2 : tie.Need-overflow-cast-out-2
+cast-out-2 : tie.Need-overflow_cast-out-2
 cast-out-2 c = fits-low8 (c.args.n / 256)
 
-cast-out-3 : tie.Need-overflow-cast-out-3
+cast-out-3 : tie.Need-overflow_cast-out-3
 cast-out-3 c = fits-low8 (c.args.n / 65536)
 
-cast-out-4 : tie.Need-overflow-cast-out-4
+cast-out-4 : tie.Need-overflow_cast-out-4
 cast-out-4 c = fits-low8 (c.args.n / 16777216)
 
 returns : tie.Need-returns
 returns c = four c.args.out.now c.args.at c.args.n c.requires
 
-pub put4-spec : {M : Type 1} → statement M
-put4-spec =
+pub put4_spec : {M : Type 1} → statement M
+put4_spec =
     tie.close
     (tie.spec
     cast-out

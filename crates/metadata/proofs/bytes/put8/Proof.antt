@@ -10,8 +10,8 @@ use Rattle.metadata.proofs.bytes.put8.Statement.{statement}
 use Rattle.metadata.proofs.bytes.put8.Tie as tie
 
 returns : tie.Need-returns
-returns c = let s = c.before.before.before.before.before.before.before.before.before.args in
-    c.before.before.put42.ensures ∙ ap (λ (x : List ℕ). splice x (s.at + 4) (le4 (s.n / 4294967296))) c.before.before.before.before.before.before.put4.ensures ∙ eight s.out.now s.at s.n (omega arith)
+returns c = let s = c.args in
+    c.put4-2.ensures ∙ ap (λ (x : List ℕ). splice x (s.at + 4) (le4 (s.n / 4294967296))) c.put4.ensures ∙ eight s.out.now s.at s.n (omega arith)
 
-pub put8-spec : {M : Type 1} → statement M
-put8-spec = tie.close (tie.spec (search rules) (search rules) (search rules) (search rules) returns)
+pub put8_spec : {M : Type 1} → statement M
+put8_spec = tie.close (tie.spec (search rules) (search rules) (search rules) (search rules) returns)

@@ -10,10 +10,10 @@ use Rattle.metadata.proofs.bytes.put_i32.Tie as tie
 
 returns : tie.Need-returns
 returns c =
-    let s = c.before.before.before.before.before.before in
+    let s = c in
     let a = s.args in
-    c.before.before.put4.ensures
-    ∙ ap (λ (n : ℕ). splice a.out.now a.at (le4 n)) (c.before.before.before.word.ensures.0 ∙ ap word (to_z-of_z {w = w32} {z = a.value} (search rules)))
+    c.put4.ensures
+    ∙ ap (λ (n : ℕ). splice a.out.now a.at (le4 n)) (c.word.ensures.0 ∙ ap word (to_z-of_z {w = w32} {z = a.value} (search rules)))
 
-pub put-i32-spec : {M : Type 1} → statement M
-put-i32-spec = tie.close (tie.spec (search rules) (search rules) (search rules) returns)
+pub put_i32_spec : {M : Type 1} → statement M
+put_i32_spec = tie.close (tie.spec (search rules) (search rules) (search rules) returns)

@@ -10,10 +10,10 @@ use Rattle.metadata.proofs.bytes.put_i64.Tie as tie
 
 returns : tie.Need-returns
 returns c =
-    let s = c.before.before.before.before.before.before in
+    let s = c in
     let a = s.args in
-    c.before.before.put8.ensures
-    ∙ ap (λ (n : ℕ). splice a.out.now a.at (le8 n)) (c.before.before.before.long.ensures.0 ∙ ap long (to_z-of_z {w = w64} {z = a.value} (search rules)))
+    c.put8.ensures
+    ∙ ap (λ (n : ℕ). splice a.out.now a.at (le8 n)) (c.long.ensures.0 ∙ ap long (to_z-of_z {w = w64} {z = a.value} (search rules)))
 
-pub put-i64-spec : {M : Type 1} → statement M
-put-i64-spec = tie.close (tie.spec (search rules) (search rules) (search rules) returns)
+pub put_i64_spec : {M : Type 1} → statement M
+put_i64_spec = tie.close (tie.spec (search rules) (search rules) (search rules) returns)

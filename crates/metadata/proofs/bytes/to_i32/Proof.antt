@@ -10,11 +10,11 @@ use Rattle.logbuffer.proofs.Signed.{halves32}
 use Rattle.metadata.proofs.bytes.to_i32.Statement.{statement}
 use Rattle.metadata.proofs.bytes.to_i32.Tie as tie
 
-cast-result-2 : tie.Need-overflow-cast-result-2
+cast-result-2 : tie.Need-overflow_cast-result-2
 cast-result-2 c = record { sfits = lt_trans (mask_lt c.args.bits 16) (lit< tt) }
 
 returns : tie.Need-returns
 returns c = ap (to_z w32) (halves32 c.args.bits c.requires)
 
-pub to-i32-spec : {M : Type 1} → statement M
-to-i32-spec = tie.close (tie.spec (search rules) cast-result-2 returns)
+pub to_i32_spec : {M : Type 1} → statement M
+to_i32_spec = tie.close (tie.spec (search rules) cast-result-2 returns)

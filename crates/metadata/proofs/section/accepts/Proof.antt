@@ -10,49 +10,49 @@ use Rattle.metadata.specs.Metadata.{zero_from, accepted}
 use Rattle.metadata.proofs.section.accepts.Statement.{statement}
 use Rattle.metadata.proofs.section.accepts.Tie as tie
 
-size : (c : tie.Else1) → eqb (length c.before.before.args.s.now) 320 ≡ true
-size c = eq-eqb _ 320 c.if1.false
+size : (c : tie.Else-s-ne-METADATA_LENGTH) → eqb (length c.args.s.now) 320 ≡ true
+size c = eq-eqb _ 320 c.if-s-ne-METADATA_LENGTH.false
 
-pad-1 : (c : tie.Else2) → zero_from 100 c.before.before.before.before.args.s.now 28 ≡ true
-pad-1 c = sym c.before.is_zero.ensures ∙ not-false _ c.if2.false
+pad-1 : (c : tie.Else-not-is_zero) → zero_from 100 c.args.s.now 28 ≡ true
+pad-1 c = sym c.is_zero.ensures ∙ not-false _ c.if-not-is_zero.false-raw
 
-pad-2 : (c : tie.Else3) → zero_from 112 c.before.before.before.before.before.before.args.s.now 144 ≡ true
-pad-2 c = sym c.before.is-zero2.ensures ∙ not-false _ c.if3.false
+pad-2 : (c : tie.Else-not-is_zero-2) → zero_from 112 c.args.s.now 144 ≡ true
+pad-2 c = sym c.is_zero-2.ensures ∙ not-false _ c.if-not-is_zero-2.false-raw
 
-pad-3 : (c : tie.Else4) → zero_from 36 c.before.before.before.before.before.before.before.before.args.s.now 284 ≡ true
-pad-3 c = sym c.before.is-zero3.ensures ∙ not-false _ c.if4.false
+pad-3 : (c : tie.Else-not-is_zero-3) → zero_from 36 c.args.s.now 284 ≡ true
+pad-3 c = sym c.is_zero-3.ensures ∙ not-false _ c.if-not-is_zero-3.false-raw
 
-returns : tie.Need-returns
+returns : tie.Need-returns-then-s-ne-METADATA_LENGTH
 unfolding accepted
-returns c = sym (rw (ne_eqb (length c.before.before.args.s.now) 320 c.if1.true))
+returns c = sym (rw (ne_eqb (length c.args.s.now) 320 c.if-s-ne-METADATA_LENGTH.true))
 
-returns-2 : tie.Need-returns-2
+returns-2 : tie.Need-returns-then-not-is_zero
 unfolding accepted
-returns-2 c = sym (rw (size c.before.before, sym c.before.is_zero.ensures ∙ not-true _ c.if2.true))
+returns-2 c = sym (rw (size c.before.before, sym c.is_zero.ensures ∙ not-true _ c.if-not-is_zero.true-raw))
 
-returns-3 : tie.Need-returns-3
+returns-3 : tie.Need-returns-then-not-is_zero-2
 unfolding accepted
 returns-3 c =
-    let d = c.before.before in
-    sym (rw (size d.before.before, pad-1 d, sym c.before.is-zero2.ensures ∙ not-true _ c.if3.true))
+    let d = c in
+    sym (rw (size c.before.before.before.before, pad-1 c.before.before, sym c.is_zero-2.ensures ∙ not-true _ c.if-not-is_zero-2.true-raw))
 
-returns-4 : tie.Need-returns-4
+returns-4 : tie.Need-returns-then-not-is_zero-3
 unfolding accepted
 returns-4 c =
-    let e = c.before.before in
-    let d = e.before.before in
-    sym (rw (size d.before.before, pad-1 d, pad-2 e, sym c.before.is-zero3.ensures ∙ not-true _ c.if4.true))
+    let e = c in
+    let d = c in
+    sym (rw (size c.before.before.before.before.before.before, pad-1 c.before.before.before.before, pad-2 c.before.before, sym c.is_zero-3.ensures ∙ not-true _ c.if-not-is_zero-3.true-raw))
 
-returns-5 : tie.Need-returns-5
+returns-5 : tie.Need-returns
 unfolding accepted
 returns-5 c =
-    let f = c.before in
-    let e = f.before.before in
-    let d = e.before.before in
-    ap (λ (n : ℕ). eqb n 32) c.word4.ensures.0 ∙ sym (rw (size d.before.before, pad-1 d, pad-2 e, pad-3 f))
+    let f = c in
+    let e = c in
+    let d = c in
+    ap (λ (n : ℕ). eqb n 32) c.word4.ensures.0 ∙ sym (rw (size c.before.before.before.before.before.before.before, pad-1 c.before.before.before.before.before, pad-2 c.before.before.before, pad-3 c.before))
 
-pub accepts-spec : {M : Type 1} → statement M
-accepts-spec =
+pub accepts_spec : {M : Type 1} → statement M
+accepts_spec =
     tie.close
     (tie.spec
     returns

@@ -9,7 +9,7 @@ use Rattle.metadata.proofs.section.tails_from.Tie as tie
 returns : tie.Need-returns
 unfolding tails_from
 returns c =
-    three-same _ _ _ _ _ _ (kept8 c.before.before.get-i64.ensures (search rules)) (kept8 c.before.get-i642.ensures (search rules)) (kept8 c.get-i643.ensures (search rules))
+    three-same _ _ _ _ _ _ (kept8 c.get_i64-first.ensures (search rules)) (kept8 c.get_i64-second.ensures (search rules)) (kept8 c.get_i64-third.ensures (search rules))
 
-pub tails-from-spec : {M : Type 1} → statement M
-tails-from-spec = tie.close (tie.spec (search rules) (search rules) (search rules) (search rules) (search rules) returns)
+pub tails_from_spec : {M : Type 1} → statement M
+tails_from_spec = tie.close (tie.spec (search rules) (search rules) (search rules) (search rules) (search rules) returns)

@@ -19,54 +19,54 @@ use Rattle.publication.proofs.ClearLaws.{clear-passed, clear-by, cleared-is}
 use Rattle.publication.proofs.clearing.clear_partition.Statement.{statement}
 use Rattle.publication.proofs.clearing.clear_partition.Tie as tie
 
-module _ (c : tie.After-before-clear) where
+module _ (c : tie.After-before_clear) where
   abbrev start : tie.Start
   start = c.before.before.before.before
 
   -- reply and bytes by the verdict
-  law : (x : Verdict) → c.before-clear.result ≡ x
-      → (reply_by start.args.rec (with_mark start.args.rec c.before.before.word.result true) x ≡ clear_of start.args.rec start.args.log.now start.args.partition)
-      × (cleared_by c.before.read-active.result start.args.log.now c.before.before.word.result x ≡ clear_bytes start.args.rec start.args.log.now start.args.partition)
+  law : (x : Verdict) → c.before_clear.result ≡ x
+      → (reply_by start.args.rec (with_mark start.args.rec c.word-k.result true) x ≡ clear_of start.args.rec start.args.log.now start.args.partition)
+      × (cleared_by c.read_active-v.result start.args.log.now c.word-k.result x ≡ clear_bytes start.args.rec start.args.log.now start.args.partition)
   law x h =
-      clear-by start.args.rec start.args.log.now start.args.partition c.before.read-active.result c.before.before.word.result x c.before.read-active.ensures
-      (c.before.before.word.ensures.0 ∙ ap word (to_z-of_z start.fits.partition)) (sym h ∙ c.before-clear.ensures)
+      clear-by start.args.rec start.args.log.now start.args.partition c.read_active-v.result c.word-k.result x c.read_active-v.ensures
+      (c.word-k.ensures.0 ∙ ap word (to_z-of_z start.fits.partition)) (sym h ∙ c.before_clear.ensures)
 
-  low : c.before-clear.result ≡ Pass → c.before.before.word.result ≤ 2
-  low h = (clear-passed _ _ _ (sym c.before-clear.ensures ∙ h)).0
+  low : c.before_clear.result ≡ Pass → c.word-k.result ≤ 2
+  low h = (clear-passed _ _ _ (sym c.before_clear.ensures ∙ h)).0
 
-  so : c.before-clear.result ≡ Pass → Sound c.before.read-active.result (length start.args.log.now)
-  so h = sound-true _ _ (clear-passed _ _ _ (sym c.before-clear.ensures ∙ h)).1
+  so : c.before_clear.result ≡ Pass → Sound c.read_active-v.result (length start.args.log.now)
+  so h = sound-true _ _ (clear-passed _ _ _ (sym c.before_clear.ensures ∙ h)).1
 
-  begins : (h : c.before-clear.result ≡ Pass) → c.before.before.word.result * c.before.read-active.result.term ≤ 2 * c.before.read-active.result.term
+  begins : (h : c.before_clear.result ≡ Pass) → c.word-k.result * c.read_active-v.result.term ≤ 2 * c.read_active-v.result.term
   begins h = mul-le-mul (low h) (omega arith)
 
-mul-from : tie.Need-overflow-mul-from
-mul-from c = let d = c.before.before in let h = c.enum_told.given.1 in omega (arith, begins d h, (so d h).term-high)
+mul-from : tie.Need-overflow_mul-from
+mul-from c = let d = c in let h = c.in-Pass.is in omega (arith, begins c.before h, (so c.before h).term-high)
 
-add-to : tie.Need-overflow-add-to
-add-to c = let d = c.before.before in let h = c.enum_told.given.1 in omega (arith, begins d h, (so d h).term-high)
+add-to : tie.Need-overflow_add-to
+add-to c = let d = c in let h = c.in-Pass.is in omega (arith, begins c.before h, (so c.before h).term-high)
 
-part-clear-end : tie.Need-slice-bounds-clear-end
-part-clear-end c = let d = c.before.before in let h = c.enum_told.given.1 in omega (arith, begins d h, (so d h).three, (so d h).term-low)
+part-clear-end : tie.Need-slice_bounds-clear-end
+part-clear-end c = let d = c in let h = c.in-Pass.is in omega (arith, begins c.before h, (so c.before h).three, (so c.before h).term-low)
 
 marked-requires : tie.Need-marked-requires
-marked-requires c κs = let h = low c.before.before.before.before.before.before c.before.before.before.before.enum_told.given.1 in omega arith
+marked-requires c κs = let h = low c.before.before.before.before.before c.in-Pass.is in omega arith
 
-returns : tie.Need-returns
-returns c = law c.before.before.before _ c.before.e.given.1
+returns : tie.Need-returns-in-Refuse
+returns c = law c.before _ c.in-Refuse.is
 
-returns-2 : tie.Need-returns-2
+returns-2 : tie.Need-returns-in-Pass
 returns-2 c =
-    let d = c.before.before.before.before.before.before.before in
-    let h = c.before.before.before.before.before.enum_told.given.1 in
-    let w = law d Pass h in (
+    let d = c in
+    let h = c.in-Pass.is in
+    let w = law c.before.before.before.before.before.before Pass h in (
       ap (λ (x : LogRecord). record { next = x; answer = Done }) c.marked.ensures ∙ w.0,
-      cleared-is (start d).args.log.now c.before.before.before.clear.new.0 _ _ d.before.read-active.result.term (omega arith) (omega (arith, begins d h, (so d h).three, (so d h).term-low))
-          c.before.before.before.clear.ensures ∙ w.1,
+      cleared-is (start c.before.before.before.before.before.before).args.log.now c.clear.new.bytes _ _ d.read_active-v.result.term (omega arith) (omega (arith, begins c.before.before.before.before.before.before h, (so c.before.before.before.before.before.before h).three, (so c.before.before.before.before.before.before h).term-low))
+          c.clear.ensures ∙ w.1,
     )
 
-pub clear-partition-spec : {M : Type 1} → statement M
-clear-partition-spec =
+pub clear_partition_spec : {M : Type 1} → statement M
+clear_partition_spec =
     tie.close
     (tie.spec
     (search rules)

@@ -5,11 +5,11 @@ use Rattle.model.specs.LogBufferDescriptor.{greatest}
 use Rattle.publication.proofs.clearing.is_good.Statement.{statement}
 use Rattle.publication.proofs.clearing.is_good.Tie as tie
 
-returns : tie.Need-returns
-returns c = let a = c.before.before.args in rw (lt-leb a.position (greatest a.v) c.if1.true)
+returns : tie.Need-returns-then-position-v
+returns c = let a = c.args in rw (lt-leb a.position (greatest a.v) c.if-position-v.true)
 
-returns-2 : tie.Need-returns-2
-returns-2 c = let a = c.before.before.args in rw (le-leb a.position (greatest a.v) c.if1.false)
+returns-2 : tie.Need-returns
+returns-2 c = let a = c.args in rw (le-leb a.position (greatest a.v) c.if-position-v.false)
 
-pub is-good-spec : {M : Type 1} → statement M
-is-good-spec = tie.close (tie.spec (search rules) returns returns-2)
+pub is_good_spec : {M : Type 1} → statement M
+is_good_spec = tie.close (tie.spec (search rules) returns returns-2)

@@ -8,22 +8,22 @@ use Rattle.publication.proofs.ClearLaws.{another, early, later}
 use Rattle.publication.proofs.clearing.not_due.Statement.{statement}
 use Rattle.publication.proofs.clearing.not_due.Tie as tie
 
-returns : tie.Need-returns
-returns c = another _ _ c.if1.true
+returns : tie.Need-returns-then-k-count
+returns c = another _ _ c.if-k-count.true
 
-returns-2 : tie.Need-returns-2
-returns-2 c = early _ _ c.before.if1.false c.if2.true
+returns-2 : tie.Need-returns-then-count-lt2
+returns-2 c = early _ _ c.if-k-count.false c.if-count-lt2.true
 
-mul-end : tie.Need-overflow-mul-end
+mul-end : tie.Need-overflow_mul-end
 mul-end c =
-    let s = c.before.before in
+    let s = c in
     let v = s.args.v in
     let n : v.count - 1 ≤ 2147483647 = omega (arith, s.requires.count_most) in
     let m : (v.count - 1) * v.term ≤ 2147483647 * 1073741824 = mul-le-mul n s.requires.term-most in
     omega arith
 
-returns-3 : tie.Need-returns-3
-returns-3 c = let a = c.before.before.args in later a.v a.k _ c.before.if1.false c.if2.false refl
+returns-3 : tie.Need-returns
+returns-3 c = let a = c.args in later a.v a.k _ c.if-k-count.false c.if-count-lt2.false refl
 
-pub not-due-spec : {M : Type 1} → statement M
-not-due-spec = tie.close (tie.spec (search rules) returns returns-2 (search rules) mul-end returns-3)
+pub not_due_spec : {M : Type 1} → statement M
+not_due_spec = tie.close (tie.spec (search rules) returns returns-2 (search rules) mul-end returns-3)

@@ -14,22 +14,22 @@ use Rattle.publication.proofs.clearing.set_slowest_position.Statement.{statement
 use Rattle.publication.proofs.clearing.set_slowest_position.Tie as tie
 
 -- the reply by the verdict
-law : (c : tie.After-before-raise) (x : Verdict) → c.before-raise.result ≡ x
-    → (let a = c.before.before.before.args in reply_by a.rec (with_slowest a.rec a.position) x ≡ raise_of a.rec a.position)
+law : (c : tie.After-before_raise) (x : Verdict) → c.before_raise.result ≡ x
+    → (let a = c.args in reply_by a.rec (with_slowest a.rec a.position) x ≡ raise_of a.rec a.position)
 law c x h =
-    let s = c.before.before.before in
-    raise-by s.args.rec s.args.position _ _ x c.before.before.read-active.ensures (c.before.long.ensures.0 ∙ ap long (to_z-of_z s.ranges.position)) (sym h ∙ c.before-raise.ensures)
+    let s = c in
+    raise-by s.args.rec s.args.position _ _ x c.read_active-v.ensures (c.long.ensures.0 ∙ ap long (to_z-of_z s.ranges.position)) (sym h ∙ c.before_raise.ensures)
 
-returns : tie.Need-returns
-returns c = law c.before.before.before _ c.before.e.given.1
+returns : tie.Need-returns-in-Refuse
+returns c = law c.before _ c.in-Refuse.is
 
-returns-2 : tie.Need-returns-2
+returns-2 : tie.Need-returns-in-Pass
 unfolding with_slowest noted
 returns-2 c =
-    let s = c.before.before.before.before.before in
-    ap (λ (z : ℤ). record { next = with_slowest s.args.rec z; answer = Done }) (to_z-of_z s.ranges.position) ∙ law c.before.before Pass c.enum_told.given.1
+    let s = c in
+    ap (λ (z : ℤ). record { next = with_slowest s.args.rec z; answer = Done }) (to_z-of_z s.ranges.position) ∙ law c.before Pass c.in-Pass.is
 
-pub set-slowest-position-spec : {M : Type 1} → statement M
-set-slowest-position-spec =
+pub set_slowest_position_spec : {M : Type 1} → statement M
+set_slowest_position_spec =
     tie.close
     (tie.spec (search rules) (search rules) (search rules) (search rules) (search rules) returns returns-2)

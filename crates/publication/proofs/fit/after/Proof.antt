@@ -17,26 +17,26 @@ use Rattle.publication.proofs.Fits.{raw-is}
 use Rattle.publication.proofs.fit.after.Statement.{statement}
 use Rattle.publication.proofs.fit.after.Tie as tie
 
-returns : tie.Need-returns
-returns c = sym (cond-true (eqb c.before.args.end 0) none_fitted (fitted_at c.before.args.v c.before.args.end) (eq-eqb _ _ c.if1.true))
+returns : tie.Need-returns-then-end-eq0
+returns c = sym (cond-true (eqb c.args.end 0) none_fitted (fitted_at c.args.v c.args.end) (eq-eqb _ _ c.if-end-eq0.true))
 
-small : (c : tie.After-begin-position) → (let a = c.before.before.before.before.args in c.begin-position.result + a.end < 9223372036854775808)
-small c = let s = c.before.before.before.before in omega (arith, c.begin-position.ensures, begin-most _ s.requires.0, s.requires.0.term-most, s.requires.1.1.1)
+small : (c : tie.After-begin_position) → (let a = c.args in c.begin_position.result + a.end < 9223372036854775808)
+small c = let s = c in omega (arith, c.begin_position.ensures, begin-most _ s.requires.0, s.requires.0.term-most, s.requires.1.1.1)
 
-cast-t9 : tie.Need-overflow-cast-t9
+cast-t9 : tie.Need-overflow_cast-result
 cast-t9 c = record { sfits = omega (arith, small c) }
 
-returns-2 : tie.Need-returns-2
+returns-2 : tie.Need-returns
 returns-2 c =
-    let s = c.before.before.before.before in
+    let s = c in
     let a = s.args in
-    let fits : SFits w64 c.before.to-i64.result = search rules in
-    let tail = raw-is a.v.id a.end _ s.requires.1.1.0 (to_z-of_z fits ∙ c.before.to-i64.ensures) in
-    let at : to_z w64 (c.begin-position.result + a.end) ≡ pos (a.v.count * a.v.term + a.end) = to_z_pos w64 (omega (arith, small c)) ∙ ap (λ (x : ℕ). pos (x + a.end)) c.begin-position.ensures in
-    ap₂ {C = Fitted} (λ (t z : ℤ). record { tail = t; position = z }) tail at ∙ sym (cond-false (eqb a.end 0) none_fitted (fitted_at a.v a.end) (ne_eqb _ _ c.before.before.before.if1.false))
+    let fits : SFits w64 c.to_i64.result = search rules in
+    let tail = raw-is a.v.id a.end _ s.requires.1.1.0 (to_z-of_z fits ∙ c.to_i64.ensures) in
+    let at : to_z w64 (c.begin_position.result + a.end) ≡ pos (a.v.count * a.v.term + a.end) = to_z_pos w64 (omega (arith, small c)) ∙ ap (λ (x : ℕ). pos (x + a.end)) c.begin_position.ensures in
+    ap₂ {C = Fitted} (λ (t z : ℤ). record { tail = t; position = z }) tail at ∙ sym (cond-false (eqb a.end 0) none_fitted (fitted_at a.v a.end) (ne_eqb _ _ c.if-end-eq0.false))
 
-pub after-spec : {M : Type 1} → statement M
-after-spec =
+pub after_spec : {M : Type 1} → statement M
+after_spec =
     tie.close
     (tie.spec
     returns

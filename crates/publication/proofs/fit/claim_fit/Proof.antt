@@ -22,59 +22,59 @@ use Rattle.publication.proofs.Fits.{Unpressed, open-true, not-open, end-in, end_
 use Rattle.publication.proofs.fit.claim_fit.Statement.{statement}
 use Rattle.publication.proofs.fit.claim_fit.Tie as tie
 
-is : (c : tie.Else1) → (let a = c.before.before.before.args in is_open a.numbers (length a.log.now) a.body-length ≡ true)
-is c = sym c.before.is_open.ensures ∙ not-false _ c.if1.false
+is : (c : tie.Else-not-is_open) → (let a = c.args in is_open a.numbers (length a.log.now) a.body_length ≡ true)
+is c = sym c.is_open.ensures ∙ not-false _ c.if-not-is_open.false-raw
 
-opened : (c : tie.Else1) → (let a = c.before.before.before.args in Unpressed a.numbers (length a.log.now))
+opened : (c : tie.Else-not-is_open) → (let a = c.args in Unpressed a.numbers (length a.log.now))
 opened c = (open-true _ _ _ (is c)).0
 
-short : (c : tie.Else1) → (let a = c.before.before.before.args in a.body-length ≤ payload_limit a.numbers)
+short : (c : tie.Else-not-is_open) → (let a = c.args in a.body_length ≤ payload_limit a.numbers)
 short c = (open-true _ _ _ (is c)).1.1
 
-returns : tie.Need-returns
+returns : tie.Need-returns-then-not-is_open
 returns c =
-    let no = not-open _ _ (sym c.before.before.is_open.ensures ∙ not-true _ c.before.if1.true) in
-    (c.no-claim.ensures ∙ sym (cond-false _ _ _ no), sym (cond-false _ _ _ no))
+    let no = not-open _ _ (sym c.is_open.ensures ∙ not-true _ c.if-not-is_open.true-raw) in
+    (c.no_claim.ensures ∙ sym (cond-false _ _ _ no), sym (cond-false _ _ _ no))
 
-returns-2 : tie.Need-returns-2
+returns-2 : tie.Need-returns-then-end-eq0
 returns-2 c =
-    let e = c.before.before.before.before.before.before.before in
-    let a = e.before.before.before.args in
-    let d = c.before.before.before.before.claim-fit in
-    let no = end_none a.numbers _ _ (space a.body-length) (is e) _ d.ensures.0 (omega arith) c.before.if2.true in
-    (c.no-claim2.ensures ∙ sym (cond-false _ _ _ no), bytes-by _ _ (is e) a.log.now _ _ d.ensures.1)
+    let e = c in
+    let a = e.args in
+    let d = c.claim_fit-end in
+    let no = end_none a.numbers _ _ (space a.body_length) (is c.before.before.before.before.before.before.before) _ d.ensures.0 (omega arith) c.if-end-eq0.true in
+    (c.no_claim-then-end-eq0.ensures ∙ sym (cond-false _ _ _ no), bytes-by _ _ (is c.before.before.before.before.before.before.before) a.log.now _ _ d.ensures.1)
 
-after-requires : tie.Need-after-requires
+after-requires : tie.Need-after-fitted-requires
 after-requires c κs =
-    let e = c.before.before.before.before.before.before in
-    let a = e.before.before.before.args in
-    let o = opened e in
-    (bounds _ _ o.so, (o.so.one_bit, (o.id-in, end-in a.numbers _ (frame_fits a.numbers (length a.log.now) (a.numbers.count % 3) a.body-length) (space a.body-length) (is e) _ c.before.before.before.claim-fit.ensures.0 (λ f. (fits-true a.numbers (length a.log.now) (a.numbers.count % 3) a.body-length f).room))))
+    let e = c in
+    let a = e.args in
+    let o = opened c.before.before.before.before.before.before in
+    (bounds _ _ o.so, (o.so.one_bit, (o.id-in, end-in a.numbers _ (frame_fits a.numbers (length a.log.now) (a.numbers.count % 3) a.body_length) (space a.body_length) (is c.before.before.before.before.before.before) _ c.claim_fit-end.ensures.0 (λ f. (fits-true a.numbers (length a.log.now) (a.numbers.count % 3) a.body_length f).room))))
 
-returns-3 : tie.Need-returns-3
+returns-3 : tie.Need-returns
 returns-3 c =
-    let e = c.before.before.before.before.before.before.before.before.before.before.before.before.before in
-    let a = e.before.before.before.args in
-    let d = c.before.before.before.before.before.before.before.before.before.before.claim-fit in
-    let x = c.before.before.before.before.before.before.after in
+    let e = c in
+    let a = e.args in
+    let d = c.claim_fit-end in
+    let x = c.after-fitted in
     let end = d.result in
-    let o = opened e in
-    let z : end ≡ 0 → ⊥ = c.before.before.before.before.before.before.before.if2.false in
-    let some = end-some a.numbers _ _ _ (is e) end d.ensures.0 z in
+    let o = opened c.before.before.before.before.before.before.before.before.before.before.before.before.before in
+    let z : end ≡ 0 → ⊥ = c.if-end-eq0.false in
+    let some = end-some a.numbers _ _ _ (is c.before.before.before.before.before.before.before.before.before.before.before.before.before) end d.ensures.0 z in
     let at = x.ensures ∙ cond-false (eqb end 0) none_fitted (fitted_at a.numbers end) (ne_eqb end 0 z) in
     let tail-fits : SFits w64 x.result.tail = search rules in
     let position-fits : SFits w64 x.result.position = search rules in
-    let id-fits : SFits w32 c.before.term-id.result = search rules in
-    let raw-fits : SFits w64 c.before.before.before.to-i64.result = search rules in
-    let raw = raw-is a.numbers.id a.numbers.offset _ o.id-in (to_z-of_z raw-fits ∙ c.before.before.before.to-i64.ensures) in
-    let id = to_z-of_z id-fits ∙ c.before.term-id.ensures ∙ ap term_id_of raw ∙ raw-term a.numbers.id a.numbers.offset o.id-in (omega (arith, o.so.offset-high)) in (
-      claim-answer a.numbers a.body-length end x.result _ _ _ _ _ _ some.1 at (to_z-of_z tail-fits) (to_z-of_z position-fits) (to_z_pos w32 (omega arith)) (to_z_pos w32 (omega (arith, o.so))) (to_z_pos w32 (omega (arith, o.so, short e))) id
+    let id-fits : SFits w32 c.term_id.result = search rules in
+    let raw-fits : SFits w64 c.to_i64-raw_tail.result = search rules in
+    let raw = raw-is a.numbers.id a.numbers.offset _ o.id-in (to_z-of_z raw-fits ∙ c.to_i64-raw_tail.ensures) in
+    let id = to_z-of_z id-fits ∙ c.term_id.ensures ∙ ap term_id_of raw ∙ raw-term a.numbers.id a.numbers.offset o.id-in (omega (arith, o.so.offset-high)) in (
+      claim-answer a.numbers a.body_length end x.result _ _ _ _ _ _ some.1 at (to_z-of_z tail-fits) (to_z-of_z position-fits) (to_z_pos w32 (omega arith)) (to_z_pos w32 (omega (arith, o.so))) (to_z_pos w32 (omega (arith, o.so, short c.before.before.before.before.before.before.before.before.before.before.before.before.before))) id
           ∙ sym (cond-true _ _ _ some.0),
-      bytes-by _ _ (is e) a.log.now _ _ d.ensures.1,
+      bytes-by _ _ (is c.before.before.before.before.before.before.before.before.before.before.before.before.before) a.log.now _ _ d.ensures.1,
     )
 
-pub claim-fit-spec : {M : Type 1} → statement M
-claim-fit-spec =
+pub claim_fit_spec : {M : Type 1} → statement M
+claim_fit_spec =
     tie.close
     (tie.spec
     (search rules)

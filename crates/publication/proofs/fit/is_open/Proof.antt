@@ -11,43 +11,43 @@ use Rattle.publication.proofs.Fits.{Terms, terms-true, not-in-terms, not_opened,
 use Rattle.publication.proofs.fit.is_open.Statement.{statement}
 use Rattle.publication.proofs.fit.is_open.Tie as tie
 
-terms : (c : tie.Else1) → Terms c.before.before.args.v
-terms c = terms-true _ (sym c.before.in-terms.ensures ∙ not-false _ c.if1.false)
+terms : (c : tie.Else-not-in_terms) → Terms c.args.v
+terms c = terms-true _ (sym c.in_terms.ensures ∙ not-false _ c.if-not-in_terms.false-raw)
 
-begin-position-requires : tie.Need-begin-position-requires
+begin-position-requires : tie.Need-begin_position-requires
 begin-position-requires c κs = ((terms c).bounded, (terms c).one_bit)
 
-add-position : tie.Need-overflow-add-position
-add-position c = let t = terms c.before.before in omega (arith, c.before.begin-position.ensures, begin-most _ t.bounded, t.bounded.offset-most)
+add-position : tie.Need-overflow_add-position
+add-position c = let t = terms c.before.before in omega (arith, c.begin_position.ensures, begin-most _ t.bounded, t.bounded.offset-most)
 
-returns-10 : tie.Need-returns-10
+returns-10 : tie.Need-returns
 returns-10 c =
-    let a = c.before.before.before.before.before.before.before.before.before.before.before.before.before.before.before.before.before.before.before.before.before.before.before.args in
+    let a = c.args in
     let v = a.v in
-    let e = c.before.before.before.before.before.before.before.before.before.before.before.before.before.before.before.before.before.before.before.before.begin-position.ensures in
-    let multiple : bit_or v.offset (bit_or v.mtu v.slowest) % 32 ≡ 0 = omega (arith, c.before.before.before.before.before.before.before.before.before.before.before.if4.false) in
+    let e = c.begin_position.ensures in
+    let multiple : bit_or v.offset (bit_or v.mtu v.slowest) % 32 ≡ 0 = omega (arith, c.if-v-ne0.false) in
     let other = right-multiple v.offset (bit_or v.mtu v.slowest) multiple in
-    let below = c.before.before.before.before.before.if7.false in
-    opened-by v a.n a.m (terms c.before.before.before.before.before.before.before.before.before.before.before.before.before.before.before.before.before.before.before.before.before) c.before.before.before.before.before.before.before.before.before.before.before.before.before.before.before.before.if2.false (omega (arith, c.before.before.before.before.before.before.before.before.before.before.before.before.before.before.if3.false)) (left-multiple v.offset (bit_or v.mtu v.slowest) multiple) (left-multiple v.mtu v.slowest other) (right-multiple v.mtu v.slowest other)
-    c.before.before.before.before.before.before.before.before.before.if5.false c.before.before.before.before.before.before.before.if6.false (omega (arith, e, below)) c.before.before.before.if8.false c.before.if9.false
+    let below = c.if-v-position.false in
+    opened-by v a.n a.m (terms c.before.before.before.before.before.before.before.before.before.before.before.before.before.before.before.before.before.before.before.before.before) c.if-v.false (omega (arith, c.if-n-v.false)) (left-multiple v.offset (bit_or v.mtu v.slowest) multiple) (left-multiple v.mtu v.slowest other) (right-multiple v.mtu v.slowest other)
+    c.if-v-lt64.false c.if-v-gt65504.false (omega (arith, e, below)) c.if-m-v.false c.if-v-gt4611686018427387904.false
 
-pub is-open-spec : {M : Type 1} → statement M
-is-open-spec =
+pub is_open_spec : {M : Type 1} → statement M
+is_open_spec =
     tie.close
     (tie.spec
     (search rules)
-    (λ c. not-in-terms _ _ _ (sym c.before.in-terms.ensures ∙ not-true _ c.if1.true))
+    (λ c. not-in-terms _ _ _ (sym c.in_terms.ensures ∙ not-true _ c.if-not-in_terms.true-raw))
     begin-position-requires
     add-position
     (λ c. omega (arith, (terms c.before.before.before).bounded.term-most))
-    (λ c. not_opened _ _ _ (λ u s. omega (arith, u.so.slowest-high, c.if2.true)))
+    (λ c. not_opened _ _ _ (λ u s. omega (arith, u.so.slowest-high, c.if-v.true)))
     (λ c. omega (arith, (terms c.before.before.before.before.before.before).bounded.term-most))
-    (λ c. not_opened _ _ _ (λ u s. omega (arith, u.so.three, c.if3.true)))
-    (λ c. not_opened _ _ _ (λ u s. omega (arith, both-multiples _ _ u.so.offset-32 (both-multiples _ _ u.so.mtu-32 u.so.slowest-32), c.if4.true)))
-    (λ c. not_opened _ _ _ (λ u s. omega (arith, u.so.mtu-low, c.if5.true)))
-    (λ c. not_opened _ _ _ (λ u s. omega (arith, u.so.mtu-high, c.if6.true)))
-    (λ c. not_opened _ _ _ (λ u s. omega (arith, u.below, c.before.before.before.before.before.before.before.before.before.before.before.before.before.before.before.begin-position.ensures, c.if7.true)))
+    (λ c. not_opened _ _ _ (λ u s. omega (arith, u.so.three, c.if-n-v.true)))
+    (λ c. not_opened _ _ _ (λ u s. omega (arith, both-multiples _ _ u.so.offset-32 (both-multiples _ _ u.so.mtu-32 u.so.slowest-32), c.if-v-ne0.true)))
+    (λ c. not_opened _ _ _ (λ u s. omega (arith, u.so.mtu-low, c.if-v-lt64.true)))
+    (λ c. not_opened _ _ _ (λ u s. omega (arith, u.so.mtu-high, c.if-v-gt65504.true)))
+    (λ c. not_opened _ _ _ (λ u s. omega (arith, u.below, c.begin_position.ensures, c.if-v-position.true)))
     (search rules)
-    (λ c. not_opened _ _ _ (λ u s. omega (arith, s, c.if8.true)))
-    (λ c. not_opened _ _ _ (λ u s. omega (arith, u.so.limit-high, c.if9.true)))
+    (λ c. not_opened _ _ _ (λ u s. omega (arith, s, c.if-m-v.true)))
+    (λ c. not_opened _ _ _ (λ u s. omega (arith, u.so.limit-high, c.if-v-gt4611686018427387904.true)))
     returns-10)

@@ -21,31 +21,31 @@ use Rattle.publication.proofs.Fits.{open-true, not-open, fitted-by, end-in, byte
 use Rattle.publication.proofs.fit.offer_fit.Statement.{statement}
 use Rattle.publication.proofs.fit.offer_fit.Tie as tie
 
-is : (c : tie.Else1) → (let a = c.before.before.before.before.args in is_open a.numbers (length a.log.now) (length a.message.now) ≡ true)
-is c = sym c.before.is_open.ensures ∙ not-false _ c.if1.false
+is : (c : tie.Else-not-is_open) → (let a = c.args in is_open a.numbers (length a.log.now) (length a.message.now) ≡ true)
+is c = sym c.is_open.ensures ∙ not-false _ c.if-not-is_open.false-raw
 
-returns : tie.Need-returns
+returns : tie.Need-returns-then-not-is_open
 returns c =
-    let no = not-open _ _ (sym c.before.is_open.ensures ∙ not-true _ c.if1.true) in
+    let no = not-open _ _ (sym c.is_open.ensures ∙ not-true _ c.if-not-is_open.true-raw) in
     (sym (cond-false _ _ _ no), sym (cond-false _ _ _ no))
 
 after-requires : tie.Need-after-requires
 after-requires c κs =
-    let e = c.before.before.before.before in
-    let a = e.before.before.before.before.args in
-    let o = (open-true _ _ _ (is e)).0 in
-    (bounds _ _ o.so, (o.so.one_bit, (o.id-in, end-in a.numbers _ (frame_fits a.numbers (length a.log.now) (a.numbers.count % 3) (length a.message.now)) (space (length a.message.now)) (is e) _ c.before.before.append-fit.ensures.0 (λ f. (fits-true a.numbers (length a.log.now) (a.numbers.count % 3) (length a.message.now) f).room))))
+    let e = c in
+    let a = e.args in
+    let o = (open-true _ _ _ (is c.before.before.before.before)).0 in
+    (bounds _ _ o.so, (o.so.one_bit, (o.id-in, end-in a.numbers _ (frame_fits a.numbers (length a.log.now) (a.numbers.count % 3) (length a.message.now)) (space (length a.message.now)) (is c.before.before.before.before) _ c.append_fit-end.ensures.0 (λ f. (fits-true a.numbers (length a.log.now) (a.numbers.count % 3) (length a.message.now) f).room))))
 
-returns-2 : tie.Need-returns-2
+returns-2 : tie.Need-returns
 returns-2 c =
-    let e = c.before.before.before.before.before in
-    let s = e.before.before.before.before in
+    let e = c in
+    let s = c in
     let a = s.args in
-    let d = c.before.before.before.append-fit in (
-      c.after.ensures ∙ fitted-by a.numbers _ _ (space (length a.message.now)) (is e) _ d.ensures.0 (omega arith),
-      bytes-by _ _ (is e) a.log.now _ _ d.ensures.1
-          ∙ ap (λ (z : ℤ). offer_fit_bytes a.numbers a.log.now a.message.now (long z)) (to_z-of_z s.ranges.reserved-value),
+    let d = c.append_fit-end in (
+      c.after.ensures ∙ fitted-by a.numbers _ _ (space (length a.message.now)) (is c.before.before.before.before.before) _ d.ensures.0 (omega arith),
+      bytes-by _ _ (is c.before.before.before.before.before) a.log.now _ _ d.ensures.1
+          ∙ ap (λ (z : ℤ). offer_fit_bytes a.numbers a.log.now a.message.now (long z)) (to_z-of_z s.ranges.reserved_value),
     )
 
-pub offer-fit-spec : {M : Type 1} → statement M
-offer-fit-spec = tie.close (tie.spec (search rules) returns (search rules) after-requires (search rules) returns-2)
+pub offer_fit_spec : {M : Type 1} → statement M
+offer_fit_spec = tie.close (tie.spec (search rules) returns (search rules) after-requires (search rules) returns-2)

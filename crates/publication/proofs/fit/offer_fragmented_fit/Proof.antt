@@ -20,36 +20,36 @@ use Rattle.publication.proofs.Fits.{long-true, not-open, fitted-by, end-in, byte
 use Rattle.publication.proofs.fit.offer_fragmented_fit.Statement.{statement}
 use Rattle.publication.proofs.fit.offer_fragmented_fit.Tie as tie
 
-is : (c : tie.Else1) → (let a = c.before.before.before.before.args in is_long a.numbers (length a.log.now) (length a.message.now) ≡ true)
-is c = sym c.before.is-long.ensures ∙ not-false _ c.if1.false
+is : (c : tie.Else-not-is_long) → (let a = c.args in is_long a.numbers (length a.log.now) (length a.message.now) ≡ true)
+is c = sym c.is_long.ensures ∙ not-false _ c.if-not-is_long.false-raw
 
-returns : tie.Need-returns
+returns : tie.Need-returns-then-not-is_long
 returns c =
-    let no = not-open _ _ (sym c.before.is-long.ensures ∙ not-true _ c.if1.true) in
+    let no = not-open _ _ (sym c.is_long.ensures ∙ not-true _ c.if-not-is_long.true-raw) in
     (sym (cond-false _ _ _ no), sym (cond-false _ _ _ no))
 
 after-requires : tie.Need-after-requires
 after-requires c κs =
-    let e = c.before.before.before.before.before in
-    let a = e.before.before.before.before.args in
-    let o = (long-true _ _ _ (is e)).0 in
+    let e = c in
+    let a = e.args in
+    let o = (long-true _ _ _ (is c.before.before.before.before.before)).0 in
     let fits = frames_fit a.numbers (length a.log.now) (a.numbers.count % 3) (a.numbers.mtu - 32) (length a.message.now) in
     let room : fits ≡ true → a.numbers.offset + need_of a.numbers (length a.message.now) ≤ a.numbers.term = λ f. (frames-true a.numbers (length a.log.now) (a.numbers.count % 3) (a.numbers.mtu - 32) (length a.message.now) f).1.room in
-    (bounds _ _ o.so, (o.so.one_bit, (o.id-in, end-in a.numbers _ fits (need_of a.numbers (length a.message.now)) (is e) _ c.before.before.append-fragmented-fit.ensures.0 room)))
+    (bounds _ _ o.so, (o.so.one_bit, (o.id-in, end-in a.numbers _ fits (need_of a.numbers (length a.message.now)) (is c.before.before.before.before.before) _ c.append_fragmented_fit-end.ensures.0 room)))
 
-returns-2 : tie.Need-returns-2
+returns-2 : tie.Need-returns
 returns-2 c =
-    let e = c.before.before.before.before.before.before in
-    let s = e.before.before.before.before in
+    let e = c in
+    let s = c in
     let a = s.args in
-    let d = c.before.before.before.append-fragmented-fit in (
-      c.after.ensures ∙ fitted-by a.numbers _ _ (need_of a.numbers (length a.message.now)) (is e) _ d.ensures.0 (need-some _ _),
-      bytes-by _ _ (is e) a.log.now _ _ d.ensures.1
-          ∙ ap (λ (z : ℤ). fragmented_fit_bytes a.numbers a.log.now a.message.now (long z)) (to_z-of_z s.ranges.reserved-value),
+    let d = c.append_fragmented_fit-end in (
+      c.after.ensures ∙ fitted-by a.numbers _ _ (need_of a.numbers (length a.message.now)) (is c.before.before.before.before.before.before) _ d.ensures.0 (need-some _ _),
+      bytes-by _ _ (is c.before.before.before.before.before.before) a.log.now _ _ d.ensures.1
+          ∙ ap (λ (z : ℤ). fragmented_fit_bytes a.numbers a.log.now a.message.now (long z)) (to_z-of_z s.ranges.reserved_value),
     )
 
-pub offer-fragmented-fit-spec : {M : Type 1} → statement M
-offer-fragmented-fit-spec =
+pub offer_fragmented_fit_spec : {M : Type 1} → statement M
+offer_fragmented_fit_spec =
     tie.close
     (tie.spec
     (search rules)

@@ -9,38 +9,38 @@ use borrow.Author.Rules.{rules}
 use Rattle.publication.proofs.judge.after_closed.Statement.{statement}
 use Rattle.publication.proofs.judge.after_closed.Tie as tie
 
-cast-id-minus : tie.Need-overflow-cast-id-minus
+cast-id-minus : tie.Need-overflow_cast-id
 cast-id-minus c = record { fits = c.requires.1.0.0 }
 
-cast-id-minus-2 : tie.Need-overflow-cast-id-minus-2
+cast-id-minus-2 : tie.Need-overflow_cast-initial
 cast-id-minus-2 c = record { fits = c.requires.1.0.1 }
 
-returns : tie.Need-returns
-returns c = closed-6 _ _ (λ h. c.if1.true (c.before.id-minus.ensures ∙ h))
+returns : tie.Need-returns-then-id_minus-count
+returns c = closed-6 _ _ (λ h. c.if-id_minus-count.true (c.id_minus.ensures ∙ h))
 
-begin-position-requires : tie.Need-begin-position-requires
-begin-position-requires c κs = let s = c.before.before in (s.requires.0, s.requires.1.1.1)
+begin-position-requires : tie.Need-begin_position-begin-requires
+begin-position-requires c κs = let s = c in (s.requires.0, s.requires.1.1.1)
 
-add-if2 : tie.Need-overflow-add-if2
-add-if2 c = omega (arith, c.begin-position.ensures, begin-most _ c.before.before.before.requires.0)
+add-if2 : tie.Need-overflow_add-begin
+add-if2 c = omega (arith, c.begin_position-begin.ensures, begin-most _ c.requires.0)
 
-back-pressure-requires : tie.Need-back-pressure-requires
-back-pressure-requires c κs = let s = c.before.before.before.before in (s.requires.0, (c.before.begin-position.ensures, s.requires.1.1.0))
+back-pressure-requires : tie.Need-back_pressure-requires
+back-pressure-requires c κs = let s = c in (s.requires.0, (c.begin_position-begin.ensures, s.requires.1.1.0))
 
 -- in step
-own : (c : tie.Else1) → (let v = c.before.before.args.v in id_minus v.id v.initial ≡ v.count)
-own c = sym c.before.id-minus.ensures ∙ c.if1.false
+own : (c : tie.Else-id_minus-count) → (let v = c.args.v in id_minus v.id v.initial ≡ v.count)
+own c = sym c.id_minus.ensures ∙ c.if-id_minus-count.false
 
-returns-2 : tie.Need-returns-2
+returns-2 : tie.Need-returns-then-limit-begin
 returns-2 c =
-    let s = c.before.before.before.before.before in
-    ap Refuse c.back-pressure.ensures ∙ closed-7 s.args.v s.args.m (own c.before.before.before) (omega (arith, c.before.before.begin-position.ensures, c.before.if2.true))
+    let s = c in
+    ap Refuse c.back_pressure.ensures ∙ closed-7 s.args.v s.args.m (own c.before.before.before) (omega (arith, c.begin_position-begin.ensures, c.if-limit-begin.true))
 
-returns-3 : tie.Need-returns-3
-returns-3 c = let s = c.before.before.before.before in closed-last s.args.v s.args.m (own c.before.before) (omega (arith, c.before.begin-position.ensures, c.if2.false))
+returns-3 : tie.Need-returns
+returns-3 c = let s = c in closed-last s.args.v s.args.m (own c.before.before) (omega (arith, c.begin_position-begin.ensures, c.if-limit-begin.false))
 
-pub after-closed-spec : {M : Type 1} → statement M
-after-closed-spec =
+pub after_closed_spec : {M : Type 1} → statement M
+after_closed_spec =
     tie.close
     (tie.spec
     cast-id-minus

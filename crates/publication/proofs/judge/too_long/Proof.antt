@@ -4,14 +4,14 @@ use borrow.Author.Rules.{rules}
 use Rattle.publication.proofs.judge.too_long.Statement.{statement}
 use Rattle.publication.proofs.judge.too_long.Tie as tie
 
-returns : tie.Need-returns
-returns c = long-no c.before.args.v c.before.args.m c.if1.true
+returns : tie.Need-returns-then-m-mtu
+returns c = long-no c.args.v c.args.m c.if-m-mtu.true
 
-returns-2 : tie.Need-returns-2
-returns-2 c = long-small c.before.before.args.v c.before.before.args.m c.before.if1.false c.if2.true
+returns-2 : tie.Need-returns-then-term-le-MAX_MESSAGE_LENGTH
+returns-2 c = long-small c.args.v c.args.m c.if-m-mtu.false c.if-term-le-MAX_MESSAGE_LENGTH.true
 
-returns-3 : tie.Need-returns-3
-returns-3 c = long-large c.before.before.args.v c.before.before.args.m c.before.if1.false c.if2.false
+returns-3 : tie.Need-returns
+returns-3 c = long-large c.args.v c.args.m c.if-m-mtu.false c.if-term-le-MAX_MESSAGE_LENGTH.false
 
-pub too-long-spec : {M : Type 1} → statement M
-too-long-spec = tie.close (tie.spec (search rules) returns returns-2 returns-3)
+pub too_long_spec : {M : Type 1} → statement M
+too_long_spec = tie.close (tie.spec (search rules) returns returns-2 returns-3)

@@ -10,44 +10,44 @@ use borrow.Author.Rules.{rules}
 use Rattle.publication.proofs.judge_claim.before_claim.Statement.{statement}
 use Rattle.publication.proofs.judge_claim.before_claim.Tie as tie
 
-returns : tie.Need-returns
-returns c = claim-1 _ _ _ c.if1.true
+returns : tie.Need-returns-then-m-gt2147483647
+returns c = claim-1 _ _ _ c.if-m-gt2147483647.true
 
-is-so : (c : tie.Else2) → sound c.before.before.before.args.v c.before.before.before.args.n ≡ true
-is-so c = sym c.before.is-sound.ensures ∙ not-false _ c.if2.false
+is-so : (c : tie.Else-not-is_sound) → sound c.args.v c.args.n ≡ true
+is-so c = sym c.is_sound.ensures ∙ not-false _ c.if-not-is_sound.false-raw
 
-so : (c : tie.Else2) → Sound c.before.before.before.args.v c.before.before.before.args.n
+so : (c : tie.Else-not-is_sound) → Sound c.args.v c.args.n
 so c = sound-true _ _ (is-so c)
 
-returns-2 : tie.Need-returns-2
-returns-2 c = claim-2 _ _ _ c.before.before.if1.false (sym c.before.is-sound.ensures ∙ not-true _ c.if2.true)
+returns-2 : tie.Need-returns-then-not-is_sound
+returns-2 c = claim-2 _ _ _ c.if-m-gt2147483647.false (sym c.is_sound.ensures ∙ not-true _ c.if-not-is_sound.true-raw)
 
-sub-payload : tie.Need-overflow-sub-payload
+sub-payload : tie.Need-overflow_sub-payload
 sub-payload c = omega (arith, so c)
 
-returns-3 : tie.Need-returns-3
-returns-3 c = claim-5 _ _ _ c.before.before.before.if1.false (is-so c.before) c.if3.true
+returns-3 : tie.Need-returns-then-closed
+returns-3 c = claim-5 _ _ _ c.if-m-gt2147483647.false (is-so c.before) c.if-closed.true
 
-returns-4 : tie.Need-returns-4
-returns-4 c = claim-4 _ _ _ c.before.before.before.before.if1.false (is-so c.before.before) c.before.if3.false c.if4.true
+returns-4 : tie.Need-returns-then-m-payload
+returns-4 c = claim-4 _ _ _ c.if-m-gt2147483647.false (is-so c.before.before) c.if-closed.false c.if-m-payload.true
 
-after-closed-requires : tie.Need-after-closed-requires
-after-closed-requires c κs = (bounds _ _ (so c.before.before), (c.before.before.before.before.before.requires, (c.before.before.before.before.if1.false, (so c.before.before).one_bit)))
+after-closed-requires : tie.Need-after_closed-rest-requires
+after-closed-requires c κs = (bounds _ _ (so c.before.before), (c.requires, (c.if-m-gt2147483647.false, (so c.before.before).one_bit)))
 
-returns-5 : tie.Need-returns-5
-returns-5 c = claim-7 _ _ _ c.before.before.before.before.before.before.before.if1.false (is-so c.before.before.before.before.before) c.before.before.before.before.if3.false c.before.before.before.if4.false _ _ c.before.before.after-closed.ensures c.enum-told2.given.1
+returns-5 : tie.Need-returns-in_default
+returns-5 c = claim-7 _ _ _ c.if-m-gt2147483647.false (is-so c.before.before.before.before) c.if-closed.false c.if-m-payload.false _ _ c.after_closed-rest.ensures c.in_default.is
 
-add-if5-3 : tie.Need-overflow-add-if5-3
-add-if5-3 c = omega (arith, so c.before.before.before.before.before, c.before.before.before.before.before.before.before.if1.false)
+add-if5-3 : tie.Need-overflow_add-offset
+add-if5-3 c = omega (arith, so c.before.before.before.before, c.if-m-gt2147483647.false)
 
-returns-6 : tie.Need-returns-6
-returns-6 c = claim-11 _ _ _ c.before.before.before.before.before.before.before.before.if1.false (is-so c.before.before.before.before.before.before) c.before.before.before.before.before.if3.false c.before.before.before.before.if4.false true (sym c.before.before.before.after-closed.ensures ∙ c.before.enum_told.given.1) (lt-ltb _ _ c.if5.true)
+returns-6 : tie.Need-returns-then-offset-m-gt2147483647
+returns-6 c = claim-11 _ _ _ c.if-m-gt2147483647.false (is-so c.before.before.before.before.before) c.if-closed.false c.if-m-payload.false true (sym c.after_closed-rest.ensures ∙ c.in-Pass.is) (lt-ltb _ _ c.if-offset-m-gt2147483647.true)
 
-returns-7 : tie.Need-returns-7
-returns-7 c = claim-11 _ _ _ c.before.before.before.before.before.before.before.before.if1.false (is-so c.before.before.before.before.before.before) c.before.before.before.before.before.if3.false c.before.before.before.before.if4.false false (sym c.before.before.before.after-closed.ensures ∙ c.before.enum_told.given.1) (le-ltb _ _ c.if5.false)
+returns-7 : tie.Need-returns
+returns-7 c = claim-11 _ _ _ c.if-m-gt2147483647.false (is-so c.before.before.before.before.before) c.if-closed.false c.if-m-payload.false false (sym c.after_closed-rest.ensures ∙ c.in-Pass.is) (le-ltb _ _ c.if-offset-m-gt2147483647.false)
 
-pub before-claim-spec : {M : Type 1} → statement M
-before-claim-spec =
+pub before_claim_spec : {M : Type 1} → statement M
+before_claim_spec =
     tie.close
     (tie.spec
     returns

@@ -16,29 +16,29 @@ use Rattle.publication.proofs.opening.open_log.Statement.{statement}
 use Rattle.publication.proofs.opening.open_log.Tie as tie
 
 abbrev record_of : tie.Start → LogRecord
-record_of s = opened_record s.args.term-length s.args.mtu-length s.args.initial-term-id s.args.session-id s.args.stream-id
+record_of s = opened_record s.args.term_length s.args.mtu_length s.args.initial_term_id s.args.session_id s.args.stream_id
 
-made : (c : tie.After-opened) → c.opened.result ≡ record_of c.before.before
+made : (c : tie.After-opened-rec) → c.opened-rec.result ≡ record_of c.before.before
 made c =
-    let s = c.before.before in
-    cc (c.opened.ensures, to_z-of_z s.ranges.term-length, to_z-of_z s.ranges.mtu-length, to_z-of_z s.ranges.initial-term-id, to_z-of_z s.ranges.session-id, to_z-of_z s.ranges.stream-id)
+    let s = c in
+    cc (c.opened-rec.ensures, to_z-of_z s.ranges.term_length, to_z-of_z s.ranges.mtu_length, to_z-of_z s.ranges.initial_term_id, to_z-of_z s.ranges.session_id, to_z-of_z s.ranges.stream_id)
 
-judged : (c : tie.After-is-sound) (b : Bool) → c.is-sound.result ≡ b → sound (reading (record_of c.before.before.before.before)) (length c.before.before.before.before.args.log.now) ≡ b
+judged : (c : tie.After-is_sound) (b : Bool) → c.is_sound.result ≡ b → sound (reading (record_of c.before.before.before.before)) (length c.args.log.now) ≡ b
 judged c b h =
-    ap (λ (v : Reading). sound v (length c.before.before.before.before.args.log.now)) (ap reading (sym (made c.before.before)) ∙ sym c.before.read-active.ensures) ∙ sym c.is-sound.ensures ∙ h
+    ap (λ (v : Reading). sound v (length c.args.log.now)) (ap reading (sym (made c.before.before)) ∙ sym c.read_active-v.ensures) ∙ sym c.is_sound.ensures ∙ h
 
-returns : tie.Need-returns
-returns c = let a = c.before.before.before.before.before.before.args in
-    let d = open_no a.log.now a.term-length a.mtu-length a.initial-term-id a.session-id a.stream-id (judged c.before.before false (not-true _ c.before.if1.true)) in
+returns : tie.Need-returns-then-not-is_sound
+returns c = let a = c.args in
+    let d = open_no a.log.now a.term_length a.mtu_length a.initial_term_id a.session_id a.stream_id (judged c.before.before false (not-true _ c.if-not-is_sound.true-raw)) in
     (ap (λ (x : LogRecord). record { next = x; answer = Refused IllegalRecord }) c.no_record.ensures ∙ d.0, d.1)
 
-returns-2 : tie.Need-returns-2
-returns-2 c = let a = c.before.before.before.before.before.before.before.before.before.args in
-    let d = open_done a.log.now a.term-length a.mtu-length a.initial-term-id a.session-id a.stream-id (judged c.before.before.before.before.before true (not-false _ c.before.before.before.before.if1.false)) in
-    (ap (λ (x : LogRecord). record { next = x; answer = Done }) (made c.before.before.before.before.before.before.before) ∙ d.0, c.before.before.clear.ensures ∙ d.1)
+returns-2 : tie.Need-returns
+returns-2 c = let a = c.args in
+    let d = open_done a.log.now a.term_length a.mtu_length a.initial_term_id a.session_id a.stream_id (judged c.before.before.before.before.before true (not-false _ c.if-not-is_sound.false-raw)) in
+    (ap (λ (x : LogRecord). record { next = x; answer = Done }) (made c.before.before.before.before.before.before.before) ∙ d.0, c.clear.ensures ∙ d.1)
 
-pub open-log-spec : {M : Type 1} → statement M
-open-log-spec =
+pub open_log_spec : {M : Type 1} → statement M
+open_log_spec =
     tie.close
     (tie.spec
     (search rules)

@@ -13,15 +13,15 @@ use Rattle.publication.proofs.opening.opened.Tie as tie
 
 returns : tie.Need-returns
 returns c =
-    let s = c.before.before.before.before.before.before in
-    let e : c.before.before.before.before.before.word.result ≡ word s.args.initial-term-id = c.before.before.before.before.before.word.ensures.0 ∙ ap word (to_z-of_z s.ranges.initial-term-id) in
-    opened-by _ _ _ _ _ _ _ _ _ _ _ _ _ (to_z-of_z s.ranges.term-length) (to_z-of_z s.ranges.mtu-length) (to_z-of_z s.ranges.initial-term-id) (to_z-of_z s.ranges.session-id) (to_z-of_z s.ranges.stream-id)
-    (to_z-of_z {w = w64} {z = c.before.before.before.before.raw-tail.result} (search rules) ∙ c.before.before.before.before.raw-tail.ensures ∙ ap (λ (n : ℕ). raw_of n 0) e)
-    (to_z-of_z {w = w64} {z = c.before.before.raw-tail2.result} (search rules) ∙ c.before.before.raw-tail2.ensures ∙ ap (λ (n : ℕ). raw_of n 0) (c.before.before.before.id-minus.ensures ∙ ap (λ (n : ℕ). id_minus n 2) e))
-    (to_z-of_z {w = w64} {z = c.raw-tail3.result} (search rules) ∙ c.raw-tail3.ensures ∙ ap (λ (n : ℕ). raw_of n 0) (c.before.id-minus2.ensures ∙ ap (λ (n : ℕ). id_minus n 1) e))
+    let s = c in
+    let e : c.word-id.result ≡ word s.args.initial_term_id = c.word-id.ensures.0 ∙ ap word (to_z-of_z s.ranges.initial_term_id) in
+    opened-by _ _ _ _ _ _ _ _ _ _ _ _ _ (to_z-of_z s.ranges.term_length) (to_z-of_z s.ranges.mtu_length) (to_z-of_z s.ranges.initial_term_id) (to_z-of_z s.ranges.session_id) (to_z-of_z s.ranges.stream_id)
+    (to_z-of_z {w = w64} {z = c.raw_tail-first.result} (search rules) ∙ c.raw_tail-first.ensures ∙ ap (λ (n : ℕ). raw_of n 0) e)
+    (to_z-of_z {w = w64} {z = c.raw_tail-second.result} (search rules) ∙ c.raw_tail-second.ensures ∙ ap (λ (n : ℕ). raw_of n 0) (c.id_minus.ensures ∙ ap (λ (n : ℕ). id_minus n 2) e))
+    (to_z-of_z {w = w64} {z = c.raw_tail-third.result} (search rules) ∙ c.raw_tail-third.ensures ∙ ap (λ (n : ℕ). raw_of n 0) (c.id_minus-2.ensures ∙ ap (λ (n : ℕ). id_minus n 1) e))
 
-pub opened-spec : {M : Type 1} → statement M
-opened-spec =
+pub opened_spec : {M : Type 1} → statement M
+opened_spec =
     tie.close
     (tie.spec
     (search rules)

@@ -13,9 +13,9 @@ use Rattle.publication.proofs.opening.raw_tail.Tie as tie
 returns : tie.Need-returns
 unfolding raw_of
 returns c =
-    let a = c.before.args in
-    let e : a.id * 4294967296 ≡ a.id % 4294967296 * 4294967296 + 0 = omega (arith, c.before.ranges.id.fits) in
-    to_z-of_z {w = w64} {z = c.to-i64.result} (search rules) ∙ c.to-i64.ensures ∙ ap (to_z w64) e
+    let a = c.args in
+    let e : a.id * 4294967296 ≡ a.id % 4294967296 * 4294967296 + 0 = omega (arith, c.ranges.id.fits) in
+    to_z-of_z {w = w64} {z = c.to_i64.result} (search rules) ∙ c.to_i64.ensures ∙ ap (to_z w64) e
 
-pub raw-tail-spec : {M : Type 1} → statement M
-raw-tail-spec = tie.close (tie.spec (search rules) (search rules) returns)
+pub raw_tail_spec : {M : Type 1} → statement M
+raw_tail_spec = tie.close (tie.spec (search rules) (search rules) returns)

@@ -17,43 +17,43 @@ use borrow.Author.Rules.{rules}
 use Rattle.publication.proofs.positions.available_window.Statement.{statement}
 use Rattle.publication.proofs.positions.available_window.Tie as tie
 
-module _ (c : tie.After-struct-told) where
+module _ (c : tie.After-struct_told-1) where
   abbrev rec· : LogRecord
-  rec· = c.before.before.before.before.before.before.before.args.rec
+  rec· = c.args.rec
 
   abbrev v· : Reading
-  v· = c.before.before.before.before.before.before.read-active.result
+  v· = c.read_active-v.result
 
   limit-fits : SFits w64 rec·.publication_limit
   limit-fits = search rules
 
   fit : SFits w64 (rec·.publication_limit -ℤ publisher_position v·)
   fit =
-      window-fits rec· v· _ c.before.before.before.before.before.before.read-active.ensures
-      (sound-record-true v· (number-sound _ (sym c.before.before.before.before.before.refusal.ensures ∙ c.before.before.before.enum_told.given.1))) limit-fits
+      window-fits rec· v· _ c.read_active-v.ensures
+      (sound-record-true v· (number-sound _ (sym c.refusal.ensures ∙ c.in-Pass.is))) limit-fits
 
-  exact : to_z w64 (of_z w64 rec·.publication_limit) -ℤ to_z w64 (of_z w64 c.before.before.publisher-position.result) ≡ rec·.publication_limit -ℤ publisher_position v·
+  exact : to_z w64 (of_z w64 rec·.publication_limit) -ℤ to_z w64 (of_z w64 c.publisher_position-position.result) ≡ rec·.publication_limit -ℤ publisher_position v·
   exact =
       ap₂ (λ (x y : ℤ). x -ℤ y) (to_z-of_z limit-fits)
-      (to_z-of_z {w = w64} {z = c.before.before.publisher-position.result} (search rules) ∙ c.before.before.publisher-position.ensures)
+      (to_z-of_z {w = w64} {z = c.publisher_position-position.result} (search rules) ∙ c.publisher_position-position.ensures)
 
-publisher-position-requires : tie.Need-publisher-position-requires
-publisher-position-requires c κs = (c.before.before.before.read-active.ensures, number-sound _ (sym c.before.before.refusal.ensures ∙ c.enum_told.given.1))
+publisher-position-requires : tie.Need-publisher_position-position-requires
+publisher-position-requires c κs = (c.read_active-v.ensures, number-sound _ (sym c.refusal.ensures ∙ c.in-Pass.is))
 
-sub-t7 : tie.Need-overflow-sub-t7
+sub-t7 : tie.Need-overflow_sub-result
 sub-t7 c = asks (exact c) (fit c)
 
-returns : tie.Need-returns
-returns c = number_is _ _ _ (ap number_verdict (sym c.before.before.before.before.read-active.ensures) ∙ sym c.before.before.before.refusal.ensures ∙ c.before.e.given.1)
+returns : tie.Need-returns-in-Refuse
+returns c = number_is _ _ _ (ap number_verdict (sym c.read_active-v.ensures) ∙ sym c.refusal.ensures ∙ c.in-Refuse.is)
 
-returns-2 : tie.Need-returns-2
-returns-2 c = let v = c.before.before.before.before.before.before.read-active in
-    let r = c.before.before.before.before.before.before.before.args.rec in
-    ap Position (lands (exact c) (fit c)) ∙ number_is v.result (r.publication_limit -ℤ publisher_position v.result) _ (sym c.before.before.before.before.before.refusal.ensures ∙ c.before.before.before.enum_told.given.1)
+returns-2 : tie.Need-returns-in-Pass
+returns-2 c = let v = c.read_active-v in
+    let r = c.args.rec in
+    ap Position (lands (exact c) (fit c)) ∙ number_is v.result (r.publication_limit -ℤ publisher_position v.result) _ (sym c.refusal.ensures ∙ c.in-Pass.is)
     ∙ ap (λ (x : Reading). open_record x (r.publication_limit -ℤ publisher_position x)) v.ensures
 
-pub available-window-spec : {M : Type 1} → statement M
-available-window-spec =
+pub available_window_spec : {M : Type 1} → statement M
+available_window_spec =
     tie.close
     (tie.spec
     (search rules)

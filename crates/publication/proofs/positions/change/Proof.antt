@@ -7,11 +7,11 @@ use borrow.Author.Rules.{rules}
 use Rattle.publication.proofs.positions.change.Statement.{statement}
 use Rattle.publication.proofs.positions.change.Tie as tie
 
-returns : tie.Need-returns
-returns c = change-no _ _ (ap sound_record (sym c.before.before.read-active.ensures) ∙ sym c.before.is-sound-record.ensures ∙ not-true _ c.if1.true)
+returns : tie.Need-returns-then-not-is_sound_record
+returns c = change-no _ _ (ap sound_record (sym c.read_active-v.ensures) ∙ sym c.is_sound_record.ensures ∙ not-true _ c.if-not-is_sound_record.true-raw)
 
-returns-2 : tie.Need-returns-2
-returns-2 c = change-done _ _ (ap sound_record (sym c.before.before.read-active.ensures) ∙ sym c.before.is-sound-record.ensures ∙ not-false _ c.if1.false)
+returns-2 : tie.Need-returns
+returns-2 c = change-done _ _ (ap sound_record (sym c.read_active-v.ensures) ∙ sym c.is_sound_record.ensures ∙ not-false _ c.if-not-is_sound_record.false-raw)
 
-pub change-spec : {M : Type 1} → statement M
-change-spec = tie.close (tie.spec (search rules) (search rules) returns returns-2)
+pub change_spec : {M : Type 1} → statement M
+change_spec = tie.close (tie.spec (search rules) (search rules) returns returns-2)

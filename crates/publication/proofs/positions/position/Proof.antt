@@ -12,19 +12,19 @@ use borrow.Author.Rules.{rules}
 use Rattle.publication.proofs.positions.position.Statement.{statement}
 use Rattle.publication.proofs.positions.position.Tie as tie
 
-publisher-position-requires : tie.Need-publisher-position-requires
-publisher-position-requires c κs = (c.before.before.before.read-active.ensures, number-sound _ (sym c.before.before.refusal.ensures ∙ c.enum_told.given.1))
+publisher-position-requires : tie.Need-publisher_position-requires
+publisher-position-requires c κs = (c.read_active-v.ensures, number-sound _ (sym c.refusal.ensures ∙ c.in-Pass.is))
 
-returns : tie.Need-returns
-returns c = number_is _ _ _ (ap number_verdict (sym c.before.before.before.before.read-active.ensures) ∙ sym c.before.before.before.refusal.ensures ∙ c.before.e.given.1)
+returns : tie.Need-returns-in-Refuse
+returns c = number_is _ _ _ (ap number_verdict (sym c.read_active-v.ensures) ∙ sym c.refusal.ensures ∙ c.in-Refuse.is)
 
-returns-2 : tie.Need-returns-2
-returns-2 c = let v = c.before.before.before.before.read-active in
-    ap Position (to_z-of_z {w = w64} {z = c.publisher-position.result} (search rules) ∙ c.publisher-position.ensures) ∙ number_is v.result (publisher_position v.result) _ (sym c.before.before.before.refusal.ensures ∙ c.before.enum_told.given.1)
+returns-2 : tie.Need-returns-in-Pass
+returns-2 c = let v = c.read_active-v in
+    ap Position (to_z-of_z {w = w64} {z = c.publisher_position.result} (search rules) ∙ c.publisher_position.ensures) ∙ number_is v.result (publisher_position v.result) _ (sym c.refusal.ensures ∙ c.in-Pass.is)
     ∙ ap (λ (x : Reading). open_record x (publisher_position x)) v.ensures
 
-pub position-spec : {M : Type 1} → statement M
-position-spec =
+pub position_spec : {M : Type 1} → statement M
+position_spec =
     tie.close
     (tie.spec
     (search rules)

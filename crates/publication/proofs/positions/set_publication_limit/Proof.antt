@@ -10,7 +10,7 @@ use Rattle.publication.proofs.positions.set_publication_limit.Tie as tie
 
 returns : tie.Need-returns
 unfolding with_limit changed
-returns c = let s = c.before in c.change.ensures ∙ ap (λ (z : ℤ). change_of s.args.rec (with_limit s.args.rec z)) (to_z-of_z s.ranges.limit)
+returns c = let s = c in c.change.ensures ∙ ap (λ (z : ℤ). change_of s.args.rec (with_limit s.args.rec z)) (to_z-of_z s.ranges.limit)
 
-pub set-publication-limit-spec : {M : Type 1} → statement M
-set-publication-limit-spec = tie.close (tie.spec (search rules) returns)
+pub set_publication_limit_spec : {M : Type 1} → statement M
+set_publication_limit_spec = tie.close (tie.spec (search rules) returns)

@@ -5,8 +5,8 @@ use Rattle.model.specs.Rule.{rule_number}
 use Rattle.publication.proofs.rule.number.Statement.{statement}
 use Rattle.publication.proofs.rule.number.Tie as tie
 
-pub number-spec : {M : Type 1} → statement M
-number-spec =
+pub number_spec : {M : Type 1} → statement M
+number_spec =
     tie.close
     (tie.spec
     (search rules)
@@ -26,20 +26,20 @@ number-spec =
     (search rules)
     (search rules)
     (search rules)
-    (λ c. ap rule_number (sym c.enum_told.given.1))
-    (λ c. ap rule_number (sym c.enum-told2.given.1))
-    (λ c. ap rule_number (sym c.enum-told3.given.1))
-    (λ c. ap rule_number (sym c.enum-told4.given.1))
-    (λ c. ap rule_number (sym c.enum-told5.given.1))
-    (λ c. ap rule_number (sym c.enum-told6.given.1))
-    (λ c. ap rule_number (sym c.enum-told7.given.1))
-    (λ c. ap rule_number (sym c.enum-told8.given.1))
-    (λ c. ap rule_number (sym c.enum-told9.given.1))
-    (λ c. ap rule_number (sym c.enum-told10.given.1))
-    (λ c. ap rule_number (sym c.enum-told11.given.1))
-    (λ c. ap rule_number (sym c.enum-told12.given.1))
-    (λ c. ap rule_number (sym c.enum-told13.given.1))
-    (λ c. ap rule_number (sym c.enum-told14.given.1))
-    (λ c. ap rule_number (sym c.enum-told15.given.1))
-    (λ c. ap rule_number (sym c.enum-told16.given.1))
-    (λ c. ap rule_number (sym c.enum-told17.given.1)))
+    (λ c. ap rule_number (sym c.in-IllegalArgument.is))
+    (λ c. ap rule_number (sym c.in-IllegalRecord.is))
+    (λ c. ap rule_number (sym c.in-PublicationClosed.is))
+    (λ c. ap rule_number (sym c.in-ExceedsMaxPayloadLength.is))
+    (λ c. ap rule_number (sym c.in-CountOutOfStep.is))
+    (λ c. ap rule_number (sym c.in-LimitPastMaxPosition.is))
+    (λ c. ap rule_number (sym c.in-BackPressured.is))
+    (λ c. ap rule_number (sym c.in-NotConnected.is))
+    (λ c. ap rule_number (sym c.in-ExceedsMaxMessageLength.is))
+    (λ c. ap rule_number (sym c.in-TailOverflow.is))
+    (λ c. ap rule_number (sym c.in-TripPastMaxPosition.is))
+    (λ c. ap rule_number (sym c.in-LastTerm.is))
+    (λ c. ap rule_number (sym c.in-NotCleared.is))
+    (λ c. ap rule_number (sym c.in-TermRotated.is))
+    (λ c. ap rule_number (sym c.in-Unfragmented.is))
+    (λ c. ap rule_number (sym c.in-Fragmented.is))
+    (λ c. ap rule_number (sym c.in-Claimed.is)))

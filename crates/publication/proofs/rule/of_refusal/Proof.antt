@@ -5,8 +5,8 @@ use Rattle.model.proofs.RuleLaws.{refused_rule}
 use Rattle.publication.proofs.rule.of_refusal.Statement.{statement}
 use Rattle.publication.proofs.rule.of_refusal.Tie as tie
 
-pub of-refusal-spec : {M : Type 1} → statement M
-of-refusal-spec =
+pub of_refusal_spec : {M : Type 1} → statement M
+of_refusal_spec =
     tie.close
     (tie.spec
     (search rules)
@@ -30,24 +30,24 @@ of-refusal-spec =
     (search rules)
     (search rules)
     (search rules)
-    (λ c. ap refused_rule (sym c.enum_told.given.1))
-    (λ c. ap refused_rule (sym c.enum-told2.given.1))
-    (λ c. ap refused_rule (sym c.enum-told3.given.1))
-    (λ c. ap refused_rule (sym c.enum-told4.given.1))
-    (λ c. ap refused_rule (sym c.enum-told5.given.1))
-    (λ c. ap refused_rule (sym c.enum-told6.given.1))
-    (λ c. ap refused_rule (sym c.enum-told7.given.1))
-    (λ c. ap refused_rule (sym c.enum-told8.given.1))
-    (λ c. ap refused_rule (sym c.enum-told9.given.1))
-    (λ c. ap refused_rule (sym c.enum-told10.given.1))
-    (λ c. ap refused_rule (sym c.enum-told11.given.1))
-    (λ c. ap refused_rule (sym c.enum-told12.given.1))
-    (λ c. ap refused_rule (sym c.enum-told13.given.1))
-    (λ c. ap refused_rule (sym c.enum-told14.given.1))
-    (λ c. ap refused_rule (sym c.enum-told15.given.1))
-    (λ c. ap refused_rule (sym c.enum-told16.given.1))
-    (λ c. ap refused_rule (sym c.enum-told17.given.1))
-    (λ c. ap refused_rule (sym c.enum-told18.given.1))
-    (λ c. ap refused_rule (sym c.enum-told19.given.1))
-    (λ c. ap refused_rule (sym c.enum-told20.given.1))
-    (λ c. ap refused_rule (sym c.enum-told21.given.1)))
+    (λ c. ap refused_rule (sym c.in-IllegalArgument.is))
+    (λ c. ap refused_rule (sym c.in-IllegalRecord.is))
+    (λ c. ap refused_rule (sym c.in-PositionOutOfRange.is))
+    (λ c. ap refused_rule (sym c.in-ExceedsMaxPayloadLength.is))
+    (λ c. ap refused_rule (sym c.in-PublicationClosed.is))
+    (λ c. ap refused_rule (sym c.in-AdminAction.is))
+    (λ c. ap refused_rule (sym c.in-MaxPositionExceeded.is))
+    (λ c. ap refused_rule (sym c.in-BackPressured.is))
+    (λ c. ap refused_rule (sym c.in-NotConnected.is))
+    (λ c. ap refused_rule (sym c.in-ExceedsMaxMessageLength.is))
+    (λ c. ap refused_rule (sym c.in-TailOverflow.is))
+    (λ c. ap refused_rule (sym c.in-LastTerm.is))
+    (λ c. ap refused_rule (sym c.in-ActionPossiblyDelayed.is))
+    (λ c. ap refused_rule (sym c.in-ClaimMismatch.is))
+    (λ c. ap refused_rule (sym c.in-NewPositionOutOfRange.is))
+    (λ c. ap refused_rule (sym c.in-NewPositionNotAligned.is))
+    (λ c. ap refused_rule (sym c.in-AssemblyFull.is))
+    (λ c. ap refused_rule (sym c.in-NotCleared.is))
+    (λ c. ap refused_rule (sym c.in-NotDue.is))
+    (λ c. ap refused_rule (sym c.in-FrameTooShort.is))
+    (λ c. ap refused_rule (sym c.in-FramePastTerm.is)))

@@ -9,7 +9,7 @@ use Rattle.replay.proofs.Replay.new.Tie as tie
 
 returns : tie.Need-returns
 returns c =
-    (ap image_state c.before.new.ensures ∙ ap₂ new_image (to_z-of_z c.before.before.ranges.position) (to_z-of_z c.before.before.ranges.session-id), c.new2.ensures)
+    (ap image_state c.new.ensures ∙ ap₂ new_image (to_z-of_z c.ranges.position) (to_z-of_z c.ranges.session_id), c.new-2.ensures)
 
 pub new_spec : {M : Type 1} → statement M
 new_spec = tie.close (tie.spec (search rules) (search rules) returns)

@@ -23,21 +23,21 @@ use Rattle.replay.proofs.Turns.{next-refused}
 use Rattle.replay.proofs.Replay.next.Statement.{statement}
 use Rattle.replay.proofs.Replay.next.Tie as tie
 
-returns : tie.Need-returns
-returns c = let a = c.before.before.before.args in next-refused a.rec a.log.now (state_of a.self a.buffer.now) (omega arith)
+returns : tie.Need-returns-then-buffer-gt2147483647
+returns c = let a = c.args in next-refused a.rec a.log.now (state_of a.self a.buffer.now) (omega arith)
 
-module _ (c : tie.After-long) where
+module _ (c : tie.After-long-p) where
   abbrev s : tie.Start
   s = c.before.before.before.before.before.before.before.before
 
   abbrev n : ℕ
-  n = c.before.before.before.next-whole.result.length
+  n = c.next_whole-whole.result.length
 
-  p-is : c.long.result ≡ long s.args.self.image.position
-  p-is = long-by s.args.self.image.position c.long.ensures.0 (search rules)
+  p-is : c.long-p.result ≡ long s.args.self.image.position
+  p-is = long-by s.args.self.image.position c.long-p.ensures.0 (search rules)
 
   some : 0 < n
-  some = omega (arith, c.before.before.if2.false)
+  some = omega (arith, c.if-n-eq0.false)
 
   abbrev m : ℕ
   m = whole_of s.args.rec s.args.log.now (image_state s.args.self.image) (length s.args.buffer.now)
@@ -46,37 +46,37 @@ module _ (c : tie.After-long) where
   X = index_at (reading s.args.rec).term (long s.args.self.image.position)
 
   length-is : m ≡ n
-  length-is = sym (ap (λ (x : Whole). x.length) c.before.before.before.next-whole.ensures ∙ whole_length X m)
+  length-is = sym (ap (λ (x : Whole). x.length) c.next_whole-whole.ensures ∙ whole_length X m)
 
-  index_is : c.before.before.before.next-whole.result.index ≡ X
-  index_is = ap (λ (x : Whole). x.index) c.before.before.before.next-whole.ensures ∙ whole-index X m (λ e. omega (arith, length-is, some))
+  index_is : c.next_whole-whole.result.index ≡ X
+  index_is = ap (λ (x : Whole). x.index) c.next_whole-whole.ensures ∙ whole-index X m (λ e. omega (arith, length-is, some))
 
-  near : (c.long.result < 2305843009213693952) × ((32 ≤ n) × ((n < 2147483648) × (c.before.before.before.next-whole.result.index < 3221225472)))
+  near : (c.long-p.result < 2305843009213693952) × ((32 ≤ n) × ((n < 2147483648) × (c.next_whole-whole.result.index < 3221225472)))
   near =
       let h = whole-near s.args.rec s.args.log.now (image_state s.args.self.image) (length s.args.buffer.now) n length-is some in
       let x : X ≡ index_at (open_term (image_state s.args.self.image) (reading s.args.rec) (length s.args.log.now) (length s.args.buffer.now)) (long s.args.self.image.position) = ap (λ (t : ℕ). index_at t (long s.args.self.image.position)) (sym h.term_is) in
       (omega (arith, h.position, p-is), (h.header, (h.small, omega (arith, index_is, x, h.index))))
 
-cast-image : tie.Need-overflow-cast-image
+cast-image : tie.Need-overflow_cast-image
 cast-image c = record { sfits = omega (arith, near c) }
 
-returns-3 : tie.Need-returns-3
+returns-3 : tie.Need-returns
 returns-3 c =
-    let q = c.before in
-    let a = (s q).args in
-    ap₂ {C = NextReply} (λ (z : ℤ) (x : ℕ). giving (record { image = moved_to (image_state a.self.image) z; sessions = sessions_of a.self.assembler; buffer = a.buffer.now }) (InLog (x + 32) (n q - 32)))
-    (to_z_pos w64 (omega (arith, near q)) ∙ ap (λ (x : ℕ). pos (x + (n q + 31) / 32 * 32)) (p-is q)) (index_is q)
-    ∙ whole_says a.rec a.log.now (state_of a.self a.buffer.now) (n q) (length-is q) (some q)
+    let q = c in
+    let a = (s c.before).args in
+    ap₂ {C = NextReply} (λ (z : ℤ) (x : ℕ). giving (record { image = moved_to (image_state a.self.image) z; sessions = sessions_of a.self.assembler; buffer = a.buffer.now }) (InLog (x + 32) (n c.before - 32)))
+    (to_z_pos w64 (omega (arith, near c.before)) ∙ ap (λ (x : ℕ). pos (x + (n c.before + 31) / 32 * 32)) (p-is c.before)) (index_is c.before)
+    ∙ whole_says a.rec a.log.now (state_of a.self a.buffer.now) (n c.before) (length-is c.before) (some c.before)
 
-pub next-spec : {M : Type 1} → statement M
-next-spec =
+pub next_spec : {M : Type 1} → statement M
+next_spec =
     tie.close
     (tie.spec
     returns
     (search rules)
     (search rules)
     (search rules)
-    (λ c. c.before.before.next-by-turns.ensures)
+    (λ c. c.next_by_turns.ensures)
     (search rules)
     (λ c. omega (arith, near c))
     (λ c. omega (arith, near c))

@@ -12,30 +12,30 @@ use Rattle.replay.proofs.Turns.{next-refused, next-starts}
 use Rattle.replay.proofs.Replay.next_by_turns.Statement.{statement}
 use Rattle.replay.proofs.Replay.next_by_turns.Tie as tie
 
-returns : tie.Need-returns
-returns c = let a = c.before.before.before.args in next-refused a.rec a.log.now (state_of a.self a.buffer.now) (omega arith)
+returns : tie.Need-returns-then-buffer-gt2147483647
+returns c = let a = c.args in next-refused a.rec a.log.now (state_of a.self a.buffer.now) (omega arith)
 
 term_fits : (s : tie.Start) → SFits w32 s.args.rec.term_length
 term_fits s = search rules
 
-returns-2 : tie.Need-returns-2
+returns-2 : tie.Need-returns-then-reach-eq0
 returns-2 c =
-    let s = c.before.before.before.before.before.before.before.before.before.before.before.before.before.before.before.before in
-    let w = c.before.before.before.word in
-    c.before.before.turns.ensures
-    ∙ next-starts s.args.rec s.args.log.now (state_of s.args.self s.args.buffer.now) w.result (word-by s.args.rec.term_length w.ensures.0 (term_fits s))
-    (omega (arith, c.before.before.before.before.before.before.before.before.before.before.before.before.before.if1.false))
+    let s = c in
+    let w = c.word in
+    c.turns.ensures
+    ∙ next-starts s.args.rec s.args.log.now (state_of s.args.self s.args.buffer.now) w.result (word-by s.args.rec.term_length w.ensures.0 (term_fits c.before.before.before.before.before.before.before.before.before.before.before.before.before.before.before.before))
+    (omega (arith, c.if-buffer-gt2147483647.false))
 
-next-lent-requires : tie.Need-next-lent-requires
-next-lent-requires c κs = (omega (arith, c.before.before.before.before.before.before.before.before.before.before.if1.false), c.before.before.before.before.before.reach_of.ensures)
+next-lent-requires : tie.Need-next_lent-reply-requires
+next-lent-requires c κs = (omega (arith, c.if-buffer-gt2147483647.false), c.reach_of-reach.ensures)
 
-returns-3 : tie.Need-returns-3
+returns-3 : tie.Need-returns
 returns-3 c =
-    let u = c.before.before.before.before in
-    ap {B = NextReply} (λ (x : Replay). record { answer = u.next-lent.result.answer; next = state_of x u.next-lent.new.1.1.1.1.1.1.0 }) c.replay-of.ensures ∙ u.next-lent.ensures
+    let u = c in
+    ap {B = NextReply} (λ (x : Replay). record { answer = u.next_lent-reply.result.answer; next = state_of x u.next_lent-reply.new.held.1.1.1.1.1.0 }) c.replay_of.ensures ∙ u.next_lent-reply.ensures
 
-pub next-by-turns-spec : {M : Type 1} → statement M
-next-by-turns-spec =
+pub next_by_turns_spec : {M : Type 1} → statement M
+next_by_turns_spec =
     tie.close
     (tie.spec
     returns

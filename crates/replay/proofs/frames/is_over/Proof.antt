@@ -11,14 +11,14 @@ use Rattle.replay.proofs.InPlace.{over-unsound, over-high, over-off, over_by}
 use Rattle.replay.proofs.frames.is_over.Statement.{statement}
 use Rattle.replay.proofs.frames.is_over.Tie as tie
 
-returns : tie.Need-returns
-returns c = let a = c.before.before.args in over-unsound a.v a.n a.p (sym c.before.is-sound.ensures ∙ not-true _ c.if1.true)
+returns : tie.Need-returns-then-not-is_sound
+returns c = let a = c.args in over-unsound a.v a.n a.p (sym c.is_sound.ensures ∙ not-true _ c.if-not-is_sound.true-raw)
 
-returns-2 : tie.Need-returns-2
-returns-2 c = let a = c.before.before.before.before.args in over-high a.v a.n a.p (omega arith)
+returns-2 : tie.Need-returns-then-p-v
+returns-2 c = let a = c.args in over-high a.v a.n a.p (omega arith)
 
-returns-3 : tie.Need-returns-3
-returns-3 c = let a = c.before.before.before.before.before.args in over-off a.v a.n a.p c.if3.true
+returns-3 : tie.Need-returns-then-p-ne0
+returns-3 c = let a = c.args in over-off a.v a.n a.p c.if-p-ne0.true
 
 -- one order or the other
 either : (p s : ℕ) → leb s p ≡ not (ltb p s)
@@ -28,10 +28,10 @@ either p s = go (ltb p s) refl
     go true e = lt-leb s p (ltb-true p s e)
     go false e = le-leb s p (ltb-false p s e)
 
-returns-4 : tie.Need-returns-4
+returns-4 : tie.Need-returns
 returns-4 c =
-    let a = c.before.before.before.before.before.before.args in
-    ap (λ (s : ℕ). leb s a.p) c.stop-at.ensures ∙ either a.p (stop_at a.v) ∙ over_by a.v a.n a.p (sym c.before.before.before.before.before.is-sound.ensures ∙ not-false _ c.before.before.before.before.if1.false) (omega arith) c.before.if3.false
+    let a = c.args in
+    ap (λ (s : ℕ). leb s a.p) c.stop_at.ensures ∙ either a.p (stop_at a.v) ∙ over_by a.v a.n a.p (sym c.is_sound.ensures ∙ not-false _ c.if-not-is_sound.false-raw) (omega arith) c.if-p-ne0.false
 
-pub is-over-spec : {M : Type 1} → statement M
-is-over-spec = tie.close (tie.spec (search rules) returns (λ c. omega (arith, c.before.before.before.requires.1.1)) returns-2 returns-3 (λ c κs. c.before.before.before.before.before.requires) returns-4)
+pub is_over_spec : {M : Type 1} → statement M
+is_over_spec = tie.close (tie.spec (search rules) returns (λ c. omega (arith, c.requires.1.1)) returns-2 returns-3 (λ c κs. c.requires) returns-4)

@@ -13,14 +13,14 @@ use Rattle.replay.proofs.frames.reach_of.Tie as tie
 term_fits : (s : tie.Start) → SFits w32 s.args.rec.term_length
 term_fits s = search rules
 
-stop-at-requires : tie.Need-stop-at-requires
-stop-at-requires c κs = let s = c.before.before in readings s.args.rec _ c.before.read-active.ensures (term_fits s)
+stop-at-requires : tie.Need-stop_at-requires
+stop-at-requires c κs = let s = c in readings s.args.rec _ c.read_active-v.ensures (term_fits c.before.before)
 
 returns : tie.Need-returns
 returns c =
-    let s = c.before.before.before in
-    let read = c.before.before.read-active.ensures in
-    (c.before.open-term.ensures ∙ ap (λ (v : Reading). open_term (image_state s.args.image) v s.args.n s.args.lent) read, c.stop-at.ensures ∙ ap stop_at read)
+    let s = c in
+    let read = c.read_active-v.ensures in
+    (c.open_term.ensures ∙ ap (λ (v : Reading). open_term (image_state s.args.image) v s.args.n s.args.lent) read, c.stop_at.ensures ∙ ap stop_at read)
 
-pub reach-of-spec : {M : Type 1} → statement M
-reach-of-spec = tie.close (tie.spec (search rules) (search rules) stop-at-requires returns)
+pub reach_of_spec : {M : Type 1} → statement M
+reach_of_spec = tie.close (tie.spec (search rules) (search rules) stop-at-requires returns)

@@ -21,26 +21,26 @@ use Rattle.replay.proofs.Gather.{led_to, gone_on, gather_none, gather-stays, led
 use Rattle.replay.proofs.gathering.gather.Statement.{statement}
 use Rattle.replay.proofs.gathering.gather.Tie as tie
 
-abbrev invariant-loop : tie.invariant-loop
+abbrev invariant-loop : tie.invariant-loop-left
 invariant-loop count ids₀ held₀ log buffer₀ term stop position most current₀ entered₀ p₀ left₀ ids held buffer current entered p left =
     ((length ids ≡ length ids₀) × (length held ≡ length held₀)) × ((length buffer ≡ length buffer₀)
     × (Knows entered ids current × (gather_from left log term stop p (at_hand entered ids held current) buffer ≡ gather_from most log term stop position (sessions_as count ids₀ held₀) buffer₀)))
 
-abbrev decreases-loop : tie.decreases-loop
+abbrev decreases-loop : tie.decreases-loop-left
 decreases-loop count ids₀ held₀ log buffer₀ term stop position most current₀ entered₀ p₀ left₀ ids held buffer current entered p left = left
 
-abbrev st : tie.At-loop invariant-loop decreases-loop → tie.Start invariant-loop decreases-loop
+abbrev st : tie.At-loop-left invariant-loop decreases-loop → tie.Start invariant-loop decreases-loop
 st l = l.before.before.before.before.before
 
 -- the sessions where the loop stands
-abbrev ss : tie.At-loop invariant-loop decreases-loop → Sessions
-ss l = at_hand l.loop.entered l.loop.ids l.loop.held l.loop.current
+abbrev ss : tie.At-loop-left invariant-loop decreases-loop → Sessions
+ss l = at_hand l.loop-left.entered l.loop-left.ids l.loop-left.held l.loop-left.current
 
-loop-holds : tie.Need-loop-init invariant-loop decreases-loop
+loop-holds : tie.Need-loop-left-init invariant-loop decreases-loop
 loop-holds c =
-    let s = c.before.before.before.before in
+    let s = c in
     let a = s.args in
-    let e = c.current-as.ensures in (
+    let e = c.current_as-current.ensures in (
       (refl, refl),
       (
         refl,
@@ -52,127 +52,127 @@ loop-holds c =
       ),
     )
 
-goes : (l : tie.In-loop invariant-loop decreases-loop) → 0 < l.before.loop.left
+goes : (l : tie.In-loop-left invariant-loop decreases-loop) → 0 < l.loop-left.left
 goes l = omega arith
 
 -- where it stands, stopped
-ends_at : (l : tie.At-loop invariant-loop decreases-loop) (r : Gathered) (held : List ℕ) (y : Replayed) (g : Gathering) → r ≡ gathered_as l.loop.entered l.loop.left l.loop.p y
-    → held ≡ set l.loop.held l.loop.current.place l.loop.current.bytes → led_to l.loop.left l.loop.p (ss l) l.loop.buffer y ≡ g → gathering_of r l.loop.ids held l.loop.buffer ≡ g
-ends_at l r held y g e h q = ap₂ (λ (x : Gathered) (k : List ℕ). gathering_of x l.loop.ids k l.loop.buffer) e h ∙ q
+ends_at : (l : tie.At-loop-left invariant-loop decreases-loop) (r : Gathered) (held : List ℕ) (y : Replayed) (g : Gathering) → r ≡ gathered_as l.loop-left.entered l.loop-left.left l.loop-left.p y
+    → held ≡ set l.loop-left.held l.loop-left.current.place l.loop-left.current.bytes → led_to l.loop-left.left l.loop-left.p (ss l) l.loop-left.buffer y ≡ g → gathering_of r l.loop-left.ids held l.loop-left.buffer ≡ g
+ends_at l r held y g e h q = ap₂ (λ (x : Gathered) (k : List ℕ). gathering_of x l.loop-left.ids k l.loop-left.buffer) e h ∙ q
 
-returns : tie.Need-returns invariant-loop decreases-loop
+returns : tie.Need-returns-then-frame-eq0 invariant-loop decreases-loop
 returns c =
-    let d = c.before.before.before.before.before.before.before in
-    let l = d.before.before in
-    let a = (st l).args in
-    ends_at l _ _ _ _ c.gathered-as.ensures c.before.before.before.settle.ensures
-    (gather-stays a.log.now a.term a.stop l.loop.p (ss l) l.loop.buffer l.loop.left (goes d.before) d.data-at.result.length d.data-at.ensures.0 c.before.before.before.before.before.if1.true
-    ∙ l.loop.invariant.1.1.1)
+    let d = c in
+    let l = c in
+    let a = (st c.before.before.before.before.before.before.before.before.before).args in
+    ends_at c.before.before.before.before.before.before.before.before.before _ _ _ _ c.gathered_as.ensures c.settle.ensures
+    (gather-stays a.log.now a.term a.stop l.loop-left.p (ss c.before.before.before.before.before.before.before.before.before) l.loop-left.buffer l.loop-left.left (goes c.before.before.before.before.before.before.before.before) d.data_at-frame.result.length d.data_at-frame.ensures.0 c.if-frame-eq0.true
+    ∙ l.loop-left.invariant.1.1.1)
 
 -- ---- a data frame, taken
 
-found : (d : tie.After-data-at invariant-loop decreases-loop) → ¬ (d.data-at.result.length ≡ 0)
-    → let l = d.before.before in DataAt (st l).args.log.now (st l).args.term (st l).args.stop l.loop.p d.data-at.result.length
+found : (d : tie.After-data_at-frame invariant-loop decreases-loop) → ¬ (d.data_at-frame.result.length ≡ 0)
+    → let l = d in DataAt (st d.before.before).args.log.now (st d.before.before).args.term (st d.before.before).args.stop l.loop-left.p d.data_at-frame.result.length
 found d some =
-    let l = d.before.before in data-found (st l).args.log.now (st l).args.term (st l).args.stop l.loop.p d.data-at.result.length (sym d.data-at.ensures.0) (omega (arith, some))
+    let l = d in data-found (st d.before.before).args.log.now (st d.before.before).args.term (st d.before.before).args.stop l.loop-left.p d.data_at-frame.result.length (sym d.data_at-frame.ensures.0) (omega (arith, some))
 
-take-requires : tie.Need-take-requires invariant-loop decreases-loop
+take-requires : tie.Need-take-step-requires invariant-loop decreases-loop
 take-requires c κs =
-    let d = c.before.before.before.before.before in
-    let l = d.before.before in
-    let s = st l in
-    let some = c.before.before.before.if1.false in
-    let f = found d some in (
+    let d = c in
+    let l = c in
+    let s = st c.before.before.before.before.before.before.before in
+    let some = c.if-frame-eq0.false in
+    let f = found c.before.before.before.before.before some in (
       (s.pre.0.0, (f.some, omega (arith, f.below, s.pre.0.1 f.some))),
-      (goes d.before, (d.data-at.ensures.1 (omega (arith, some)), ((l.loop.invariant.0.0 ∙ s.pre.1.0, l.loop.invariant.0.1 ∙ s.pre.1.1), l.loop.invariant.1.1.0))),
+      (goes c.before.before.before.before.before.before, (d.data_at-frame.ensures.1 (omega (arith, some)), ((l.loop-left.invariant.0.0 ∙ s.pre.1.0, l.loop-left.invariant.0.1 ∙ s.pre.1.1), l.loop-left.invariant.1.1.0))),
     )
 
-module _ (k : tie.After-take invariant-loop decreases-loop) where
-  abbrev d : tie.After-data-at invariant-loop decreases-loop
+module _ (k : tie.After-take-step invariant-loop decreases-loop) where
+  abbrev d : tie.After-data_at-frame invariant-loop decreases-loop
   d = k.before.before.before.before.before.before
 
-  abbrev l : tie.At-loop invariant-loop decreases-loop
+  abbrev l : tie.At-loop-left invariant-loop decreases-loop
   l = d.before.before
 
   abbrev s : tie.Start invariant-loop decreases-loop
   s = st l
 
   abbrev n : ℕ
-  n = d.data-at.result.length
+  n = d.data_at-frame.result.length
 
   some : ¬ (n ≡ 0)
-  some = k.before.before.before.before.if1.left
+  some = k.if-frame-eq0.left
 
   abbrev r : Gathered
-  r = k.take.result.gathered
+  r = k.take-step.result.gathered
 
   abbrev G : Gathering
-  G = gathering_of r k.take.last.1.0 (set k.take.last.1.1.0 k.take.result.current.place k.take.result.current.bytes) k.take.last.1.1.1.1.1.0
+  G = gathering_of r k.take-step.last.1.0 (set k.take-step.last.1.1.0 k.take-step.result.current.place k.take-step.result.current.bytes) k.take-step.last.1.1.1.1.1.0
 
   abbrev J : Assembly
-  J = joined_here s.args.log.now s.args.term l.loop.p (ss l) l.loop.buffer
+  J = joined_here s.args.log.now s.args.term l.loop-left.p (ss l) l.loop-left.buffer
 
   -- and on from there, all comes as was asked
   on : gone_on s.args.log.now s.args.term s.args.stop G ≡ gather_from s.args.most s.args.log.now s.args.term s.args.stop s.args.position (sessions_as s.args.count s.args.ids.now s.args.held.now) s.args.buffer.now
   on =
-      ap (gone_on s.args.log.now s.args.term s.args.stop) k.take.ensures.0
-      ∙ led_on s.args.log.now s.args.term s.args.stop l.loop.p (ss l) l.loop.buffer l.loop.left (goes d.before) n d.data-at.ensures.0 some ∙ l.loop.inv.1.1.1
+      ap (gone_on s.args.log.now s.args.term s.args.stop) k.take-step.ensures.0
+      ∙ led_on s.args.log.now s.args.term s.args.stop l.loop-left.p (ss l) l.loop-left.buffer l.loop-left.left (goes d.before) n d.data_at-frame.ensures.0 some ∙ l.loop-left.inv.1.1.1
 
-  one : is_end r.answer ≡ true → r.left ≡ l.loop.left - 1
+  one : is_end r.answer ≡ true → r.left ≡ l.loop-left.left - 1
   one e =
-      ap (λ (x : Gathering). x.left) k.take.ensures.0
-      ∙ led-left l.loop.left l.loop.p n (index_at s.args.term l.loop.p) (ss l) J (sym (ap (λ (x : Gathering). is_end x.answer) k.take.ensures.0) ∙ e)
+      ap (λ (x : Gathering). x.left) k.take-step.ensures.0
+      ∙ led-left l.loop-left.left l.loop-left.p n (index_at s.args.term l.loop-left.p) (ss l) J (sym (ap (λ (x : Gathering). is_end x.answer) k.take-step.ensures.0) ∙ e)
 
-returns-2 : tie.Need-returns-2 invariant-loop decreases-loop
+returns-2 : tie.Need-returns-then-not-is_end invariant-loop decreases-loop
 returns-2 c =
-    let k = c.before.before.before.before.before.before.before.before.before.before.before.before.before in
-    let e = sym c.before.before.before.before.before.is-end.ensures ∙ not-true _ c.before.before.before.before.if2.true in
-    ap (λ (h : List ℕ). gathering_of (r k) k.take.new.1.0 h k.take.new.1.1.1.1.1.0) c.before.before.settle2.ensures
-    ∙ sym (cond-false (is_end (r k).answer) _ (G k) e) ∙ on k
+    let k = c in
+    let e = sym c.is_end.ensures ∙ not-true _ c.if-not-is_end.true-raw in
+    ap (λ (h : List ℕ). gathering_of (r c.before.before.before.before.before.before.before.before.before.before.before.before.before) k.take-step.new.held h k.take-step.new.held.1.1.1.1.0) c.settle-then-not-is_end.ensures
+    ∙ sym (cond-false (is_end (r c.before.before.before.before.before.before.before.before.before.before.before.before.before).answer) _ (G c.before.before.before.before.before.before.before.before.before.before.before.before.before) e) ∙ on c.before.before.before.before.before.before.before.before.before.before.before.before.before
 
-loop-less : tie.Need-loop-smaller invariant-loop decreases-loop
-loop-less c = let k = c.before.before.before.before.before.before.before.before.before in omega (arith, one k (sym c.before.is-end.ensures ∙ not-false _ c.if2.false), goes (d k).before)
+loop-less : tie.Need-loop-left-smaller invariant-loop decreases-loop
+loop-less c = let k = c in omega (arith, one c.before.before.before.before.before.before.before.before.before (sym c.is_end.ensures ∙ not-false _ c.if-not-is_end.false-raw), goes (d c.before.before.before.before.before.before.before.before.before).before)
 
-loop-again : tie.Need-loop-preserved invariant-loop decreases-loop
+loop-again : tie.Need-loop-left-preserved invariant-loop decreases-loop
 loop-again c =
-    let k = c.before.before.before.before.before.before.before.before.before in
-    let e = sym c.before.is-end.ensures ∙ not-false _ c.if2.false in
-    ((omega (arith, c.before.before.before.before.before.before.before.before.ids.given, c.before.before.before.before.before.before.before.before.before.before.before.before.before.before.before.before.before.loop.invariant.0.0), omega (arith, c.before.before.before.before.before.before.before.held2.given, c.before.before.before.before.before.before.before.before.before.before.before.before.before.before.before.before.before.loop.invariant.0.1)), (omega (arith, c.before.before.before.before.before.buffer.given, c.before.before.before.before.before.before.before.before.before.before.before.before.before.before.before.before.before.loop.invariant.1.0), (k.take.ensures.1, sym (cond-true (is_end (r k).answer) _ (G k) e) ∙ on k)))
+    let k = c in
+    let e = sym c.is_end.ensures ∙ not-false _ c.if-not-is_end.false-raw in
+    ((omega (arith, c.ids-1.given, c.loop-left.invariant.0.0), omega (arith, c.held-in-loop-left-1.given, c.loop-left.invariant.0.1)), (omega (arith, c.buffer-1.given, c.loop-left.invariant.1.0), (k.take-step.ensures.1, sym (cond-true (is_end (r c.before.before.before.before.before.before.before.before.before).answer) _ (G c.before.before.before.before.before.before.before.before.before) e) ∙ on c.before.before.before.before.before.before.before.before.before)))
 
-returns-3 : tie.Need-returns-3 invariant-loop decreases-loop
+returns-3 : tie.Need-returns invariant-loop decreases-loop
 returns-3 c =
-    let l = c.before.before.before.before.before.before in
-    let a = (st l).args in
-    ends_at l _ _ _ _ c.gathered-as2.ensures c.before.before.before.settle3.ensures
-    (gather_none a.log.now a.term a.stop l.loop.p (ss l) l.loop.buffer l.loop.left (omega (arith, c.before.before.before.before.before.loop-test)) ∙ l.loop.invariant.1.1.1)
+    let l = c in
+    let a = (st c.before.before.before.before.before.before).args in
+    ends_at c.before.before.before.before.before.before _ _ _ _ c.gathered_as-2.ensures c.settle-2.ensures
+    (gather_none a.log.now a.term a.stop l.loop-left.p (ss c.before.before.before.before.before.before) l.loop-left.buffer l.loop-left.left (omega (arith, c.loop-left-test)) ∙ l.loop-left.invariant.1.1.1)
 
-pub gather-spec : {M : Type 1} → statement M
-gather-spec =
+pub gather_spec : {M : Type 1} → statement M
+gather_spec =
     tie.close
     (tie.spec
     invariant-loop
     decreases-loop
     (search rules)
     loop-holds
-    (λ c κs. c.before.before.before.before.before.before.requires.0.0)
+    (λ c κs. c.requires.0.0)
     (search rules)
     (search rules)
-    (λ c. omega (arith, c.before.before.before.before.before.before.before.before.before.loop.invariant.0.0))
-    (λ c. omega (arith, c.before.before.held.given, c.before.before.before.before.before.before.before.before.before.loop.invariant.0.1))
-    (λ c. omega (arith, c.before.before.before.before.before.before.before.before.before.loop.invariant.1.0))
+    (λ c. omega (arith, c.loop-left.invariant.0.0))
+    (λ c. omega (arith, c.held-1.given, c.loop-left.invariant.0.1))
+    (λ c. omega (arith, c.loop-left.invariant.1.0))
     returns
     take-requires
     (search rules)
     (search rules)
-    (λ c. omega (arith, c.before.before.before.before.before.before.before.before.before.before.before.before.ids.given, c.before.before.before.before.before.before.before.before.before.before.before.before.before.before.before.before.before.before.before.before.before.loop.invariant.0.0))
-    (λ c. omega (arith, c.before.held3.given, c.before.before.before.before.before.before.before.before.before.before.before.held2.given, c.before.before.before.before.before.before.before.before.before.before.before.before.before.before.before.before.before.before.before.before.before.loop.invariant.0.1))
-    (λ c. omega (arith, c.before.before.before.before.before.before.before.before.before.buffer.given, c.before.before.before.before.before.before.before.before.before.before.before.before.before.before.before.before.before.before.before.before.before.loop.invariant.1.0))
+    (λ c. omega (arith, c.ids-1.given, c.loop-left.invariant.0.0))
+    (λ c. omega (arith, c.held-then-not-is_end-1.given, c.held-in-loop-left-1.given, c.loop-left.invariant.0.1))
+    (λ c. omega (arith, c.buffer-1.given, c.loop-left.invariant.1.0))
     returns-2
     loop-less
     loop-again
     (search rules)
     (search rules)
-    (λ c. omega (arith, c.before.before.before.before.before.before.loop.invariant.0.0))
-    (λ c. omega (arith, c.before.before.held4.given, c.before.before.before.before.before.before.loop.invariant.0.1))
-    (λ c. omega (arith, c.before.before.before.before.before.before.loop.invariant.1.0))
+    (λ c. omega (arith, c.loop-left.invariant.0.0))
+    (λ c. omega (arith, c.held-2-1.given, c.loop-left.invariant.0.1))
+    (λ c. omega (arith, c.loop-left.invariant.1.0))
     returns-3)

@@ -33,7 +33,7 @@ near s =
     let m : partition_of a.p a.term * a.term ≤ 2 * a.term = mul-le-mul_right a.term (omega arith) in
     omega (arith, s.requires.1.1.0, s.requires.0.1.high, mod-lt a.p s.requires.0.0)
 
-module _ (f : tie.After-give) where
+module _ (f : tie.After-give-given) where
   abbrev s : tie.Start
   s = f.before.before.before.before.before.before.before
 
@@ -41,48 +41,48 @@ module _ (f : tie.After-give) where
   join_is =
       ap (join_of (S s) s.args.buffer.now s.args.log.now s.args.index) (offset-by s.args.term s.pre.0.1.high (s.pre.0.1.one_bit s.pre.0.0) s.args.p)
 
-  answer-is : f.give.result.answer ≡ (J s).answer
-  answer-is = f.give.ensures.0 ∙ ap (λ (y : Assembly). y.answer) join_is
+  answer-is : f.give-given.result.answer ≡ (J s).answer
+  answer-is = f.give-given.ensures.0 ∙ ap (λ (y : Assembly). y.answer) join_is
 
-  sessions-are : sessions_as f.give.result.count f.give.last.1.0 f.give.last.1.1.0 ≡ kept_as (S s) (J s).next (J s).answer
-  sessions-are = f.give.ensures.1.0 ∙ ap (kept_by (S s)) join_is
+  sessions-are : sessions_as f.give-given.result.count f.give-given.last.1.0 f.give-given.last.1.1.0 ≡ kept_as (S s) (J s).next (J s).answer
+  sessions-are = f.give-given.ensures.1.0 ∙ ap (kept_by (S s)) join_is
 
-  buffer-is : f.give.last.1.1.1.1.0 ≡ (J s).buffer
-  buffer-is = f.give.ensures.1.1 ∙ ap (λ (y : Assembly). y.buffer) join_is
+  buffer-is : f.give-given.last.1.1.1.1.0 ≡ (J s).buffer
+  buffer-is = f.give-given.ensures.1.1 ∙ ap (λ (y : Assembly). y.buffer) join_is
 
   -- by its parts
-  led : (g : Gathered) (left p : ℕ) (y : Replayed) (t : Sessions) → g ≡ gathered_as f.give.result.count left p y → y ≡ replied_by s.args.index s.args.n f.give.result.answer
+  led : (g : Gathered) (left p : ℕ) (y : Replayed) (t : Sessions) → g ≡ gathered_as f.give-given.result.count left p y → y ≡ replied_by s.args.index s.args.n f.give-given.result.answer
       → kept_as (S s) (J s).next (J s).answer ≡ t
-      → gathering_of g f.give.last.1.0 f.give.last.1.1.0 f.give.last.1.1.1.1.0 ≡ led_to left p t (J s).buffer (replied_by s.args.index s.args.n (J s).answer)
+      → gathering_of g f.give-given.last.1.0 f.give-given.last.1.1.0 f.give-given.last.1.1.1.1.0 ≡ led_to left p t (J s).buffer (replied_by s.args.index s.args.n (J s).answer)
   led g left p y t e r k =
-      ap (λ (x : Gathered). gathering_of x f.give.last.1.0 f.give.last.1.1.0 f.give.last.1.1.1.1.0) e
+      ap (λ (x : Gathered). gathering_of x f.give-given.last.1.0 f.give-given.last.1.1.0 f.give-given.last.1.1.1.1.0) e
       ∙ ap₂ (λ (x : Sessions) (b : List ℕ). led_to left p x b y) (sessions-are ∙ k) buffer-is
       ∙ ap (led_to left p t (J s).buffer) (r ∙ ap (replied_by s.args.index s.args.n) answer-is)
 
-give-requires : tie.Need-give-requires
-give-requires c κs = c.before.before.before.before.before.before.requires.1.1.1.1.1
+give-requires : tie.Need-give-given-requires
+give-requires c κs = c.requires.1.1.1.1.1
 
-reply-by-requires : tie.Need-reply-by-requires
-reply-by-requires c κs = let s = c.before.before.before.before.before.before.before.before.before.before.before.before in (omega (arith, near s), s.requires.1.1.1.0.0)
+reply-by-requires : tie.Need-reply_by-reply-requires
+reply-by-requires c κs = let s = c in (omega (arith, near c.before.before.before.before.before.before.before.before.before.before.before.before), s.requires.1.1.1.0.0)
 
-returns : tie.Need-returns
+returns : tie.Need-returns-then-is_refused
 returns c =
-    let f = c.before.before.before.before.before.before.before.before.before in
-    let b = s f in
-    let e = sym (ap is_refused (answer-is f)) ∙ sym c.before.before.is-refused.ensures ∙ c.before.if1.true in
-    led f _ b.args.left b.args.p _ (S b) c.gathered-as.ensures c.before.before.before.reply-by.ensures (kept-so (S b) (J b).next (J b).answer e)
+    let f = c in
+    let b = s c.before.before.before.before.before.before.before.before.before in
+    let e = sym (ap is_refused (answer-is c.before.before.before.before.before.before.before.before.before)) ∙ sym c.is_refused.ensures ∙ c.if-is_refused.true in
+    led c.before.before.before.before.before.before.before.before.before _ b.args.left b.args.p _ (S b) c.gathered_as.ensures c.reply_by-reply.ensures (kept-so (S b) (J b).next (J b).answer e)
     ∙ sym (cond-true (is_refused (J b).answer) _ (led_to (b.args.left - 1) (b.args.p + align b.args.n) (J b).next (J b).buffer (replied_by b.args.index b.args.n (J b).answer)) e)
 
-returns-2 : tie.Need-returns-2
+returns-2 : tie.Need-returns
 returns-2 c =
-    let f = c.before.before.before.before.before.before.before.before.before in
-    let b = s f in
-    let e = sym (ap is_refused (answer-is f)) ∙ sym c.before.before.is-refused.ensures ∙ c.before.if1.false in
-    led f _ (b.args.left - 1) (b.args.p + align b.args.n) _ (J b).next c.gathered-as2.ensures c.before.before.before.reply-by.ensures (kept-not (S b) (J b).next (J b).answer e)
+    let f = c in
+    let b = s c.before.before.before.before.before.before.before.before.before in
+    let e = sym (ap is_refused (answer-is c.before.before.before.before.before.before.before.before.before)) ∙ sym c.is_refused.ensures ∙ c.if-is_refused.false in
+    led c.before.before.before.before.before.before.before.before.before _ (b.args.left - 1) (b.args.p + align b.args.n) _ (J b).next c.gathered_as-2.ensures c.reply_by-reply.ensures (kept-not (S b) (J b).next (J b).answer e)
     ∙ sym (cond-false (is_refused (J b).answer) (led_to b.args.left b.args.p (S b) (J b).buffer (replied_by b.args.index b.args.n (J b).answer)) _ e)
 
-pub give-one-spec : {M : Type 1} → statement M
-give-one-spec =
+pub give_one_spec : {M : Type 1} → statement M
+give_one_spec =
     tie.close
     (tie.spec
     (search rules)

@@ -7,14 +7,14 @@ use lib.Seq.{set_out, set-get_or}
 use Rattle.replay.proofs.gathering.settle.Statement.{statement}
 use Rattle.replay.proofs.gathering.settle.Tie as tie
 
-returns-2 : tie.Need-returns-2
+returns-2 : tie.Need-returns-else-held-place
 returns-2 c =
-    let a = c.before.before.before.args in
-    let e : get_or a.held.now a.place 0 ≡ a.bytes = c.if2.false in
+    let a = c.args in
+    let e : get_or a.held.now a.place 0 ≡ a.bytes = c.if-held-place.false in
     sym (ap (set a.held.now a.place) (sym e) ∙ set-get_or a.held.now a.place 0)
 
-returns-3 : tie.Need-returns-3
-returns-3 c = let a = c.before.args in sym (set_out a.held.now a.place a.bytes (omega arith))
+returns-3 : tie.Need-returns-else-place-held
+returns-3 c = let a = c.args in sym (set_out a.held.now a.place a.bytes (omega arith))
 
-pub settle-spec : {M : Type 1} → statement M
-settle-spec = tie.close (tie.spec (search rules) (search rules) (search rules) (search rules) (search rules) (search rules) returns-2 returns-3)
+pub settle_spec : {M : Type 1} → statement M
+settle_spec = tie.close (tie.spec (search rules) (search rules) (search rules) (search rules) (search rules) (search rules) returns-2 returns-3)

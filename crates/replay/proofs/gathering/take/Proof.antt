@@ -72,23 +72,23 @@ module _ (s : tie.Start) where
   session-is : to_z w32 (of_z w32 s.args.frame.session) ≡ session_at fr
   session-is = to_z-of_z {w = w32} {z = s.args.frame.session} (search rules) ∙ here.session-is
 
-turn-to-requires : tie.Need-turn-to-requires
-turn-to-requires c κs = let s = c.before.before.before.before.before.before in (s.requires.1.1.1.0.1, s.requires.1.1.1.1)
+turn-to-requires : tie.Need-turn_to-now-requires
+turn-to-requires c κs = let s = c in (s.requires.1.1.1.0.1, s.requires.1.1.1.1)
 
 -- ---- with its session at hand
 
-module _ (t : tie.After-turn-to) where
+module _ (t : tie.After-turn_to-now) where
   abbrev s· : tie.Start
-  s· = t.before.before.before.before.before.before.before
+  s· = t.before.before.before.before.before.before
 
   abbrev K : ℕ
-  K = t.turn-to.result.place
+  K = t.turn_to-now.result.place
 
   abbrev b : ℕ
-  b = t.turn-to.result.bytes
+  b = t.turn_to-now.result.bytes
 
   abbrev held· : List ℕ
-  held· = t.turn-to.last.1.1.0
+  held· = t.turn_to-now.last.1.1.0
 
   abbrev count· : ℕ
   count· = s·.args.count
@@ -100,31 +100,31 @@ module _ (t : tie.After-turn-to) where
   buffer₀ = s·.args.buffer.now
 
   place_is : K ≡ place_in (take (min count· 16) ids·) (session_at (fr s·))
-  place_is = t.turn-to.ensures.0.0.0 ∙ ap (place_in (take (min count· 16) ids·)) (session-is s·)
+  place_is = t.turn_to-now.ensures.0.0.0 ∙ ap (place_in (take (min count· 16) ids·)) (session-is s·)
 
-  named : to_z w32 (of_z w32 t.turn-to.result.session) ≡ session_at (fr s·)
-  named = to_z-of_z {w = w32} {z = t.turn-to.result.session} (search rules) ∙ t.turn-to.ensures.0.0.1 ∙ session-is s·
+  named : to_z w32 (of_z w32 t.turn_to-now.result.session) ≡ session_at (fr s·)
+  named = to_z-of_z {w = w32} {z = t.turn_to-now.result.session} (search rules) ∙ t.turn_to-now.ensures.0.0.1 ∙ session-is s·
 
   bytes-now : b ≡ get_or (set held· K b) K 0
-  bytes-now = t.turn-to.ensures.0.1 ∙ ap (λ (h : List ℕ). get_or h K 0) (sym t.turn-to.ensures.1)
+  bytes-now = t.turn_to-now.ensures.0.1 ∙ ap (λ (h : List ℕ). get_or h K 0) (sym t.turn_to-now.ensures.1)
 
   -- where the frame leads, for sessions with such numbers
   abbrev Leads : ℕ → List ℕ → List ℕ → Gathering
   Leads i h bs = led_by s·.args.left s·.args.p (n s·) i (sessions_as count· ids· h) (join_of (sessions_as count· ids· h) bs (log s·) i (o s·))
 
   asked : Leads (X s·) (set held· K b) buffer₀ ≡ Leads (X s·) (set s·.args.held.now s·.args.current.place s·.args.current.bytes) buffer₀
-  asked = ap (λ (h : List ℕ). Leads (X s·) h buffer₀) t.turn-to.ensures.1
+  asked = ap (λ (h : List ℕ). Leads (X s·) h buffer₀) t.turn_to-now.ensures.1
 
-add_body : tie.Need-overflow-add-body
-add_body c = let s = c.before.before.before.before.before.before.before.before.before in record { fits = omega (arith, (here s).index_is, near s) }
+add_body : tie.Need-overflow_add-body
+add_body c = let s = c in record { fits = omega (arith, (here c.before.before.before.before.before.before.before.before).index_is, near c.before.before.before.before.before.before.before.before) }
 
-sub-lay-fragment : tie.Need-overflow-sub-lay-fragment
-sub-lay-fragment c = let s = c.before.before.before.before.before.before.before.before.before in omega (arith, (long s).header)
+sub-lay-fragment : tie.Need-overflow_sub-n
+sub-lay-fragment c = let s = c in omega (arith, (long c.before.before.before.before.before.before.before.before).header)
 
 -- ---- what was laid, by the definition's frame
 
-module _ (y : tie.After-lay-fragment) where
-  abbrev t· : tie.After-turn-to
+module _ (y : tie.After-lay_fragment-laid) where
+  abbrev t· : tie.After-turn_to-now
   t· = y.before.before.before.before
 
   abbrev st : tie.Start
@@ -134,7 +134,7 @@ module _ (y : tie.After-lay-fragment) where
   fr· = fr st
 
   abbrev buffer· : List ℕ
-  buffer· = y.lay-fragment.last.1.1.1.1.1.1.0
+  buffer· = y.lay_fragment-laid.last.1.1.1.1.1.1.0
 
   -- by the numbers that were read
   as_read : (g : ℕ → ℕ → ℕ → Type 0) → g st.args.frame.flags (n st - 32) (st.args.frame.index + 32) → g (flags_at fr·) (body_length fr·) (X st + 32)
@@ -142,26 +142,26 @@ module _ (y : tie.After-lay-fragment) where
       subst (λ (i : ℕ). g (flags_at fr·) (body_length fr·) (i + 32)) (here st).index_is
       (subst (λ (m : ℕ). g (flags_at fr·) (m - 32) (st.args.frame.index + 32)) (framed st).1 (subst (λ (f : ℕ). g f (n st - 32) (st.args.frame.index + 32)) (here st).flags-are h))
 
-  laid_as : y.lay-fragment.result ≡ laid_of (count· t·) (K t·) (b t·) (flags_at fr·) (body_length fr·) (length (log st)) (length (buffer₀ t·)) (X st + 32)
-  laid_as = as_read (λ (f m i : ℕ). y.lay-fragment.result ≡ laid_of (count· t·) (K t·) (b t·) f m (length (log st)) (length (buffer₀ t·)) i) y.lay-fragment.ensures.0
+  laid_as : y.lay_fragment-laid.result ≡ laid_of (count· t·) (K t·) (b t·) (flags_at fr·) (body_length fr·) (length (log st)) (length (buffer₀ t·)) (X st + 32)
+  laid_as = as_read (λ (f m i : ℕ). y.lay_fragment-laid.result ≡ laid_of (count· t·) (K t·) (b t·) f m (length (log st)) (length (buffer₀ t·)) i) y.lay_fragment-laid.ensures.0
 
   bytes-as : buffer· ≡ laid_bytes (count· t·) (K t·) (b t·) (flags_at fr·) (body_length fr·) (log st) (buffer₀ t·) (X st + 32)
-  bytes-as = as_read (λ (f m i : ℕ). buffer· ≡ laid_bytes (count· t·) (K t·) (b t·) f m (log st) (buffer₀ t·) i) y.lay-fragment.ensures.1
+  bytes-as = as_read (λ (f m i : ℕ). buffer· ≡ laid_bytes (count· t·) (K t·) (b t·) f m (log st) (buffer₀ t·) i) y.lay_fragment-laid.ensures.1
 
   -- nothing was: the lent buffer is as it was
-  stays : y.lay-fragment.result.held ≡ 0 → buffer· ≡ buffer₀ t·
+  stays : y.lay_fragment-laid.result.held ≡ 0 → buffer· ≡ buffer₀ t·
   stays h =
       bytes-stay (count· t·) (K t·) (b t·) (flags_at fr·) (body_length fr·) (log st) (buffer₀ t·) (X st) _ laid_as _ bytes-as
       (laid_none (count· t·) (K t·) (b t·) (flags_at fr·) (body_length fr·) (log st) (buffer₀ t·) (X st) _ laid_as _ bytes-as h)
 
-  module _ (h : ¬ (y.lay-fragment.result.held ≡ 0)) where
+  module _ (h : ¬ (y.lay_fragment-laid.result.held ≡ 0)) where
     so : is_laid (count· t·) (K t·) (b t·) (flags_at fr·) (body_length fr·) (length (log st)) (length (buffer₀ t·)) (X st + 32) ≡ true
     so = laid-some (count· t·) (K t·) (b t·) (flags_at fr·) (body_length fr·) (log st) (buffer₀ t·) (X st) _ laid_as _ bytes-as h
 
     lying : Lying (count· t·) (K t·) (b t·) (flags_at fr·) (body_length fr·) (length (log st)) (length (buffer₀ t·)) (X st + 32)
     lying = laid-true _ _ _ _ _ _ _ _ so
 
-    result-is : (y.lay-fragment.result.held ≡ behind (b t·) (flags_at fr·) + body_length fr·) × (y.lay-fragment.result.ends ≡ ends (flags_at fr·))
+    result-is : (y.lay_fragment-laid.result.held ≡ behind (b t·) (flags_at fr·) + body_length fr·) × (y.lay_fragment-laid.result.ends ≡ ends (flags_at fr·))
     result-is = laid-is (count· t·) (K t·) (b t·) (flags_at fr·) (body_length fr·) (log st) (buffer₀ t·) (X st) _ laid_as _ bytes-as so
 
     abbrev Left : ℕ → Sessions
@@ -190,61 +190,61 @@ module _ (y : tie.After-lay-fragment) where
 
 -- ---- a frame that is given to the core
 
-give-one-requires : tie.Need-give-one-requires
+give-one-requires : tie.Need-give_one-gathered-requires
 give-one-requires c κs =
-    let s = c.before.before.before.before.before.before.before.before.before.before.before.before.before.before.before.before.before.before.before.before.before.before in (
+    let s = c in (
       (s.requires.0.1.0, s.requires.0.0.fits),
-      (s.requires.1.0, ((here s).index_is, (((long s).header, (long s).small), (s.requires.0.1.1, (s.requires.1.1.1.0.0, omega (arith, c.before.before.before.before.held2.given, c.before.before.before.before.before.before.before.before.before.before.before.before.before.before.held.given, s.requires.1.1.1.0.1)))))),
+      (s.requires.1.0, ((here c.before.before.before.before.before.before.before.before.before.before.before.before.before.before.before.before.before.before.before.before.before).index_is, (((long c.before.before.before.before.before.before.before.before.before.before.before.before.before.before.before.before.before.before.before.before.before).header, (long c.before.before.before.before.before.before.before.before.before.before.before.before.before.before.before.before.before.before.before.before.before).small), (s.requires.0.1.1, (s.requires.1.1.1.0.0, omega (arith, c.held-then-laid-eq0-1.given, c.held-1.given, s.requires.1.1.1.0.1)))))),
     )
 
-returns : tie.Need-returns
+returns : tie.Need-returns-then-laid-eq0
 returns c =
-    let g = c.before.before.before.before.before.before in
-    let w = c.before.before.before.before.before.before.before.before.before.before.before.before in
-    let y = c.before.before.before.before.before.before.before.before.before.before.before.before.before.before.before.before.before.before in
-    let t = t· y in
-    let s = st y in
-    let h = g.give-one.new.1.1.0 in
-    let e = c.current-as.ensures in (
-      ap (λ (x : Current). gathering_of g.give-one.result g.give-one.new.1.0 (set h x.place x.bytes) g.give-one.new.1.1.1.1.0) e
-          ∙ ap (λ (x : List ℕ). gathering_of g.give-one.result g.give-one.new.1.0 x g.give-one.new.1.1.1.1.0)
-          (set_out h 16 0 (omega (arith, c.before.before.before.before.held3.given, c.before.before.before.before.before.before.before.before.before.before.before.held2.given, c.before.before.before.before.before.before.before.before.before.before.before.before.before.before.before.before.before.before.before.before.before.held.given, s.pre.1.1.1.0.1)))
-          ∙ g.give-one.ensures
-          ∙ ap₂ (λ (x bs : List ℕ). Leads t s.args.frame.index x bs) w.settle.ensures (stays y c.before.before.before.before.before.before.before.before.before.before.before.before.before.before.if1.true)
+    let g = c in
+    let w = c in
+    let y = c in
+    let t = t· c.before.before.before.before.before.before.before.before.before.before.before.before.before.before.before.before.before.before in
+    let s = st c.before.before.before.before.before.before.before.before.before.before.before.before.before.before.before.before.before.before in
+    let h = g.give_one-gathered.new.held.1.0 in
+    let e = c.current_as.ensures in (
+      ap (λ (x : Current). gathering_of g.give_one-gathered.result g.give_one-gathered.new.held (set h x.place x.bytes) g.give_one-gathered.new.held.1.1.1.0) e
+          ∙ ap (λ (x : List ℕ). gathering_of g.give_one-gathered.result g.give_one-gathered.new.held x g.give_one-gathered.new.held.1.1.1.0)
+          (set_out h 16 0 (omega (arith, c.held-then-laid-eq0-2-1.given, c.held-then-laid-eq0-1.given, c.held-1.given, s.pre.1.1.1.0.1)))
+          ∙ g.give_one-gathered.ensures
+          ∙ ap₂ (λ (x bs : List ℕ). Leads t s.args.frame.index x bs) w.settle.ensures (stays c.before.before.before.before.before.before.before.before.before.before.before.before.before.before.before.before.before.before c.if-laid-eq0.true)
           ∙ ap (λ (i : ℕ). Leads t i (set (held· t) (K t) (b t)) (buffer₀ t)) (here s).index_is ∙ asked t,
-      subst (Knows g.give-one.result.count g.give-one.new.1.0) (sym e) (λ q. absurd (omega arith)),
+      subst (Knows g.give_one-gathered.result.count g.give_one-gathered.new.held) (sym e) (λ q. absurd (omega arith)),
     )
 
 -- ---- a body that was laid
 
-module _ (q : tie.After-entered-with) where
-  abbrev y· : tie.After-lay-fragment
+module _ (q : tie.After-entered_with-entered) where
+  abbrev y· : tie.After-lay_fragment-laid
   y· = q.before.before.before.before.before.before.before.before.before
 
-  abbrev h· : ¬ (y·.lay-fragment.result.held ≡ 0)
-  h· = q.before.before.before.before.before.if1.left
+  abbrev h· : ¬ (y·.lay_fragment-laid.result.held ≡ 0)
+  h· = q.if-laid-eq0.left
 
-  abbrev tq : tie.After-turn-to
+  abbrev tq : tie.After-turn_to-now
   tq = t· y·
 
   abbrev sq : tie.Start
   sq = st y·
 
   abbrev ids-now : List ℤ
-  ids-now = q.before.before.enter.last.0
+  ids-now = q.enter.last.0
 
   ids-are : ids-now ≡ set (ids· tq) (K tq) (session_at (fr sq))
-  ids-are = q.before.before.enter.ensures ∙ ap (set (ids· tq) (K tq)) (named tq)
+  ids-are = q.enter.ensures ∙ ap (set (ids· tq) (K tq)) (named tq)
 
   -- the sessions as they are left, with so many bytes held
-  left_as : (m k : ℕ) → m ≡ k → sessions_as q.entered-with.result ids-now (set (held· tq) (K tq) m) ≡ Left y· h· k
+  left_as : (m k : ℕ) → m ≡ k → sessions_as q.entered_with-entered.result ids-now (set (held· tq) (K tq) m) ≡ Left y· h· k
   left_as m k e =
-      ap₂ (λ (x : ℕ) (i : List ℤ). sessions_as x i (set (held· tq) (K tq) m)) q.entered-with.ensures ids-are
+      ap₂ (λ (x : ℕ) (i : List ℤ). sessions_as x i (set (held· tq) (K tq) m)) q.entered_with-entered.ensures ids-are
       ∙ ap (λ (x : ℕ). sessions_as (entered_with (count· tq) (K tq)) (set (ids· tq) (K tq) (session_at (fr sq))) (set (held· tq) (K tq) x)) e
 
   -- where they lead, by their numbers
-  led : (r : Gathered) (c : Current) (m k : ℕ) (x z : Replayed) → r ≡ gathered_as q.entered-with.result (sq.args.left - 1) (sq.args.p + align (n sq)) x
-      → c ≡ current_of (K tq) (to_z w32 (of_z w32 tq.turn-to.result.session)) m → m ≡ k → x ≡ z
+  led : (r : Gathered) (c : Current) (m k : ℕ) (x z : Replayed) → r ≡ gathered_as q.entered_with-entered.result (sq.args.left - 1) (sq.args.p + align (n sq)) x
+      → c ≡ current_of (K tq) (to_z w32 (of_z w32 tq.turn_to-now.result.session)) m → m ≡ k → x ≡ z
       → gathering_of r ids-now (set (held· tq) c.place c.bytes) (buffer· y·) ≡ led_to (sq.args.left - 1) (sq.args.p + align (n sq)) (Left y· h· k) (Filled y· h·) z
   led r c m k x z er ec em ex =
       ap₂ (λ (g : Gathered) (u : Current). gathering_of g ids-now (set (held· tq) u.place u.bytes) (buffer· y·)) er ec
@@ -252,49 +252,49 @@ module _ (q : tie.After-entered-with) where
       ∙ ap (led_to (sq.args.left - 1) (sq.args.p + align (n sq)) (Left y· h· k) (Filled y· h·)) ex
 
   -- the session at hand is the frame's
-  knows : (r : Gathered) (c : Current) (m : ℕ) (x : Replayed) → r ≡ gathered_as q.entered-with.result (sq.args.left - 1) (sq.args.p + align (n sq)) x
-      → c ≡ current_of (K tq) (to_z w32 (of_z w32 tq.turn-to.result.session)) m → Knows r.count ids-now c
+  knows : (r : Gathered) (c : Current) (m : ℕ) (x : Replayed) → r ≡ gathered_as q.entered_with-entered.result (sq.args.left - 1) (sq.args.p + align (n sq)) x
+      → c ≡ current_of (K tq) (to_z w32 (of_z w32 tq.turn_to-now.result.session)) m → Knows r.count ids-now c
   knows r c m x er ec =
       subst (λ (u : Gathered). Knows u.count ids-now c) (sym er)
-      (subst (Knows q.entered-with.result ids-now) (sym ec)
-      (λ _. placed y· h· ∙ ap₂ (λ (u : ℕ) (i : List ℤ). place_in (take (min u 16) i) (session_at (fr sq))) (sym q.entered-with.ensures) (sym ids-are) ∙ ap (place_in (take (min q.entered-with.result 16) ids-now)) (sym (named tq))))
+      (subst (Knows q.entered_with-entered.result ids-now) (sym ec)
+      (λ _. placed y· h· ∙ ap₂ (λ (u : ℕ) (i : List ℤ). place_in (take (min u 16) i) (session_at (fr sq))) (sym q.entered_with-entered.ensures) (sym ids-are) ∙ ap (place_in (take (min q.entered_with-entered.result 16) ids-now)) (sym (named tq))))
 
-add-end : tie.Need-overflow-add-end
+add-end : tie.Need-overflow_add-end
 add-end c = omega (arith, (sq c).requires.0.1.1, (long (sq c)).small)
 
-mul-end : tie.Need-overflow-mul-end
+mul-end : tie.Need-overflow_mul-end
 mul-end c = omega (arith, (sq c).requires.0.1.1, (long (sq c)).small)
 
-add-end-2 : tie.Need-overflow-add-end-2
+add-end-2 : tie.Need-overflow_add-end-2
 add-end-2 c = omega (arith, (sq c).requires.0.1.1, (long (sq c)).small)
 
-mul-from : tie.Need-overflow-mul-from
+mul-from : tie.Need-overflow_mul-from
 mul-from c =
-    let q = c.before in
-    record { fits = omega (arith, part-16 (K (tq q)) (length (buffer· (y· q))) (lying (y· q) (h· q)).in-16, c.before.before.before.before.before.before.before.before.before.buffer.given, (sq q).well-formed) }
+    let q = c in
+    record { fits = omega (arith, part-16 (K (tq c.before)) (length (buffer· (y· c.before))) (lying (y· c.before) (h· c.before)).in-16, c.buffer-1.given, (sq c.before).well_formed) }
 
-returns-2 : tie.Need-returns-2
+returns-2 : tie.Need-returns-then-laid
 returns-2 c =
-    let q = c.before.before.before in
-    let y = y· q in
-    let r = result-is y (h· q) in
-    let j = ended y (h· q) (sym r.1 ∙ c.before.before.if2.true) in
-    let m : length (buffer· y) ≡ length (buffer₀ (tq q)) = c.before.before.before.before.before.before.before.before.before.before.before.buffer.given in (
-      led q _ _ 0 0 _ (InBuffer (K (tq q) * (length (buffer₀ (tq q)) / 16)) (behind (b (tq q)) (flags_at (fr· y)) + body_length (fr· y))) c.gathered-as.ensures c.before.current-as2.ensures refl
-          (ap₂ (λ (i k : ℕ). InBuffer (K (tq q) * (i / 16)) k) m r.0)
-          ∙ sym (ap (led_by (sq q).args.left (sq q).args.p (n (sq q)) (X (sq q)) (sessions_as (count· (tq q)) (ids· (tq q)) (set (held· (tq q)) (K (tq q)) (b (tq q))))) j) ∙ asked (tq q),
-      knows q _ _ _ _ c.gathered-as.ensures c.before.current-as2.ensures,
+    let q = c in
+    let y = y· c.before.before.before in
+    let r = result-is y (h· c.before.before.before) in
+    let j = ended y (h· c.before.before.before) (sym r.1 ∙ c.if-laid.true) in
+    let m : length (buffer· y) ≡ length (buffer₀ (tq c.before.before.before)) = c.buffer-1.given in (
+      led c.before.before.before _ _ 0 0 _ (InBuffer (K (tq c.before.before.before) * (length (buffer₀ (tq c.before.before.before)) / 16)) (behind (b (tq c.before.before.before)) (flags_at (fr· y)) + body_length (fr· y))) c.gathered_as.ensures c.current_as-then-laid.ensures refl
+          (ap₂ (λ (i k : ℕ). InBuffer (K (tq c.before.before.before) * (i / 16)) k) m r.0)
+          ∙ sym (ap (led_by (sq c.before.before.before).args.left (sq c.before.before.before).args.p (n (sq c.before.before.before)) (X (sq c.before.before.before)) (sessions_as (count· (tq c.before.before.before)) (ids· (tq c.before.before.before)) (set (held· (tq c.before.before.before)) (K (tq c.before.before.before)) (b (tq c.before.before.before))))) j) ∙ asked (tq c.before.before.before),
+      knows c.before.before.before _ _ _ _ c.gathered_as.ensures c.current_as-then-laid.ensures,
     )
 
-returns-3 : tie.Need-returns-3
+returns-3 : tie.Need-returns
 returns-3 c =
-    let q = c.before.before.before in
-    let y = y· q in
-    let r = result-is y (h· q) in
-    let j = goes y (h· q) (sym r.1 ∙ c.before.before.if2.false) in (
-      led q _ _ _ _ _ End c.gathered-as2.ensures c.before.current-as3.ensures r.0 refl
-          ∙ sym (ap (led_by (sq q).args.left (sq q).args.p (n (sq q)) (X (sq q)) (sessions_as (count· (tq q)) (ids· (tq q)) (set (held· (tq q)) (K (tq q)) (b (tq q))))) j) ∙ asked (tq q),
-      knows q _ _ _ _ c.gathered-as2.ensures c.before.current-as3.ensures,
+    let q = c in
+    let y = y· c.before.before.before in
+    let r = result-is y (h· c.before.before.before) in
+    let j = goes y (h· c.before.before.before) (sym r.1 ∙ c.if-laid.false) in (
+      led c.before.before.before _ _ _ _ _ End c.gathered_as-2.ensures c.current_as-2.ensures r.0 refl
+          ∙ sym (ap (led_by (sq c.before.before.before).args.left (sq c.before.before.before).args.p (n (sq c.before.before.before)) (X (sq c.before.before.before)) (sessions_as (count· (tq c.before.before.before)) (ids· (tq c.before.before.before)) (set (held· (tq c.before.before.before)) (K (tq c.before.before.before)) (b (tq c.before.before.before))))) j) ∙ asked (tq c.before.before.before),
+      knows c.before.before.before _ _ _ _ c.gathered_as-2.ensures c.current_as-2.ensures,
     )
 
 pub take_spec : {M : Type 1} → statement M
@@ -308,9 +308,9 @@ take_spec =
     (search rules)
     give-one-requires
     (search rules)
-    (λ c. omega (arith, c.before.before.before.before.before.ids.given))
-    (λ c. omega (arith, c.before.before.before.before.held3.given, c.before.before.before.before.before.before.before.before.before.before.before.held2.given, c.before.before.before.before.before.before.before.before.before.before.before.before.before.before.before.before.before.before.before.before.before.held.given))
-    (λ c. omega (arith, c.before.before.buffer2.given, c.before.before.before.before.before.before.before.before.before.before.before.before.before.before.before.before.before.buffer.given))
+    (λ c. omega (arith, c.ids-1.given))
+    (λ c. omega (arith, c.held-then-laid-eq0-2-1.given, c.held-then-laid-eq0-1.given, c.held-1.given))
+    (λ c. omega (arith, c.buffer-then-laid-eq0-1.given, c.buffer-1.given))
     returns
     (search rules)
     (search rules)
@@ -319,16 +319,16 @@ take_spec =
     add-end-2
     mul-from
     (search rules)
-    (λ c. omega (arith, c.before.before.before.before.before.before.before.before.before.before.before.before.before.before.before.before.before.before.before.before.before.before.requires.1.0))
+    (λ c. omega (arith, c.requires.1.0))
     (search rules)
-    (λ c. omega (arith, c.before.before.before.before.ids2.given))
-    (λ c. omega (arith, c.before.before.before.before.before.before.before.before.before.before.before.before.before.before.before.held.given))
-    (λ c. omega (arith, c.before.before.before.before.before.before.before.before.before.before.before.buffer.given))
+    (λ c. omega (arith, c.ids-2-1.given))
+    (λ c. omega (arith, c.held-1.given))
+    (λ c. omega (arith, c.buffer-1.given))
     returns-2
     (search rules)
-    (λ c. omega (arith, c.before.before.before.before.before.before.before.before.before.before.before.before.before.before.before.before.before.before.before.before.before.before.requires.1.0))
+    (λ c. omega (arith, c.requires.1.0))
     (search rules)
-    (λ c. omega (arith, c.before.before.before.before.ids2.given))
-    (λ c. omega (arith, c.before.before.before.before.before.before.before.before.before.before.before.before.before.before.before.held.given))
-    (λ c. omega (arith, c.before.before.before.before.before.before.before.before.before.before.before.buffer.given))
+    (λ c. omega (arith, c.ids-2-1.given))
+    (λ c. omega (arith, c.held-1.given))
+    (λ c. omega (arith, c.buffer-1.given))
     returns-3)

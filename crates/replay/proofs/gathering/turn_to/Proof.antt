@@ -14,12 +14,12 @@ use Rattle.replay.specs.declared.gathering.Current.{Current}
 use Rattle.replay.proofs.gathering.turn_to.Statement.{statement}
 use Rattle.replay.proofs.gathering.turn_to.Tie as tie
 
-returns : tie.Need-returns
+returns : tie.Need-returns-then-current-next
 returns c =
-    let s = c.before.before.before.before.before.before in
+    let s = c in
     let a = s.args in
-    let z : a.current.session ≡ a.next = sym (to_z-of_z {w = w32} {z = a.current.session} (search rules)) ∙ ap (to_z w32) c.if2.true ∙ to_z-of_z s.ranges.next in
-    (((s.requires.1 c.before.before.before.if1.true ∙ ap (place_in (take (min a.count 16) a.ids.now)) z, z), sym (get_or-set_same a.held.now a.current.place a.current.bytes 0 (omega (arith, s.requires.0, c.before.before.before.if1.true)))), refl)
+    let z : a.current.session ≡ a.next = sym (to_z-of_z {w = w32} {z = a.current.session} (search rules)) ∙ ap (to_z w32) c.if-current-next.true ∙ to_z-of_z s.ranges.next in
+    (((s.requires.1 c.if-current-lt16.true ∙ ap (place_in (take (min a.count 16) a.ids.now)) z, z), sym (get_or-set_same a.held.now a.current.place a.current.bytes 0 (omega (arith, s.requires.0, c.if-current-lt16.true)))), refl)
 
 abbrev Says : tie.Start → List ℕ → Current → Type 0
 Says s h r =
@@ -27,18 +27,18 @@ Says s h r =
     ((((r.place ≡ place_in (take (min a.count 16) a.ids.now) a.next) × (r.session ≡ a.next)) × (r.bytes ≡ get_or (set a.held.now a.current.place a.current.bytes) r.place 0))
     × (set h r.place r.bytes ≡ set a.held.now a.current.place a.current.bytes))
 
-returns-2 : tie.Need-returns-2
+returns-2 : tie.Need-returns
 returns-2 c =
-    let s = c.before.before.before.before.before.before.before.before.before.before.before in
+    let s = c in
     let a = s.args in
-    let e = c.before.before.before.before.before.before.settle.ensures in
-    let k = c.before.before.before.place_of.result in
-    let h = c.before.before.before.before.before.before.settle.new.0 in
+    let e = c.settle.ensures in
+    let k = c.place_of-place.result in
+    let h = c.settle.new.held in
     let z = to_z-of_z s.ranges.next in
-    subst (Says s h) (sym c.current-as.ensures) (
-      ((c.before.before.before.place_of.ensures ∙ ap (place_in (take (min a.count 16) a.ids.now)) z, z), c.before.held_at.ensures ∙ ap (λ (l : List ℕ). get_or l k 0) e),
-      ap (set h k) c.before.held_at.ensures ∙ set-get_or h k 0 ∙ e,
+    subst (Says c.before.before.before.before.before.before.before.before.before.before h) (sym c.current_as.ensures) (
+      ((c.place_of-place.ensures ∙ ap (place_in (take (min a.count 16) a.ids.now)) z, z), c.held_at.ensures ∙ ap (λ (l : List ℕ). get_or l k 0) e),
+      ap (set h k) c.held_at.ensures ∙ set-get_or h k 0 ∙ e,
     )
 
-pub turn-to-spec : {M : Type 1} → statement M
-turn-to-spec = tie.close (tie.spec returns (search rules) (search rules) (search rules) (search rules) (search rules) returns-2)
+pub turn_to_spec : {M : Type 1} → statement M
+turn_to_spec = tie.close (tie.spec returns (search rules) (search rules) (search rules) (search rules) (search rules) returns-2)

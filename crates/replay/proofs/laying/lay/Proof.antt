@@ -5,8 +5,8 @@ use borrow.Author.Rules.{rules}
 use Rattle.replay.proofs.laying.lay.Statement.{statement}
 use Rattle.replay.proofs.laying.lay.Tie as tie
 
-pub lay-spec : {M : Type 1} → statement M
-lay-spec =
+pub lay_spec : {M : Type 1} → statement M
+lay_spec =
     tie.close
     (tie.spec
     (search rules)

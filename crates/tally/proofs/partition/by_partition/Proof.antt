@@ -25,45 +25,45 @@ three s = leb-true _ _ s.requires.1
 abbrev told : Partitions → ℕ → Parted
 told x n = record { sums = x; end = n }
 
-parts : (c : tie.After-walk-parts) → let s = c.before.before in c.walk-parts.result ≡ parts_of (stream s) s.args.from s.args.to
-parts c = c.walk-parts.ensures ∙ search rules
+parts : (c : tie.After-walk_parts-parts) → let s = c in c.walk_parts-parts.result ≡ parts_of (stream c.before.before) s.args.from s.args.to
+parts c = c.walk_parts-parts.ensures ∙ search rules
 
 -- every part reached its end
-returns : tie.Need-returns
+returns : tie.Need-returns-then-parts
 returns c =
-    let i = c.before in
-    let w = i.before in
-    let s = w.before.before in
-    let k = whole-answer (stream s) s.args.from s.args.to s.requires.0.0 (three s) (sym (ap (λ (x : Parts). x.whole) (parts w)) ∙ i.if1.true) in
-    ap₂ told (ap (λ (x : Parts). x.sums) (parts w) ∙ k.0) k.1
+    let i = c in
+    let w = c in
+    let s = c in
+    let k = whole-answer (stream c.before.before.before.before) s.args.from s.args.to s.requires.0.0 (three c.before.before.before.before) (sym (ap (λ (x : Parts). x.whole) (parts c.before.before)) ∙ i.if-parts.true) in
+    ap₂ told (ap (λ (x : Parts). x.sums-1) (parts c.before.before) ∙ k.0) k.1
 
 -- one stopped short; the walk in stream order
-walks : (c : tie.After-between) → let s = c.before.before.before.before in c.between.result ≡ walk_of (stream s) s.args.from s.args.to
-walks c = c.between.ensures ∙ search rules
+walks : (c : tie.After-between-w) → let s = c in c.between-w.result ≡ walk_of (stream c.before.before.before.before) s.args.from s.args.to
+walks c = c.between-w.ensures ∙ search rules
 
-ends : (c : tie.After-between) → let s = c.before.before.before.before in c.between.result.end ≡ end_of s.args.from (between (stream s) s.args.from s.args.to)
+ends : (c : tie.After-between-w) → let s = c in c.between-w.result.end ≡ end_of s.args.from (between (stream c.before.before.before.before) s.args.from s.args.to)
 ends c = ap (λ (x : Walked). x.end) (walks c)
 
-again : tie.Need-walk-parts-requires-2
+again : tie.Need-walk_parts-again-requires
 again c κs =
-    let s = c.before.before.before.before in
+    let s = c in
     let a = s.args in (
-      omega (arith, ends c, end_after (stream s) (a.to - a.from) a.to a.from),
-      omega (arith, ends c, end-within (a.to - a.from) (stream s) a.to a.from s.requires.0.0, s.requires.0.1),
+      omega (arith, ends c, end_after (stream c.before.before.before.before) (a.to - a.from) a.to a.from),
+      omega (arith, ends c, end-within (a.to - a.from) (stream c.before.before.before.before) a.to a.from s.requires.0.0, s.requires.0.1),
     )
 
-parts-2 : (c : tie.After-walk-parts2) → let w = c.before in let s = w.before.before.before.before in c.walk-parts2.result ≡ parts_of (stream s) s.args.from w.between.result.end
-parts-2 c = c.walk-parts2.ensures ∙ search rules
+parts-2 : (c : tie.After-walk_parts-again) → let w = c in let s = c in c.walk_parts-again.result ≡ parts_of (stream c.before.before.before.before.before) s.args.from w.between-w.result.end
+parts-2 c = c.walk_parts-again.ensures ∙ search rules
 
-returns-2 : tie.Need-returns-2
+returns-2 : tie.Need-returns
 returns-2 c =
-    let b = c.before in
-    let w = b.before in
-    let i = w.before in
-    let p = i.before in
-    let s = p.before.before in
-    let k = short-answer (stream s) s.args.from s.args.to s.requires.0.0 (three s) (sym (ap (λ (x : Parts). x.whole) (parts p)) ∙ i.if1.false) in
-    ap₂ told (ap (λ (x : Parts). x.sums) (parts-2 b) ∙ ap (by_parts (stream s) s.args.from) (ends w) ∙ k.0) (ends w ∙ k.1)
+    let b = c in
+    let w = c in
+    let i = c in
+    let p = c in
+    let s = c in
+    let k = short-answer (stream c.before.before.before.before.before.before) s.args.from s.args.to s.requires.0.0 (three c.before.before.before.before.before.before) (sym (ap (λ (x : Parts). x.whole) (parts c.before.before.before.before)) ∙ i.if-parts.false) in
+    ap₂ told (ap (λ (x : Parts). x.sums-1) (parts-2 c.before) ∙ ap (by_parts (stream c.before.before.before.before.before.before) s.args.from) (ends c.before.before) ∙ k.0) (ends c.before.before ∙ k.1)
 
-pub by-partition-spec : {M : Type 1} → statement M
-by-partition-spec = tie.close (tie.spec (λ c κs. search rules) returns (λ c κs. search rules) again returns-2)
+pub by_partition_spec : {M : Type 1} → statement M
+by_partition_spec = tie.close (tie.spec (λ c κs. search rules) returns (λ c κs. search rules) again returns-2)

@@ -22,14 +22,14 @@ same s k = ap (λ (z : ℤ). part s z k) (to_z-of_z s.ranges.initial)
 returns : tie.Need-returns
 unfolding by_parts all_reach
 returns c =
-    let z = c.before.before.before.before.before.before in
-    let y = z.before in
-    let x = y.before in
-    let s = x.before.before in
-    let p = part s s.args.initial in
-    ap (λ (q : Part). joined q y.walk-part2.result z.walk-part3.result) (x.walk-part.ensures ∙ same s 0)
-    ∙ ap (λ (q : Part). joined (p 0) q z.walk-part3.result) (y.walk-part2.ensures ∙ same s 1)
-    ∙ ap (λ (q : Part). joined (p 0) (p 1) q) (z.walk-part3.ensures ∙ same s 2)
+    let z = c in
+    let y = c in
+    let x = c in
+    let s = c in
+    let p = part c.before.before.before.before.before.before.before.before.before.before s.args.initial in
+    ap (λ (q : Part). joined q y.walk_part-b.result z.walk_part-c.result) (x.walk_part-a.ensures ∙ same c.before.before.before.before.before.before.before.before.before.before 0)
+    ∙ ap (λ (q : Part). joined (p 0) q z.walk_part-c.result) (y.walk_part-b.ensures ∙ same c.before.before.before.before.before.before.before.before.before.before 1)
+    ∙ ap (λ (q : Part). joined (p 0) (p 1) q) (z.walk_part-c.ensures ∙ same c.before.before.before.before.before.before.before.before.before.before 2)
 
-pub walk-parts-spec : {M : Type 1} → statement M
-walk-parts-spec = tie.close (tie.spec (λ c κs. search rules) (λ c κs. search rules) (λ c κs. search rules) returns)
+pub walk_parts_spec : {M : Type 1} → statement M
+walk_parts_spec = tie.close (tie.spec (λ c κs. search rules) (λ c κs. search rules) (λ c κs. search rules) returns)

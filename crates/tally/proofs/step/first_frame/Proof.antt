@@ -9,35 +9,35 @@ use Rattle.tally.proofs.Reasons.{not-unsound, first-none, first-sound, first-uns
 use Rattle.tally.proofs.step.first_frame.Statement.{statement}
 use Rattle.tally.proofs.step.first_frame.Tie as tie
 
-frame : (c : tie.After-frame-at) → let a = c.before.before.before.before.args in c.frame_at.result ≡ frame_in (2 ^ min a.bits 30) a.log.now a.from
+frame : (c : tie.After-frame_at-frame) → let a = c.args in c.frame_at-frame.result ≡ frame_in (2 ^ min a.bits 30) a.log.now a.from
 frame c =
-    let l = c.before in
-    let a = l.before.before.before.args in
-    c.frame_at.ensures ∙ frames a.bits 0 a.log.now a.from l.locate.result l.locate.ensures
+    let l = c in
+    let a = l.args in
+    c.frame_at-frame.ensures ∙ frames a.bits 0 a.log.now a.from l.locate-at.result l.locate-at.ensures
 
-returns : tie.Need-returns
-returns c = let a = c.before.before.args in first-none _ a.log.now a.from a.to c.if1.true
+returns : tie.Need-returns-then-from-to
+returns c = let a = c.args in first-none _ a.log.now a.from a.to c.if-from-to.true
 
-returns-2 : tie.Need-returns-2
+returns-2 : tie.Need-returns-in_default
 returns-2 c =
-    let f = c.before in
-    let e = f.before.before in
-    let a = e.before.before.args in
-    first-sound _ a.log.now a.from a.to e.if1.false (sym (ap is_unsound (frame f)) ∙ not-unsound f.frame_at.result c.match.keys2)
+    let f = c in
+    let e = c in
+    let a = e.args in
+    first-sound _ a.log.now a.from a.to e.if-from-to.false (sym (ap is_unsound (frame c.before)) ∙ not-unsound f.frame_at-frame.result c.in_default.in_default-own.keys2)
 
-returns-3 : tie.Need-returns-3
+returns-3 : tie.Need-returns
 returns-3 c =
-    let k = c.before.before.before in
-    let f = k.before.before in
-    let l = f.before in
-    let e = l.before in
-    let a = e.before.before.args in
-    let n = k.frame.given.0.0 in
-    ap Refuse (c.unsound-frame.ensures ∙ ap (λ (x : Spot). unsound_frame n x.offset) l.locate.ensures)
-    ∙ first-unsound (2 ^ min a.bits 30) a.log.now a.from a.to n e.if1.false (sym (frame f) ∙ k.frame.given.1)
+    let k = c in
+    let f = c in
+    let l = c in
+    let e = c in
+    let a = e.args in
+    let n = k.in-Unsound.n in
+    ap Refuse (c.unsound_frame.ensures ∙ ap (λ (x : Spot). unsound_frame n x.offset) l.locate-at.ensures)
+    ∙ first-unsound (2 ^ min a.bits 30) a.log.now a.from a.to n e.if-from-to.false (sym (frame c.before.before.before) ∙ k.in-Unsound.is)
 
-pub first-frame-spec : {M : Type 1} → statement M
-first-frame-spec =
+pub first_frame_spec : {M : Type 1} → statement M
+first_frame_spec =
     tie.close
     (tie.spec
     returns
@@ -45,6 +45,6 @@ first-frame-spec =
     (search rules)
     (search rules)
     returns-2
-    (λ c. omega (arith, (spot-small _ _ _ c.before.before.before.before.before.locate.ensures).offset))
+    (λ c. omega (arith, (spot-small _ _ _ c.locate-at.ensures).offset))
     (search rules)
     returns-3)

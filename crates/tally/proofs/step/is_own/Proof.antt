@@ -7,11 +7,11 @@ use Rattle.tally.proofs.step.is_own.Tie as tie
 
 returns : tie.Need-returns
 returns c =
-    let w = c.before in
-    let s = w.before.before in
+    let w = c in
+    let s = c in
     let e : (w.word.result + s.args.count % 4294967296) % 4294967296 ≡ (word s.args.initial + s.args.count) % 4294967296 =
     omega (arith, word-by s.args.initial w.word.ensures.0 s.ranges.initial) in
-    ap₂ eqb c.term-id-at.ensures e
+    ap₂ eqb c.term_id_at.ensures e
 
-pub is-own-spec : {M : Type 1} → statement M
-is-own-spec = tie.close (tie.spec (search rules) (search rules) (search rules) returns)
+pub is_own_spec : {M : Type 1} → statement M
+is_own_spec = tie.close (tie.spec (search rules) (search rules) (search rules) returns)

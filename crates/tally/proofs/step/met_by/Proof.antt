@@ -39,25 +39,25 @@ unsound x n own left e = ap (λ (y : Frame). sizeless y) e ∙ sym (ap (λ (y : 
     sizeless : Frame → Met
     sizeless y = record { frame = y; size = 0 }
 
-returns : tie.Need-returns
-returns c = let a = c.before.before.before.args in unsound a.frame _ a.is-own a.left c.enum_told.given.1
+returns : tie.Need-returns-in-Unsound
+returns c = let a = c.args in unsound a.frame _ a.is_own a.left c.in-Unsound.is
 
-returns-2 : tie.Need-returns-2
+returns-2 : tie.Need-returns-then-n-left
 returns-2 c =
-    let a = c.before.before.before.before.args in
-    let z = c.before.before.before.size in
-    ap (λ (n : ℕ). sized a.frame n) z.ensures ∙ by-own a.frame a.is-own a.left true (not-unsound a.frame c.before.before.match.keys2) c.before.if1.true (le-leb (size a.frame) a.left (omega (arith, z.ensures)))
+    let a = c.args in
+    let z = c.size-n in
+    ap (λ (n : ℕ). sized a.frame n) z.ensures ∙ by-own a.frame a.is_own a.left true (not-unsound a.frame c.in_default.in_default-own.keys2) c.if-is_own.true (le-leb (size a.frame) a.left (omega (arith, z.ensures)))
   where
     sized : Frame → ℕ → Met
     sized y n = record { frame = y; size = n }
 
-returns-3 : tie.Need-returns-3
+returns-3 : tie.Need-returns-else-n-left
 returns-3 c =
-    let a = c.before.before.before.before.args in
-    by-own a.frame a.is-own a.left false (not-unsound a.frame c.before.before.match.keys2) c.before.if1.true (lt-leb (size a.frame) a.left (omega (arith, c.before.before.before.size.ensures)))
+    let a = c.args in
+    by-own a.frame a.is_own a.left false (not-unsound a.frame c.in_default.in_default-own.keys2) c.if-is_own.true (lt-leb (size a.frame) a.left (omega (arith, c.size-n.ensures)))
 
-returns-4 : tie.Need-returns-4
-returns-4 c = let a = c.before.before.before.args in by-other a.frame a.is-own a.left (not-unsound a.frame c.before.match.keys2) c.if1.false
+returns-4 : tie.Need-returns-else-is_own
+returns-4 c = let a = c.args in by-other a.frame a.is_own a.left (not-unsound a.frame c.in_default.in_default-own.keys2) c.if-is_own.false
 
-pub met-by-spec : {M : Type 1} → statement M
-met-by-spec = tie.close (tie.spec (search rules) (search rules) returns returns-2 returns-3 returns-4)
+pub met_by_spec : {M : Type 1} → statement M
+met_by_spec = tie.close (tie.spec (search rules) (search rules) returns returns-2 returns-3 returns-4)

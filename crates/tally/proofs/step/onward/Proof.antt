@@ -7,19 +7,19 @@ use Rattle.tally.proofs.step.onward.Tie as tie
 small : (s : tie.Start) → Small s.args.at
 small s = spot-small s.args.bits s.args.p s.args.at s.requires.0
 
-add-t6 : tie.Need-overflow-add-t6
-add-t6 c = let s = c.before.before.before in omega (arith, (small s).offset, (small s).room, c.before.if1.true)
+add-t6 : tie.Need-overflow_add-result
+add-t6 c = let s = c in omega (arith, (small c.before.before.before).offset, (small c.before.before.before).room, c.if-n-at.true)
 
-add-t7 : tie.Need-overflow-add-t7
-add-t7 c = let s = c.before.before.before.before in omega (arith, (small s).index, (small s).room, c.before.before.if1.true)
+add-t7 : tie.Need-overflow_add-result-then-n-at
+add-t7 c = let s = c in omega (arith, (small c.before.before.before.before).index, (small c.before.before.before.before).room, c.if-n-at.true)
 
-returns : tie.Need-returns
+returns : tie.Need-returns-then-n-at
 returns c =
-    let s = c.before.before.before.before.before in
-    same-term (min s.args.bits 30) s.args.p s.args.n s.args.at s.requires.0 c.before.before.before.if1.true
+    let s = c in
+    same-term (min s.args.bits 30) s.args.p s.args.n s.args.at s.requires.0 c.if-n-at.true
 
-pub onward-spec : {M : Type 1} → statement M
-onward-spec =
+pub onward_spec : {M : Type 1} → statement M
+onward_spec =
     tie.close
     (tie.spec
     add-t6

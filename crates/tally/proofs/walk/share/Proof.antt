@@ -26,15 +26,15 @@ no-data (Data n) h = absurd (⊎_elim (λ e. omega arith) (⊎_elim (λ e. omega
 data_of : (x : Frame) (m n : ℕ) → x ≡ Data n → m ≡ size x → record { body = n - 32; headers = 32; slack = m - n; padding = 0 } ≡ share x
 data_of x m n e h = rw (h, e)
 
-length-is : (c : tie.After-known-told) → length_of c.before.before.before.args.met.frame ≡ c.before.frame.given.0.0
-length-is c = ap length_of c.before.frame.given.1
+length-is : (c : tie.In-Data) → length_of c.args.met.frame ≡ c.in-Data.length
+length-is c = ap length_of c.in-Data.is
 
-pub share-spec : {M : Type 1} → statement M
-share-spec =
+pub share_spec : {M : Type 1} → statement M
+share_spec =
     tie.close
     (tie.spec
     (λ c. search rules)
-    (λ c. ap only c.before.requires.1.1 ∙ no-data c.before.args.met.frame c.match.keys2)
+    (λ c. ap only c.requires.1.1 ∙ no-data c.args.met.frame c.in_default.in_default-own.keys2)
     (λ c. omega (arith, length-is c))
     (λ c. omega (arith, length-is c.before))
-    (λ c. data_of _ _ _ c.before.before.frame.given.1 c.before.before.before.before.requires.1.1))
+    (λ c. data_of _ _ _ c.in-Data.is c.requires.1.1))
