@@ -40,7 +40,7 @@ shift_fits (negsuc n) f = record { sfits = omega arith }
 -- step by step, as the code goes
 module _ (z : ℤ) (f : SFits w32 z) where
   wide_is : to_z w64 (of_z w64 (to_z w32 (of_z w32 z))) ≡ z
-  wide_is = lands (to_z-of_z f) (sfits_widen tt f)
+  wide_is = lands {w = w64} (to_z-of_z f) (sfits_widen (tt {0}) f)
 
   sum_is : to_z w64 (of_z w64 (to_z w32 (of_z w32 z))) +ℤ pos 31 ≡ z +ℤ pos 31
   sum_is = ap (λ (x : ℤ). x +ℤ pos 31) wide_is

@@ -88,7 +88,7 @@ shows-requires c κs = let i = inside c in let f = fit c.before in omega (arith,
 
 returns-5 : tie.Need-returns-then-not-shows
 returns-5 c =
-    let s = s· c.before.before.before.before.before.before.before.before.before.before.before in
+    let s = s· c.before.before.before.before.before.before.before.before.before.before in
     let no = ap (λ (i : ℕ). matches s.args.log.now i s.args.claim) (sym (at-is c.before.before)) ∙ sym c.shows.ensures ∙ not-true _ c.if-not-shows.true-raw in
     not-fit s.args.rec s.args.log.now s.args.claim (ap₂ ◌&&◌ (yes c.before.before.before) no)
 
@@ -97,11 +97,11 @@ put4-requires c κs = let i = inside c.before.before.before in let f = fit c.bef
 
 returns-6 : tie.Need-returns
 returns-6 c =
-    let s = s· c.before.before.before.before.before.before.before.before.before.before.before.before.before.before.before in
+    let s = s· c.before.before.before.before.before.before.before.before.before.before.before.before.before.before in
     let at = at-is c.before.before.before.before.before.before in
     let m = ap (λ (i : ℕ). matches s.args.log.now i s.args.claim) (sym at) ∙ sym c.shows.ensures ∙ not-false _ c.if-not-shows.false-raw in
     let done = ap₂ ◌&&◌ (yes c.before.before.before.before.before.before.before) m in
-    (sym done, c.put4.ensures ∙ ap₂ (λ (i n : ℕ). splice s.args.log.now i (le4 n)) at (length-is c.before.before.before.before.before.before.before.before.before.before.before.before.before.before.before) ∙ sym (cond-true _ _ _ done))
+    (sym done, c.put4.ensures ∙ ap₂ (λ (i n : ℕ). splice s.args.log.now i (le4 n)) at (length-is c.before.before.before.before.before.before.before.before.before.before.before.before.before.before) ∙ sym (cond-true _ _ _ done))
 
 pub commit_fit_spec : {M : Type 1} → statement M
 commit_fit_spec =

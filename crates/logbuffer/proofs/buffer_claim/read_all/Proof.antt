@@ -30,7 +30,7 @@ returns c =
     let small : l < 18446744073709551616 = or_lt 64 _ _ (or_lt 64 _ _ (or_lt 64 _ _ a.long-first.ensures.1 b.long-second.ensures.1) d.long-third.ensures.1) (omega (arith, w.word.ensures.1)) in
     let all : l ≡ all_bits r s.args.claim = ap₂ bit_or (ap₂ bit_or (ap₂ bit_or e0 e1) e2) e3 in
     c.read_with.ensures
-    ∙ ap (λ (raw : ℤ). reading_by r (long raw)) (to_z-of_z (let h = c.to_i64.type_inv in search (rules, h)) ∙ c.to_i64.ensures)
+    ∙ ap (λ (raw : ℤ). reading_by r (long raw)) (to_z-of_z {w = w64} (let h = c.to_i64.type_inv in search (rules, h)) ∙ c.to_i64.ensures)
     ∙ ap (reading_by r) (of_z-to_z {w = w64} (record { fits = small }) ∙ all)
 
 pub read_all_spec : {M : Type 1} → statement M

@@ -47,7 +47,7 @@ by n m f g y z en ef ez =
 
 returns-5 : tie.Need-returns
 returns-5 c =
-    let k = c in
+    let k = c.before.before.before.before in
     let a = c.args in
     let e = long k in
     by (n k) _ _ (flags_at (drop a.at a.log.now)) _ (session_at (drop a.at a.log.now)) (sym e)

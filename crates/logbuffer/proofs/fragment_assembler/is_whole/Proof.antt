@@ -23,15 +23,13 @@ returns-3 : tie.Need-returns-then-index-size
 returns-3 c =
     let a = c.args in
     let l = c.length_at in
-    let n = c.n-1.given in
-    sym (lt-leb (a.index + n.0.0) (length a.log.now) (omega arith)) ∙ framed-by a.log.now a.index _ l.ensures _ n.1 (omega arith)
+    sym (lt-leb (a.index + c.in-Finished.n) (length a.log.now) (omega arith)) ∙ framed-by a.log.now a.index _ l.ensures _ c.in-Finished.is (omega arith)
 
 returns-4 : tie.Need-returns
 returns-4 c =
     let a = c.args in
     let l = c.length_at in
-    let n = c.n-1.given in
-    by_difference n.0.0 a.index (length a.log.now) (omega arith) ∙ framed-by a.log.now a.index _ l.ensures _ n.1 (omega arith)
+    by_difference c.in-Finished.n a.index (length a.log.now) (omega arith) ∙ framed-by a.log.now a.index _ l.ensures _ c.in-Finished.is (omega arith)
 
 pub is_whole_spec : {M : Type 1} → statement M
 is_whole_spec = tie.close (tie.spec (search rules) (search rules) returns returns-2 returns-3 returns-4)

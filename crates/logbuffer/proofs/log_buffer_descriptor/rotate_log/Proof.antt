@@ -38,21 +38,21 @@ module _ (c : tie.After-rotate_verdict) where
   low e = rotate-passed c.read_active-v.result k (sym c.rotate_verdict.ensures ∙ e)
 
 next-tail-requires : tie.Need-next_tail-next-requires
-next-tail-requires c κs = let h = low c.before.before c.in-Pass.is in omega arith
+next-tail-requires c κs = let h = low c.before c.in-Pass.is in omega arith
 
 with-count-requires : tie.Need-with_count-risen-requires
-with-count-requires c κs = let h = low c.before.before.before.before.before c.in-Pass.is in omega arith
+with-count-requires c κs = let h = low c.before.before.before.before c.in-Pass.is in omega arith
 
 returns : tie.Need-returns-then-v-given
-returns c = let j = c in
+returns c = let j = c.before.before.before.before.before in
     rotate-risen (s j).args.rec c.with_count-risen.result (k j) (t j) (sym (count-is j) ∙ c.if-v-given.true) (c.with_count-risen.ensures ∙ ap (λ (x : LogRecord). with_count x (k j + 1)) c.next_tail-next.ensures)
     ∙ law j Pass c.in-Pass.is
 
 returns-2 : tie.Need-returns-in-Refuse
-returns-2 c = law c.before.before.before _ c.in-Refuse.is
+returns-2 c = law c.before _ c.in-Refuse.is
 
 returns-3 : tie.Need-returns-else-v-given
-returns-3 c = let j = c in
+returns-3 c = let j = c.before.before.before.before in
     rotate-kept (s j).args.rec c.next_tail-next.result (k j) (t j) (λ h. c.if-v-given.false (count-is j ∙ h)) c.next_tail-next.ensures ∙ law j Pass c.in-Pass.is
 
 pub rotate_log_spec : {M : Type 1} → statement M

@@ -25,7 +25,7 @@ returns-3 c = let s = c in
 
 returns-4 : tie.Need-returns
 returns-4 c = let s = c in
-    let three : length s.args.rec.tails ≡ 3 = sym (length-map s.args.rec.tails (λ (v : ℤ). v)) ∙ s.well_formed.0.1.1.0.1.0.1 in
+    let three : length s.args.rec.tails ≡ 3 = s.well_formed.0.1.1.0.1.0.1 in
     sym (get_or-eq_default s.args.rec.tails (pos 0) (omega arith))
 
 pub tail_spec : {M : Type 1} → statement M

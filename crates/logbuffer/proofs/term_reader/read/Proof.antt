@@ -7,7 +7,7 @@ use Rattle.model.specs.LogBufferDescriptor.{sound, place_of, first_rows}
 use Rattle.model.specs.TermReader.{natural, good_walk, frames_refusal, read_from, read_of, read_entries}
 use Rattle.model.proofs.Rows.{rows_pass}
 use Rattle.model.proofs.PlaceLaws.{Started}
-use Rattle.model.proofs.ReadLaws.{good_read, read-placed, read-refused, read_goes, read_walk, frames-moved}
+use Rattle.model.proofs.ReadLaws.{good_read, read-placed, read-refused, read_goes, read_walk_lem, frames-moved}
 use Rattle.logbuffer.proofs.term_reader.read.Statement.{statement}
 use Rattle.logbuffer.proofs.term_reader.read.Tie as tie
 
@@ -43,7 +43,7 @@ passed : (c : tie.After-read_frames-frames) → (num c).first_rows.result ≡ Pa
 passed c = c.in_default.is
 
 goes : (c : tie.After-read_frames-frames) → (read_from (p (num c)).offset c.read_frames-frames.result ≡ read_of (st (num c)).args.rec (st (num c)).args.log.now (st (num c)).args.partition (st (num c)).args.offset (st (num c)).args.fragment_limit (st (num c)).args.entries.now)
-    × (c.read_frames-frames.new.entries.1.1.1.1.1.1.0 ≡ read_entries (st (num c)).args.rec (st (num c)).args.log.now (st (num c)).args.partition (st (num c)).args.offset (st (num c)).args.fragment_limit (st (num c)).args.entries.now)
+    × (c.read_frames-frames.new.entries ≡ read_entries (st (num c)).args.rec (st (num c)).args.log.now (st (num c)).args.partition (st (num c)).args.offset (st (num c)).args.fragment_limit (st (num c)).args.entries.now)
 goes c =
     let q = num c in
     let a = (st q).args in
@@ -65,7 +65,7 @@ walks : (c : tie.After-read_frames-frames) → let q = num c in
 walks c =
     let q = num c in
     let g = rows_pass (good_read (p q) (most q) (length (st q).args.entries.now)) (sound (p q).read (length (st q).args.log.now)) (rows q ∙ passed c) in
-    read_walk (p q) (length (st q).args.log.now) (most q) (length (st q).args.entries.now) g.0 g.1
+    read_walk_lem (p q) (length (st q).args.log.now) (most q) (length (st q).args.entries.now) g.0 g.1
 
 returns-2 : tie.Need-returns-in_default-frames
 returns-2 c =

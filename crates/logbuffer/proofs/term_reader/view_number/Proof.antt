@@ -1,5 +1,5 @@
 -- The span is located, and told by its number.
-use Rattle.std.proofs.Common.{◌≡◌, length, sym, ap, ◌∙◌, to_z-of_z, rules}
+use Rattle.std.proofs.Common.{◌≡◌, length, sym, ap, ◌∙◌, to_z-of_z, w32, rules}
 use Rattle.model.specs.TermReader.{view_of}
 use Rattle.model.specs.Parts.{located_number}
 use Rattle.logbuffer.proofs.Signs.{passed_on}
@@ -18,7 +18,7 @@ returns : tie.Need-returns-in-Span
 returns c = ap located_number (sym c.in-Span.is ∙ located c.before)
 
 returns-2 : tie.Need-returns-in-Refused
-returns-2 c = to_z-of_z (record { sfits = c.number.type_inv }) ∙ c.number.ensures ∙ ap located_number (sym c.in-Refused.is ∙ located c.before.before)
+returns-2 c = to_z-of_z {w = w32} (record { sfits = c.number.type_inv }) ∙ c.number.ensures ∙ ap located_number (sym c.in-Refused.is ∙ located c.before.before)
 
 pub view_number_spec : {M : Type 1} → statement M
 view_number_spec =

@@ -53,9 +53,9 @@ add-from : tie.Need-overflow_add-from
 add-from c =
     let q = c in record { fits = omega (arith, inside c.before.before.before c.in-Pass.is, (st c.before.before.before).well_formed) }
 
-add-t14 : tie.Need-overflow-add-t14
+add-t14 : tie.Need-overflow_add-result
 add-t14 c =
-    let q = c.before.before.before.before in record { fits = omega (arith, inside q c.in-Pass.is, (st q).well_formed) }
+    let q = c.before.before.before in record { fits = omega (arith, inside q c.in-Pass.is, (st q).well_formed) }
 
 returns : tie.Need-returns-in-Refuse
 returns c = by c.before (Refuse c.in-Refuse.e) c.in-Refuse.is

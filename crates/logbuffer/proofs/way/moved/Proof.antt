@@ -23,7 +23,7 @@ returns-4 c = let a = c.args in
 returns-5 : tie.Need-returns
 returns-5 c =
     let s = c in
-    let three : length s.args.rec.tails ≡ 3 = sym (length-map s.args.rec.tails (λ (v : ℤ). v)) ∙ s.well_formed.0.1.1.0.1.0.1 in
+    let three : length s.args.rec.tails ≡ 3 = s.well_formed.0.1.1.0.1.0.1 in
     none_moves s.args.rec s.args.k s.args.way s.args.way.course (omega arith)
 
 pub moved_spec : {M : Type 1} → statement M

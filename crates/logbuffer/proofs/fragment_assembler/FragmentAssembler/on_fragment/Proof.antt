@@ -24,7 +24,7 @@ is : (c : tie.After-assemble_verdict) (x : Verdict) → c.assemble_verdict.resul
     ≡ assemble_of (st c).args.rec (st c).args.log.now (sessions_of (st c).args.self) (st c).args.buffer.now (st c).args.partition (st c).args.offset
 is c x e =
     let a = (st c).args in
-    assembles a.rec a.log.now (sessions_of a.t1) a.buffer.now a.partition a.offset (p c) x
+    assembles a.rec a.log.now (sessions_of a.self) a.buffer.now a.partition a.offset (p c) x
     (c.place-p.ensures.0 ∙ search rules) (sym e ∙ c.assemble_verdict.ensures)
 
 framed : (c : tie.After-assemble_verdict) → c.assemble_verdict.result ≡ Pass → Framed (st c).args.log.now ((p c).partition * (p c).read.term + (p c).offset)
@@ -39,10 +39,10 @@ add-index c =
     let q = c in record { fits = omega (arith, (framed c.before.before.before c.in-Pass.is).whole, (st c.before.before.before).well_formed) }
 
 ids-16 : (s : tie.Start) → length s.args.self.ids ≡ 16
-ids-16 s = sym (length-map s.args.self.ids (λ (v : ℤ). v)) ∙ s.well_formed.0.1.1.1.0.1.0.1
+ids-16 s = s.well_formed.0.1.1.1.0.1.0.1
 
 held-16 : (s : tie.Start) → length s.args.self.held ≡ 16
-held-16 s = sym (length-map s.args.self.held (λ (v : ℕ). v)) ∙ s.well_formed.0.1.1.1.1.0.1.0.1
+held-16 s = s.well_formed.0.1.1.1.1.0.1.0.1
 
 slice-aggregate-join : tie.Need-slice_bounds-join-end
 slice-aggregate-join c = sym (ids-16 c.before.before.before.before.before.before.before.before.before.before)
@@ -66,7 +66,7 @@ module _ (c : tie.After-join-joined) where
 
   told : ((c.join-joined.result.answer ≡ (assemble_of a.args.rec a.args.log.now s a.args.buffer.now a.args.partition a.args.offset).answer)
       × (held_at s c.join-joined.result.place c.join-joined.result.session c.join-joined.result.held ≡ (assemble_of a.args.rec a.args.log.now s a.args.buffer.now a.args.partition a.args.offset).next))
-      × (c.join-joined.new.buffer.1.1.1.0 ≡ (assemble_of a.args.rec a.args.log.now s a.args.buffer.now a.args.partition a.args.offset).buffer)
+      × (c.join-joined.new.buffer ≡ (assemble_of a.args.rec a.args.log.now s a.args.buffer.now a.args.partition a.args.offset).buffer)
   told =
       let e = c.in-Pass.is in
       let t = three _ _ (is q Pass e) in
@@ -81,7 +81,7 @@ module _ (c : tie.After-join-joined) where
 
 returns-2 : tie.Need-returns-then-k-lt16
 returns-2 c =
-    let x = c in
+    let x = c.before.before.before.before.before in
     let t = told x in
     let k = x.join-joined.result.place in
     let n = x.join-joined.result.held in
@@ -90,7 +90,7 @@ returns-2 c =
 
 returns-3 : tie.Need-returns-else-k-lt16
 returns-3 c =
-    let x = c in
+    let x = c.before.before.before.before in
     let t = told x in
     ((t.0.0, held_none (s x) x.join-joined.result.place x.join-joined.result.session x.join-joined.result.held (omega arith) ∙ t.0.1), t.1)
 
