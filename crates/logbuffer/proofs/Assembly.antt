@@ -1,5 +1,5 @@
 -- The rows of the assembler's entry point, and what a frame that passes them is.
-use Rattle.std.proofs.Common.{◌≡◌, ℕ, ◌+◌, ◌-◌, ◌*◌, ◌/◌, ◌%◌, ◌<◌, ◌≤◌, Bool, true, false, ◌&&◌, ◌||◌, eqb, ltb, leb, List, [], ◌∷◌, length, get_or, take, drop, ℤ, sym, refl, ap, ◌∙◌, ap₂, ⊎_elim, mul-le-mul_right, arith, get_or-drop, drop-drop, ltb-false, eq-eqb, le-leb, leb-false, leb-true}
+use Rattle.std.proofs.Common.{◌≡◌, ℕ, ◌+◌, ◌-◌, ◌*◌, ◌/◌, ◌%◌, ◌<◌, ◌≤◌, Bool, true, false, ◌&&◌, ◌||◌, eqb, ltb, leb, List, [], ◌∷◌, length, get_or, take, drop, ℤ, sym, ap, ◌∙◌, ap₂, mul-le-mul_right, arith, get_or-drop, drop-drop, ltb-false, eq-eqb, le-leb, leb-false, leb-true}
 use borrow.Author.Tests.{lt-leb}
 use Rattle.model.specs.declared.LogRecord.{LogRecord}
 use Rattle.model.specs.declared.Reading.{Reading}
@@ -8,7 +8,7 @@ use Rattle.model.specs.declared.Error.{Error}
 use Rattle.model.specs.declared.Verdict.{Verdict}
 use Rattle.model.specs.declared.Verdict.TheVariants.{Pass, Refuse}
 use Rattle.model.specs.declared.FrameLength.{FrameLength}
-use Rattle.model.specs.declared.FrameLength.TheVariants.{Free, Writing, Finished}
+use Rattle.model.specs.declared.FrameLength.TheVariants.{Finished}
 use Rattle.model.specs.declared.Joining.{Joining}
 use Rattle.model.specs.declared.Joining.TheVariants.{Through, Ignore, Full, TooLong, Join, Complete}
 use Rattle.model.specs.Bytes.{u32, i32}

@@ -1,9 +1,8 @@
 -- A record that is sound with the bits of all tails and of a claim's offset is sound with its own tail, and the claim is good; so the commit of `model` is done.
-use Rattle.std.proofs.Common.{◌≡◌, ℕ, zero, suc, ◌+◌, ◌*◌, ◌%◌, ◌^◌, ◌≤◌, Bool, true, false, ◌&&◌, leb, List, length, sym, refl, ap, ◌∙◌, ap₂, arith, eq-eqb, le-leb, leb-true}
+use Rattle.std.proofs.Common.{◌≡◌, ℕ, zero, suc, ◌+◌, ◌%◌, ◌≤◌, Bool, true, false, ◌&&◌, leb, List, length, sym, ap, ◌∙◌, arith, eq-eqb, le-leb, leb-true}
 use lib.Bits.{bit_or, or_mod}
 use Rattle.model.specs.declared.Claim.{Claim}
 use Rattle.model.specs.declared.LogRecord.{LogRecord}
-use Rattle.model.specs.declared.Reading.{Reading}
 use Rattle.model.specs.declared.Outcome.TheVariants.{Done}
 use Rattle.model.specs.Bytes.{word, long, splice, le4}
 use Rattle.model.specs.FrameDescriptor.{align}

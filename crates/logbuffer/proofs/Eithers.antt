@@ -1,6 +1,6 @@
 -- The bits that either of two numbers has: their bounds, and the multiples of 32 that they tell of both.
-use Rattle.std.proofs.Common.{◌≡◌, ℕ, ◌+◌, ◌%◌, ◌^◌, ◌<◌, ◌≤◌, sym, ◌∙◌, ap₂, arith}
-use lib.Bits.{bit_or, bit_and, or_add_and, and_le_l, and_le_r, or_mod, or_lt, or_zero_l}
+use Rattle.std.proofs.Common.{◌≡◌, ℕ, ◌%◌, ◌<◌, ◌≤◌, sym, ◌∙◌, ap₂, arith}
+use lib.Bits.{bit_or, or_add_and, and_le_l, and_le_r, or_mod, or_lt, or_zero_l}
 
 pub left-most : (a b : ℕ) → a ≤ bit_or a b
 left-most a b = let e = or_add_and a b in let h = and_le_r a b in omega arith

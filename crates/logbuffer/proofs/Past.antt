@@ -1,10 +1,10 @@
 -- The position past a frame, exactly: its aligned length with its sign, and that each step of the sum fits 64 bits.
-use Rattle.std.proofs.Common.{◌≡◌, ℕ, zero, suc, ◌+◌, ◌-◌, ◌*◌, ◌/◌, ◌%◌, ◌^◌, ◌<◌, ◌≤◌, Bool, true, false, cond, ltb, ℤ, pos, negsuc, ◌+ℤ◌, ◌-ℤ◌, ◌*ℤ◌, neg_ℤ, nat_abs, sym, refl, ap, ◌∙◌, ap₂, mul-le-mul, arith, pow_pos, pow_mono, to_z-of_z, w32, w64, SFits, to_z, of_z, ltb-false, ltb-true}
+use Rattle.std.proofs.Common.{◌≡◌, ℕ, suc, ◌+◌, ◌-◌, ◌*◌, ◌/◌, ◌^◌, ◌<◌, ◌≤◌, Bool, true, false, cond, ltb, ℤ, pos, negsuc, ◌+ℤ◌, ◌*ℤ◌, neg_ℤ, nat_abs, sym, refl, ap, ◌∙◌, ap₂, arith, to_z-of_z, w32, w64, SFits, to_z, of_z, ltb-false, ltb-true}
 use lib.Signed.{shr_z}
 use mir.Facts.{to_z_pos, sfits_widen}
 use Rattle.model.specs.TermReader.{alignℤ}
 use Rattle.logbuffer.proofs.Signed.{lands, asks}
-use Rattle.logbuffer.proofs.Exact.{near-sum, near-neg, near_times, near-32, near_fits, near-begin, near-position, position-fits}
+use Rattle.logbuffer.proofs.Exact.{near-sum, near-neg, near-32, near_fits, near-begin, near-position, position-fits}
 
 -- bits below 2^63 are the number
 plain : (n : ℕ) → n < 9223372036854775808 → to_z w64 n ≡ pos n

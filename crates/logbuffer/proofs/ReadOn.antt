@@ -1,12 +1,12 @@
 -- A read of a partition by the record's numbers: what its row 1 says, and the verdict by it.
-use Rattle.std.proofs.Common.{◌≡◌, ℕ, ◌+◌, ◌*◌, ◌/◌, ◌%◌, ◌≤◌, Bool, true, false, cond, ◌&&◌, eqb, leb, List, length, ℤ, arith, eqb-true, leb-true}
+use Rattle.std.proofs.Common.{◌≡◌, ℕ, ◌+◌, ◌*◌, ◌/◌, ◌%◌, ◌≤◌, true, false, cond, eqb, leb, List, length, ℤ, eqb-true, leb-true}
 use Rattle.model.specs.declared.Reading.{Reading}
 use Rattle.model.specs.declared.Error.TheVariants.{IllegalArgument}
 use Rattle.model.specs.declared.Verdict.TheVariants.{Pass, Refuse}
 use Rattle.model.specs.declared.TermRead.TheVariants.{Refused}
 use Rattle.model.specs.FrameDescriptor.{unsound_frame_at}
 use Rattle.model.specs.LogBufferDescriptor.{sound, Sound, good_partition}
-use Rattle.model.specs.TermReader.{first_unsound, good_entries, read_walk, read_from, frames_by, entries_by}
+use Rattle.model.specs.TermReader.{first_unsound, read_walk, read_from, frames_by, entries_by}
 use Rattle.model.proofs.Both.{and-true}
 use Rattle.model.proofs.Sound.{sound-true, term-32}
 use Rattle.model.proofs.PlaceLaws.{part_in}

@@ -1,6 +1,6 @@
 -- Positions by the bits to shift. A term of one bit is the power of two that its trailing zeros say, so that what a shift or a mask gives is
 -- the product, the quotient or the remainder of the definitions.
-use Rattle.std.proofs.Common.{◌≡◌, ℕ, zero, suc, ◌+◌, ◌-◌, ◌*◌, ◌/◌, ◌%◌, ◌^◌, ◌<◌, ◌≤◌, ℤ, pos, negsuc, ◌*ℤ◌, neg_ℤ, nat_abs, sym, ap, ◌∙◌, mod-eq_of_lt, add-mul, mul-le-mul, mul-one, arith, w64, to_z, of_z}
+use Rattle.std.proofs.Common.{◌≡◌, ℕ, zero, suc, ◌+◌, ◌-◌, ◌*◌, ◌%◌, ◌^◌, ◌<◌, ◌≤◌, ℤ, pos, negsuc, ◌*ℤ◌, neg_ℤ, nat_abs, sym, ap, ◌∙◌, mod-eq_of_lt, add-mul, mul-le-mul, mul-one, arith, w64, to_z, of_z}
 use lib.Bits.{bit_and, and_mask}
 use lib.Count.{ones, count_trailing_zeros}
 use mir.Facts.{to_z_pos, to_z-neg}

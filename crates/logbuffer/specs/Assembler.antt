@@ -1,5 +1,5 @@
 -- The assembler's bookkeeping as the definitions have it, and its core over lent arrays: what a frame at an index of the log leads to.
-use Rattle.std.specs.Prelude.{◌≡◌, ℕ, ◌+◌, ◌<◌, ◌≤◌, min, Bool, true, cond, ◌&&◌, List, length, drop, ℤ, ◌==◌, nat_le, nat_lt}
+use Rattle.std.specs.Prelude.{◌≡◌, ℕ, ◌+◌, ◌≤◌, min, Bool, true, cond, ◌&&◌, List, length, drop, ℤ, ◌==◌, nat_le, nat_lt}
 use Rattle.model.specs.Bytes.{u32}
 use Rattle.model.specs.FrameDescriptor.{is_finished, length_at}
 use Rattle.model.specs.FragmentAssembler.{Sessions, Assembly, holding, joined_at}

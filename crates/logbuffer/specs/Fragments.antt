@@ -1,6 +1,6 @@
 -- The assembler in steps, for a reader who takes one fragment after another and keeps the sessions himself: a data frame's numbers, and its body laid behind
 -- what its session holds. `laid-joins` (proofs/Fragments.antt) says that a body that is laid is the assembler's own step.
-use Rattle.std.specs.Prelude.{ℕ, ◌+◌, ◌*◌, ◌/◌, Bool, false, cond, not, ◌&&◌, List, length, take, drop, pos, nat_le, nat_lt}
+use Rattle.std.specs.Prelude.{ℕ, ◌+◌, ◌*◌, Bool, false, cond, not, ◌&&◌, List, length, take, drop, pos, nat_le, nat_lt}
 use Rattle.model.specs.Bytes.{splice}
 use Rattle.model.specs.FrameDescriptor.{frame_at, flags_at, begins, ends}
 use Rattle.model.specs.FragmentAssembler.{part_length, session_at}

@@ -1,5 +1,5 @@
 -- A frame that holds a whole message, as it lies in a log: a reader hands it out without a poll and without the assembler.
-use Rattle.std.specs.Prelude.{ℕ, ◌+◌, Bool, cond, ◌&&◌, List, length, drop, nat_le}
+use Rattle.std.specs.Prelude.{ℕ, ◌+◌, cond, ◌&&◌, List, length, drop, nat_le}
 use Rattle.model.specs.declared.Frame.{Frame}
 use Rattle.model.specs.declared.Frame.TheVariants.{Absent, Unsound, Padding, Data}
 use Rattle.model.specs.FrameDescriptor.{frame_at, flags_at, begins, ends}

@@ -1,5 +1,6 @@
 // The leaf library: the log's frames, read and written over a log that is lent. A file for each file of the Rust, and what these share.
 #![tactic(auto)]
+
 pub mod argument;
 pub mod bit_utils;
 mod buffer_builder;

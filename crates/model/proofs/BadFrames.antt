@@ -5,25 +5,24 @@ use mathlib.Core.Bool.{Bool, true, false, cond, ◌&&◌, ◌||◌, not}
 use Prim.Native.Nat.{ℕ, zero, suc, ◌+◌, ◌-◌, ◌*◌, ◌%◌, min}
 use mathlib.Core.List.{List, []}
 use native.Mathlib.Omega.{arith}
-use lib.Dec.{eqb, leb, ltb}
+use lib.Dec.{eqb, ltb}
 use lib.ListN.{length, drop}
-use lib.IntN.{ℤ, pos}
+use lib.IntN.{pos}
 use Rattle.model.specs.declared.LogRecord.{LogRecord}
 use Rattle.model.specs.declared.Reading.{Reading}
 use Rattle.model.specs.declared.Error.{Error}
 use Rattle.model.specs.declared.Error.TheVariants.{IllegalArgument, IllegalRecord, PositionOutOfRange, NewPositionOutOfRange, NewPositionNotAligned, FrameTooShort, FramePastTerm}
 use Rattle.model.specs.declared.Verdict.{Verdict}
-use Rattle.model.specs.declared.Verdict.TheVariants.{Pass, Refuse}
+use Rattle.model.specs.declared.Verdict.TheVariants.{Refuse}
 use Rattle.model.specs.declared.ReadVerdict.{ReadVerdict}
 use Rattle.model.specs.declared.ReadVerdict.TheVariants.{Read, Closed, Refuse as ReadRefuse}
 use Rattle.model.specs.declared.Polled.{Polled}
 use Rattle.model.specs.declared.Polled.TheVariants.{Fragments, Refused as PollRefused}
 use Rattle.model.specs.declared.Assembled.{Assembled}
 use Rattle.model.specs.declared.Assembled.TheVariants.{Nothing, Fragment, Message, Refused as AssemblyRefused}
-use Rattle.model.specs.declared.Replayed.{Replayed}
-use Rattle.model.specs.declared.Replayed.TheVariants.{InLog, InBuffer, End, Refused as ReplayRefused}
+use Rattle.model.specs.declared.Replayed.TheVariants.{End, Refused as ReplayRefused}
 use Rattle.model.specs.Bytes.{word, long}
-use Rattle.model.specs.Answers.{Told, refused, scanned_told, gap_told, availability_told, read_told, frames_told, polled_told, peeked_told, block_told, assembled_told}
+use Rattle.model.specs.Answers.{Told, refused, scanned_told, gap_told, availability_told, read_told, frames_told, assembled_told}
 use Rattle.model.specs.DataFrameHeader.{header_at}
 use Rattle.model.specs.FrameDescriptor.{unsound_length, unsound_frame, unsound_frame_at}
 use Rattle.model.specs.LogBufferDescriptor.{reading, sound, good_partition, good_offset, within_term, first_rows, frame_row, good_position}
@@ -33,7 +32,6 @@ use Rattle.model.specs.Image.{Image, refuse_if, readable, reachable, end_offset,
 use Rattle.model.specs.FragmentAssembler.{good_assembly, assemble_by, assemble_verdict, assemble_of}
 use Rattle.model.specs.Replay.{ReplayState, NextReply, giving, given_by, turn_by, poll_one, assemble_one, next_from, next_of, is_over}
 use Rattle.model.specs.BadFrames.{Reads, frames, read, scan, gap, availability, poll, bounded_poll, controlled_poll, peek, block_poll, assemble, answer_now, base_met, place_met, Before, passed, shut, seventeen, refused_by, row17, rows_before, readable_before, reachable_before, unsound_met, poll_before, before, as_verdict, answer_by, saying, in_place_of17, BadFrames, ReplaysPassOn}
-use Rattle.model.proofs.Anchors as Anchors
 use Rattle.model.proofs.Choice.{le_yes}
 
 -- the old verdict, with a refusal in the place of 17

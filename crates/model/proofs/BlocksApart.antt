@@ -1,6 +1,6 @@
 -- An accepted call's position is where the stream had come to and what the call takes; from there the blocks follow by arithmetic.
 use mathlib.Core.Path.{◌≡◌, refl, sym, ap, subst, ◌∙◌}
-use Prim.Native.Nat.{ℕ, zero, ◌+◌, ◌-◌, ◌*◌, ◌/◌, ◌%◌, ◌≤◌, ◌<◌}
+use Prim.Native.Nat.{ℕ, ◌+◌, ◌-◌, ◌*◌, ◌/◌, ◌%◌, ◌≤◌}
 use mathlib.Core.Bool.{Bool, true, false, cond}
 use mathlib.Core.List.{List, [], ◌∷◌}
 use native.Mathlib.Nat.{mul-le-mul_right}
@@ -23,8 +23,8 @@ use Rattle.model.specs.declared.Claimed.TheVariants.{Position as ClaimPosition, 
 use Rattle.model.specs.Bytes.{word, long}
 use Rattle.model.specs.FrameDescriptor.{space}
 use Rattle.model.specs.LogBufferDescriptor.{reading_of, reading, active, payload_limit, greatest, last_term, changed, with_tail, with_count, with_limit, with_closed, next_tail, rotated, id_of, id_plus, tail_of, sound_record, is_ready, with_mark, with_slowest, noted}
-use Rattle.model.specs.TermAppender.{need, claim_record}
-use Rattle.model.specs.Publication.{change_of, place, fits, on_trip, trip_error, trip_next, append_next, need_of, offer_verdict, offered_by, next_by, offer_of, claim_verdict, claimed_by, claim_of, open_of, reply_by, clear_verdict, clear_of, raise_verdict, raise_of}
+use Rattle.model.specs.TermAppender.{claim_record}
+use Rattle.model.specs.Publication.{change_of, place, fits, on_trip, trip_error, trip_next, append_next, need_of, offer_verdict, offered_by, next_by, offer_of, claim_verdict, claimed_by, claim_of, reply_by, clear_verdict, clear_of, raise_verdict, raise_of}
 use Rattle.model.specs.History.{Call, offer, claim, fill, commit, abort, set_limit, close, Answer, offered, claimed, outcome, World, step, answers, clear, raise}
 use Rattle.model.specs.Demand.{opened, shape}
 use Rattle.model.specs.BlocksApart.{takes, Takes, ApartBy, Apart, block_at, FreeBy, Free, BlocksApart}

@@ -15,13 +15,12 @@ use Rattle.model.specs.declared.Error.TheVariants.{IllegalArgument, IllegalRecor
 use Rattle.model.specs.declared.Verdict.{Verdict}
 use Rattle.model.specs.declared.Verdict.TheVariants.{Pass, Refuse}
 use Rattle.model.specs.declared.Outcome.TheVariants.{Done, Refused as OutcomeRefused}
-use Rattle.model.specs.declared.Located.{Located}
 use Rattle.model.specs.declared.Located.TheVariants.{Span, Refused}
 use Rattle.model.specs.Bytes.{word, splice, le2, le4}
 use Rattle.model.specs.FrameDescriptor.{align}
 use Rattle.model.specs.LogBufferDescriptor.{reading, sound, Sound}
 use Rattle.model.specs.Parts.{located_by}
-use Rattle.model.specs.BufferClaim.{claim_start, good_claim, matches, claim_check, body_start, body_end, locate_of, write_span, write_outcome, write_over, write_of, write_bytes, outcome_of, commit_of, changed_by, commit_bytes, abort_bytes}
+use Rattle.model.specs.BufferClaim.{claim_start, good_claim, matches, claim_check, body_start, body_end, locate_of, write_span, outcome_of, commit_of, changed_by, commit_bytes, abort_bytes}
 use Rattle.model.proofs.Sound.{sound-true}
 use Rattle.model.proofs.Append.{base-in}
 use Rattle.model.proofs.Both.{and-true}

@@ -1,7 +1,7 @@
 -- Every call keeps the invariant: offers and claims, accepted, refused and tripped.
 use mathlib.Core.Path.{◌≡◌, refl, sym, ap, ap₂, ◌∙◌, subst}
 use mathlib.Core.Bool.{Bool, true, false, cond, not, ◌&&◌}
-use Prim.Native.Nat.{ℕ, ◌+◌, ◌-◌, ◌*◌, ◌%◌, ◌≤◌, ◌<◌, min}
+use Prim.Native.Nat.{ℕ, ◌+◌, ◌*◌, ◌%◌, ◌≤◌, ◌<◌}
 use native.Mathlib.Nat.{mul-le-mul_right}
 use mathlib.Core.List.{List, [], ◌∷◌, ◌++◌}
 use native.Mathlib.Omega.{arith}
@@ -34,7 +34,7 @@ use Rattle.model.proofs.Splice.{length-splice}
 use Rattle.model.proofs.Cells.{sizes-32}
 use Rattle.model.proofs.OneSession.{cells}
 use Rattle.model.proofs.Around.{message-size, sizes-cells}
-use Rattle.model.proofs.Tails.{reading_with_tail, Tails, moved-reading, moved-tails, reached}
+use Rattle.model.proofs.Tails.{reading_with_tail, Tails, moved-reading, moved-tails}
 use Rattle.model.proofs.Rising.{clash, Through, read-moved, read-over, over-tails, same_over, count_low}
 use Rattle.model.proofs.Window.{Window, laid, laid-all, written-long}
 use Rattle.model.proofs.Keeping.{Holds, long-log, is-sound, offer-holds, offer-ends, claim-holds, claim-ends, trip-holds}

@@ -1,8 +1,8 @@
 -- A claim of a term not cleared lent and written, committed or aborted: its frame is changed in place, in the stream's log and in the
 -- partition that shows it, and the history with it.
 use mathlib.Core.Path.{◌≡◌, refl, sym, ap, ap₂, ◌∙◌, subst}
-use mathlib.Core.Bool.{Bool, true, false, cond, ◌&&◌}
-use Prim.Native.Nat.{ℕ, zero, ◌+◌, ◌-◌, ◌*◌, ◌%◌, ◌≤◌, ◌<◌, min}
+use mathlib.Core.Bool.{Bool, true, false, cond}
+use Prim.Native.Nat.{ℕ, ◌+◌, ◌-◌, ◌*◌, ◌%◌, ◌≤◌, ◌<◌}
 use native.Mathlib.Nat.{zero-add, lt_of_mul-lt-mul_right, mul-le-mul_right}
 use mathlib.Core.List.{List, [], ◌∷◌, ◌++◌, append_assoc}
 use native.Mathlib.Omega.{arith}
@@ -21,7 +21,7 @@ use Rattle.model.specs.declared.Outcome.{Outcome}
 use Rattle.model.specs.declared.Outcome.TheVariants.{Done, Refused}
 use Rattle.model.specs.Bytes.{word, u32, splice, zeros, le2, le4}
 use Rattle.model.specs.FrameDescriptor.{align, space, negated}
-use Rattle.model.specs.LogBufferDescriptor.{reading, sound, within_term, good_partition}
+use Rattle.model.specs.LogBufferDescriptor.{reading, sound, good_partition}
 use Rattle.model.specs.Parts.{located_by}
 use Rattle.model.specs.declared.Located.{Located}
 use Rattle.model.specs.declared.Located.TheVariants.{Refused as LocatedRefused}
@@ -35,7 +35,6 @@ use Rattle.model.proofs.OneSession.{frames, flat}
 use Rattle.model.proofs.Tails.{Tails}
 use Rattle.model.proofs.Writing.{fits-swap, commits, aborts, refills, length-overlay}
 use Rattle.model.proofs.Around.{Pads, size-all, flat_append, At, Around, around, at-swap, pads-swap, pads-front}
-use Rattle.model.proofs.Rising.{clash}
 use Rattle.model.proofs.Keeping.{Known, known_on, Holds, long-log}
 use Rattle.model.proofs.Kept.{Marks, Inv, inside}
 use Rattle.model.proofs.Window.{Window, shown, laid, word_same}

@@ -1,8 +1,7 @@
 -- Clearings, rises of the slowest reader, limit changes and closes keep the invariant.
 use mathlib.Core.Path.{◌≡◌, refl, sym, ap, ◌∙◌, subst}
-use mathlib.Core.Bool.{Bool, true, false, cond, not, ◌&&◌, ◌||◌}
-use Prim.Native.Nat.{ℕ, zero, suc, ◌+◌, ◌-◌, ◌*◌, ◌%◌, ◌≤◌, ◌<◌, min}
-use native.Mathlib.Nat.{mul-le-mul_right}
+use mathlib.Core.Bool.{Bool, true, false, cond, not, ◌||◌}
+use Prim.Native.Nat.{ℕ, zero, suc, ◌+◌, ◌-◌, ◌*◌, ◌%◌, ◌≤◌, ◌<◌}
 use mathlib.Core.List.{List, ◌++◌}
 use native.Mathlib.Omega.{arith}
 use borrow.Author.Tests.{eqb-true, eq-eqb, leb-true, not-false}
@@ -21,7 +20,7 @@ use Rattle.model.specs.declared.Verdict.TheVariants.{Pass, Refuse}
 use Rattle.model.specs.Bytes.{word, long, splice, zeros}
 use Rattle.model.specs.LogBufferDescriptor.{reading_of, reading, greatest, good_position, good_partition, sound_record, sound, due, changed, with_limit, with_closed, noted, with_slowest, with_mark}
 use Rattle.model.specs.Publication.{reply_by, raise_verdict, raise_of, not_due, clear_verdict, clear_of, cleared_by, clear_bytes, change_of}
-use Rattle.model.specs.History.{Call, set_limit, close, clear, raise, outcome, World, Step, step, Shape, shape_of, Extent, tell, Terms, tell_terms}
+use Rattle.model.specs.History.{set_limit, close, clear, raise, outcome, World, Step, step, Shape, shape_of, Extent, tell, Terms, tell_terms}
 use Rattle.model.proofs.Choice.{cond-case, split, same?}
 use Rattle.model.proofs.Both.{both_true, and-true}
 use Rattle.model.proofs.Sound.{sound-true}
@@ -29,9 +28,8 @@ use Rattle.model.proofs.Splice.{length-splice, length-zeros}
 use Rattle.model.proofs.Cells.{bytes, sizes, length-bytes}
 use Rattle.model.proofs.OneSession.{flat}
 use Rattle.model.proofs.Tails.{with_rest, with-slow, Tails, limit-reading, closed-reading, limit-tails, closed-tails, marked-reading, marked-tails, raised-reading, raised-tails}
-use Rattle.model.proofs.Rising.{clash}
 use Rattle.model.proofs.Window.{Shows, Window, in-splice, other-kept}
-use Rattle.model.proofs.Keeping.{Holds, long-log, is-sound, sound-is}
+use Rattle.model.proofs.Keeping.{Holds}
 use Rattle.model.proofs.Kept.{Marks, Inv, inside, clear_kept}
 use Rattle.model.proofs.Calls.{Keeps}
 

@@ -9,7 +9,6 @@ use lib.ListN.{length, drop}
 use lib.IntN.{ℤ, pos}
 use Rattle.model.specs.declared.LogRecord.{LogRecord}
 use Rattle.model.specs.declared.RecordReply.{RecordReply}
-use Rattle.model.specs.declared.Claim.{Claim}
 use Rattle.model.specs.declared.Reading.{Reading}
 use Rattle.model.specs.declared.Error.{Error}
 use Rattle.model.specs.declared.Error.TheVariants.{IllegalRecord}
@@ -34,7 +33,7 @@ use Rattle.model.specs.TermAppender.{claim_record}
 use Rattle.model.specs.TermReader.{Walked, still, over, walk, natural, good_entries, numbers, laid}
 use Rattle.model.specs.Image.{Image, poll_verdict, poll_reply, PollReply, poll_of}
 use Rattle.model.specs.History.{offer, claim, fill, commit, abort, set_limit, close, clear, raise, World, step}
-use Rattle.model.specs.Corollaries.{NoTwoAlike, NothingRare, RefusedWith, RefusalsChangeNothing, LieTo, bodies_of, PollPassed, PollsCountFrames, NeedArithmetic}
+use Rattle.model.specs.Corollaries.{NoTwoAlike, NothingRare, RefusalsChangeNothing, LieTo, bodies_of, PollPassed, PollsCountFrames, NeedArithmetic}
 use Rattle.model.proofs.Cut.{need-sum}
 use Rattle.model.proofs.RuleLaws.{trips_by, offer-trips, claim-trips}
 use Rattle.model.proofs.Choice.{le-case}

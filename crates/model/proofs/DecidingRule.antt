@@ -1,18 +1,16 @@
 -- The theorem of R-10: the rule answered is the first in the order that applies, for every input, and tells the number and whether the tail has moved.
-use mathlib.Core.Path.{◌≡◌, refl, sym, ap, ap₂, subst, ◌∙◌}
-use mathlib.Core.Bool.{Bool, true, false, cond, not}
-use Prim.Native.Nat.{ℕ, zero, suc, ◌+◌, ◌-◌, ◌*◌, ◌%◌, ◌≤◌, ◌<◌}
+use mathlib.Core.Path.{◌≡◌, refl, sym, ap, ◌∙◌}
+use mathlib.Core.Bool.{Bool, true, false, cond}
+use Prim.Native.Nat.{ℕ, suc, ◌+◌, ◌-◌, ◌*◌, ◌%◌, ◌≤◌, ◌<◌}
 use mathlib.Core.List.{List, [], ◌∷◌}
 use native.Mathlib.Omega.{arith}
-use native.Mathlib.Nat.{le_refl}
-use borrow.Author.Tests.{le-leb, lt-ltb, leb-true, leb-false}
+use borrow.Author.Tests.{lt-ltb, leb-false}
 use lib.Dec.{eqb, leb, ltb}
-use lib.ListN.{length, get_or, set, length-set}
+use lib.ListN.{length, get_or}
 use lib.Seq.{get_or-set_same, get_or-set_other}
 use lib.IntN.{ℤ, pos}
 use Rattle.model.specs.declared.LogRecord.{LogRecord}
 use Rattle.model.specs.declared.Reading.{Reading}
-use Rattle.model.specs.declared.Error.{Error}
 use Rattle.model.specs.declared.Error.TheVariants.{MaxPositionExceeded, LastTerm, NotCleared, AdminAction}
 use Rattle.model.specs.declared.Verdict.{Verdict}
 use Rattle.model.specs.declared.Verdict.TheVariants.{Pass, Refuse}
@@ -26,9 +24,9 @@ use Rattle.model.specs.Answers.{offered_told, claimed_told}
 use Rattle.model.specs.FrameDescriptor.{space}
 use Rattle.model.specs.LogBufferDescriptor.{id_plus, id_of, offset_of, raw_of, tail_of, reading_of, active, reading, payload_limit, greatest, last_term, is_ready, changed, noted, with_tail, with_mark, with_count, next_tail, rotated}
 use Rattle.model.specs.TermAppender.{written, cut, claimed, claim_record}
-use Rattle.model.specs.Rule.{rule_number, rule_place, moves, order, first_of, Asked, message, claim, needs, holds, decided}
-use Rattle.model.specs.Publication.{place, fits, on_trip, trip_error, trip_next, append_next, need_of, offer_verdict, offered_by, next_by, log_by, offer_of, offer_bytes, claim_verdict, claimed_by, claim_of, claim_bytes}
-use Rattle.model.specs.DecidingRule.{Decides, DecidingRule}
+use Rattle.model.specs.Rule.{rule_number, rule_place, moves, order, first_of, Asked, message, claim, holds, decided}
+use Rattle.model.specs.Publication.{place, fits, on_trip, trip_error, append_next, need_of, offer_verdict, offered_by, next_by, log_by, offer_of, offer_bytes, claim_verdict, claimed_by, claim_of, claim_bytes}
+use Rattle.model.specs.DecidingRule.{DecidingRule}
 use Rattle.model.proofs.Both.{test as test-case}
 use Rattle.model.proofs.Choice.{cond-true, cond-false, cond-case, split}
 use Rattle.model.proofs.Cut.{need-some}

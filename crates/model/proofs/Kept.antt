@@ -1,9 +1,9 @@
 -- The invariant of a season. The stream's log, which no program holds, is the bytes of the history's frames, then zeros (Keeping); the
 -- three partitions show its three terms from the first one not cleared on (Window); a partition is marked where the term it shows is
 -- not begun.
-use mathlib.Core.Path.{◌≡◌, refl, sym, ap, ap₂, ◌∙◌, subst}
+use mathlib.Core.Path.{◌≡◌, refl, sym, ap, ◌∙◌}
 use mathlib.Core.Bool.{Bool, true, false, cond}
-use Prim.Native.Nat.{ℕ, suc, ◌+◌, ◌-◌, ◌*◌, ◌%◌, ◌≤◌, ◌<◌}
+use Prim.Native.Nat.{ℕ, ◌+◌, ◌-◌, ◌*◌, ◌%◌, ◌≤◌, ◌<◌}
 use native.Mathlib.Nat.{mul-le-mul_right}
 use mathlib.Core.List.{List}
 use native.Mathlib.Omega.{arith}

@@ -2,8 +2,7 @@
 -- and term id it is rotated.
 use mathlib.Core.Path.{◌≡◌, refl, sym, ap, ap₂, ◌∙◌}
 use mathlib.Core.Bool.{true, false}
-use Prim.Native.Nat.{ℕ, zero, suc, ◌+◌, ◌*◌, ◌/◌, ◌%◌, ◌≤◌, ◌<◌}
-use native.Mathlib.Nat.{mul_assoc}
+use Prim.Native.Nat.{ℕ, ◌+◌, ◌/◌, ◌%◌, ◌≤◌, ◌<◌}
 use native.Mathlib.Omega.{arith}
 use borrow.Author.Tests.{le-leb}
 use lib.ListN.{length}
@@ -16,12 +15,9 @@ use Rattle.model.specs.declared.Reading.{Reading}
 use Rattle.model.specs.declared.Outcome.TheVariants.{Done}
 use Rattle.model.specs.Bytes.{word, long}
 use Rattle.model.specs.LogBufferDescriptor.{id_of, offset_of, term_id_of, tail_of, reading_of, active, reading, sound_record, changed, with_tail, last_term, rotated, rotate_log_of, Sound}
-use Rattle.model.specs.TermAppender.{need}
 use Rattle.model.proofs.RawTail.{raw-id, raw-offset, moved-tail}
 use Rattle.model.proofs.SoundRecord.{sound-record-by}
 use Rattle.model.proofs.Rotate.{rotate-own}
-use native.Mathlib.Decide.{dec_le}
-use native.Mathlib.Nat.{lt_of_not-le}
 
 -- a term id as the Rust answers it, handed back, is the tail's
 pub term-id-back : (raw : ℤ) → SFits w64 raw → word (term_id_of raw) ≡ id_of raw

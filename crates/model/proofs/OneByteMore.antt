@@ -2,32 +2,29 @@
 use mathlib.Core.Path.{◌≡◌, refl, sym, ap, ap₂, ◌∙◌, subst}
 use Prim.Native.Nat.{ℕ, zero, suc, ◌+◌, ◌-◌, ◌*◌, ◌/◌, ◌%◌, ◌≤◌, ◌<◌}
 use mathlib.Core.Bool.{Bool, true, false, cond}
-use mathlib.Core.List.{List, [], ◌∷◌}
+use mathlib.Core.List.{List}
 use native.Mathlib.Omega.{arith}
 use native.Mathlib.Nat.{div_self, div-eq_of_lt, div-eq-sub-div, div-add-mod'}
 use borrow.Author.Tests.{lt-ltb, le-ltb, eq-eqb, ne_eqb}
 use lib.Dec.{eqb, ltb}
-use lib.ListN.{length, take, drop, length-drop}
+use lib.ListN.{length, drop, length-drop}
 use lib.IntN.{ℤ, pos, ◌+ℤ◌}
 use Rattle.model.specs.declared.LogRecord.{LogRecord}
 use Rattle.model.specs.declared.Claim.{Claim}
 use Rattle.model.specs.declared.Reading.{Reading}
-use Rattle.model.specs.declared.Error.{Error}
 use Rattle.model.specs.declared.Verdict.{Verdict}
 use Rattle.model.specs.declared.Verdict.TheVariants.{Pass, Refuse}
-use Rattle.model.specs.declared.Offered.{Offered}
 use Rattle.model.specs.declared.Offered.TheVariants.{Position as OfferPosition, Refused as OfferRefused}
-use Rattle.model.specs.declared.Claimed.{Claimed}
 use Rattle.model.specs.declared.Claimed.TheVariants.{Position as ClaimPosition, Refused as ClaimRefused}
 use Rattle.model.specs.Bytes.{word}
 use Rattle.model.specs.FrameDescriptor.{align, space}
-use Rattle.model.specs.LogBufferDescriptor.{reading, active, payload_limit, Sound, is_ready}
-use Rattle.model.specs.TermAppender.{Fragment, cut_from, cut, need, claim_record}
+use Rattle.model.specs.LogBufferDescriptor.{reading, active, payload_limit, is_ready}
+use Rattle.model.specs.TermAppender.{cut_from, cut, need, claim_record}
 use Rattle.model.specs.Publication.{place, fits, trip_error, need_of, offer_verdict, offered_by, offer_of, claim_verdict, claimed_by, claim_of}
-use Rattle.model.specs.OneByteMore.{frames, rise, OneByteMore, OneByteMoreClaimed}
+use Rattle.model.specs.OneByteMore.{rise, OneByteMore, OneByteMoreClaimed}
 use Rattle.model.proofs.Choice.{split}
 use Rattle.model.proofs.Cut.{cut-last, cut-more, need-one, times_32, whole-up, rest_up, need-sum}
-use Rattle.model.proofs.Rising.{Lets, Through, lets-through, offer-lets}
+use Rattle.model.proofs.Rising.{Lets, lets-through, offer-lets}
 
 -- ---- frames are counted by the length, rounded up
 

@@ -16,10 +16,8 @@ use Rattle.model.specs.declared.Frame.TheVariants.{Absent, Unsound, Padding, Dat
 use Rattle.model.specs.declared.Verdict.{Verdict}
 use Rattle.model.specs.declared.Verdict.TheVariants.{Pass, Refuse}
 use Rattle.model.specs.declared.Walk.{Walk}
-use Rattle.model.specs.declared.FramesRead.{FramesRead}
-use Rattle.model.specs.declared.FramesRead.TheVariants.{Walked as AllWalked, Refused as WalkRefused}
-use Rattle.model.specs.declared.TermRead.{TermRead}
-use Rattle.model.specs.declared.TermRead.TheVariants.{Outcome, Refused}
+use Rattle.model.specs.declared.FramesRead.TheVariants.{Walked as AllWalked}
+use Rattle.model.specs.declared.TermRead.TheVariants.{Refused}
 use Rattle.model.specs.FrameDescriptor.{align, frame_at, unsound_frame_at}
 use Rattle.model.specs.LogBufferDescriptor.{sound, good_partition, place_of, first_rows, frame_row}
 use Rattle.model.specs.TermReader.{Walked, still, over, handed, good_walk, good_handler, good_start, next_action, rest_actions, walk, walk_of, first_unsound, natural, good_entries, frames_by, frames_of, frames_entries, read_from, read_walk, read_verdict, read_by, read_of, read_entries, entries_by}

@@ -12,7 +12,6 @@ use lib.Signed.{lt_z}
 use lib.Dec.{leb, ltb, eqb}
 use lib.ListN.{length, take, drop, get_or, replicate, length-append}
 use lib.Seq.{drop_at, drop-drop}
-use lib.Arith.{digits_mod}
 use lib.IntN.{ℤ, pos}
 use Rattle.model.specs.declared.LogRecord.{LogRecord}
 use Rattle.model.specs.declared.Polled.{Polled}

@@ -2,8 +2,8 @@
 -- it reaches, and that one is greater. All of it from the tails alone, whatever the log holds, and past the third term.
 use mathlib.Core.Path.{◌≡◌, refl, sym, ap, ap₂, ◌∙◌, subst}
 use mathlib.Core.Bool.{Bool, true, false, cond, not}
-use Prim.Native.Nat.{ℕ, zero, suc, ◌+◌, ◌*◌, ◌/◌, ◌%◌, ◌≤◌, ◌<◌, min}
-use native.Mathlib.Nat.{le_refl, le_trans, mul-le-mul_right, le-div_iff_mul-le}
+use Prim.Native.Nat.{ℕ, ◌+◌, ◌*◌, ◌≤◌, ◌<◌, min}
+use native.Mathlib.Nat.{le_refl, le_trans}
 use mathlib.Core.List.{List, [], ◌∷◌}
 use native.Mathlib.Omega.{arith}
 use borrow.Author.Tests.{ltb-false, leb-true, eqb-false, not-false}
@@ -25,12 +25,12 @@ use Rattle.model.specs.declared.Claimed.TheVariants.{Position as ClaimPosition, 
 use Rattle.model.specs.Bytes.{word, long}
 use Rattle.model.specs.FrameDescriptor.{space}
 use Rattle.model.specs.LogBufferDescriptor.{id_plus, id_minus, reading, active, payload_limit, greatest, sound_record, sound, Sound, last_term, with_tail, with_limit, with_closed, with_slowest, with_mark, is_ready, rotated}
-use Rattle.model.specs.TermAppender.{need, claim_record}
+use Rattle.model.specs.TermAppender.{claim_record}
 use Rattle.model.specs.Publication.{change_of, place, pressed, after_closed, tail_room, fits, on_trip, trip_error, trip_next, append_next, too_long, need_of, before_append, offer_verdict, offered_by, next_by, offer_of, claim_verdict, claimed_by, claim_of, reply_by, raise_verdict, raise_of, clear_verdict, clear_of}
 use Rattle.model.specs.History.{Call, offer, claim, fill, commit, abort, set_limit, close, clear, raise, Answer, offered, claimed, outcome, World, step, answers, left}
 use Rattle.model.specs.Corollaries.{RisesBy, Rising}
 use Rattle.model.proofs.Choice.{cond-case, split}
-use Rattle.model.proofs.Sound.{sound-true, id-small}
+use Rattle.model.proofs.Sound.{sound-true}
 use Rattle.model.proofs.Cut.{need-some}
 use Rattle.model.proofs.RuleLaws.{trips_by, offer-trips, claim-trips}
 use Rattle.model.proofs.Tails.{reading_with_tail, Tails, moved-reading, moved-tails, rotated-reading, rotated-tails, limit-reading, closed-reading, limit-tails, closed-tails, marked-reading, marked-tails, raised-reading, raised-tails, reached}

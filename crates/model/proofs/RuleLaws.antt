@@ -1,11 +1,10 @@
 -- The deciding rule beside the ladder of refusals: what the verdict and the trip say of it. The code names a rule by these laws.
-use mathlib.Core.Path.{◌≡◌, refl, sym, ap, ap₂, ◌∙◌}
+use mathlib.Core.Path.{◌≡◌, refl, sym, ap, ◌∙◌}
 use mathlib.Core.Bool.{Bool, true, false, cond, ◌&&◌, not}
-use Prim.Native.Nat.{ℕ, ◌+◌, ◌≤◌, ◌<◌}
+use Prim.Native.Nat.{ℕ, ◌+◌}
 use native.Mathlib.Omega.{arith}
 use borrow.Author.Tests.{lt-ltb, le-ltb, leb-true, leb-false}
 use lib.Dec.{eqb, leb, ltb}
-use lib.IntN.{ℤ, pos}
 use Rattle.model.specs.declared.Reading.{Reading}
 use Rattle.model.specs.declared.Error.{Error}
 use Rattle.model.specs.declared.Error.TheVariants.{IllegalArgument, IllegalRecord, PositionOutOfRange, ExceedsMaxPayloadLength, PublicationClosed, AdminAction, MaxPositionExceeded, BackPressured, NotConnected, ExceedsMaxMessageLength, TailOverflow, LastTerm, ActionPossiblyDelayed, ClaimMismatch, NewPositionOutOfRange, NewPositionNotAligned, AssemblyFull, NotCleared, NotDue, FrameTooShort, FramePastTerm}
@@ -17,8 +16,7 @@ use Rattle.model.specs.Errors.{number_of}
 use Rattle.model.specs.FrameDescriptor.{space}
 use Rattle.model.specs.LogBufferDescriptor.{id_minus, payload_limit, message_limit, greatest, sound, last_term}
 use Rattle.model.specs.Rule.{rule_number, rule_place, moves, is_trip, message, claim, holds, order, first_of, decided}
-use Rattle.model.specs.Publication.{refuse_if, place, pressed, after_closed, tail_room, fits, on_trip, need_of, before_append, offer_verdict, claim_verdict}
-use Rattle.model.proofs.Anchors as Anchors
+use Rattle.model.specs.Publication.{refuse_if, place, pressed, after_closed, fits, on_trip, need_of, before_append, offer_verdict, claim_verdict}
 
 -- The rule of a refusal that comes before the append: 6 is the count there, and 7 the limit. The refusals that no offer and no claim gives stand with 1.
 abbrev pub refused_rule : Error → Rule

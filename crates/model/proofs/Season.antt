@@ -1,14 +1,14 @@
 -- A season, proved: opening starts the invariant, every call keeps it, and from any answered position of a term not cleared a log that it
 -- holds of replays to what the history tells from there on.
 use mathlib.Core.Path.{◌≡◌, refl, sym, ap, ap₂, ◌∙◌, subst}
-use mathlib.Core.Logic.{◌⊎◌, inl, inr, ⊎_elim}
+use mathlib.Core.Logic.{◌⊎◌, inl, inr}
 use mathlib.Core.Bool.{Bool, true, false, cond, not}
-use Prim.Native.Nat.{ℕ, zero, suc, ◌+◌, ◌-◌, ◌*◌, ◌/◌, ◌%◌, ◌≤◌, ◌<◌, min}
+use Prim.Native.Nat.{ℕ, zero, suc, ◌+◌, ◌-◌, ◌*◌, ◌/◌, ◌%◌, ◌≤◌, ◌<◌}
 use native.Mathlib.Nat.{mod-eq_of_lt, mul-le-mul_right, le-div_iff_mul-le, zero-add}
 use mathlib.Core.List.{List, [], ◌∷◌, ◌++◌, append_assoc, append-nil}
 use native.Mathlib.Omega.{arith}
 use lib.Dec.{ltb, leb, eqb}
-use lib.ListN.{length, drop, get_or}
+use lib.ListN.{length, drop}
 use lib.Seq.{drop_at}
 use lib.IntN.{ℤ, pos}
 use lib.Signed.{lt_z}
@@ -25,16 +25,15 @@ use Rattle.model.specs.declared.Claimed.{Claimed}
 use Rattle.model.specs.declared.Claimed.TheVariants.{Position as ClaimPosition, Refused as ClaimRefused}
 use Rattle.model.specs.declared.Verdict.{Verdict}
 use Rattle.model.specs.declared.Verdict.TheVariants.{Pass, Refuse}
-use Rattle.model.specs.Bytes.{word, long, zeros}
+use Rattle.model.specs.Bytes.{word, zeros}
 use Rattle.model.specs.FrameDescriptor.{space}
 use Rattle.model.specs.LogBufferDescriptor.{id_bits, id_plus, id_minus, active, id_of, tail_of, reading_of, reading, publisher_position, sound, Sound, is_marked}
 use Rattle.model.specs.Publication.{opened_record, open_verdict, open_by, open_bytes_by, open_of, open_bytes}
 use Rattle.model.specs.FragmentAssembler.{part_length}
-use Rattle.model.specs.TermAppender.{need}
-use Rattle.model.specs.History.{Call, offer, claim, fill, commit, abort, set_limit, close, clear, raise, Answer, offered, claimed, outcome, World, step, answers, left, Shape, shape_of, State, Extent, message, claimed·, padding, size_of, size_all, pad_to, edit, overlay, written·, turned, open·, committed, aborted, start_of, after_done, tell, told, messages, total, learn, Terms, no_terms, tell_terms, told_terms, Given, AllGiven}
+use Rattle.model.specs.History.{Call, offer, claim, fill, commit, abort, set_limit, close, clear, raise, Answer, offered, claimed, outcome, World, step, answers, left, Shape, shape_of, State, Extent, message, claimed·, padding, size_of, size_all, pad_to, edit, written·, turned, open·, committed, aborted, start_of, after_done, tell, told, messages, total, learn, Terms, no_terms, tell_terms, told_terms, Given, AllGiven}
 use Rattle.model.specs.Demand as Demand
 use Rattle.model.specs.Demand.{EndAt, Ends, IsAnswer, Answered, from, Replayed, ReplayedFree, GivesAll, opened, shape, history, cleared_by, Start, Upheld, Season, Demand3}
-use Rattle.model.proofs.Choice.{split, cond-case, le_yes, le-no}
+use Rattle.model.proofs.Choice.{cond-case, le-no}
 use Rattle.model.proofs.RawTail.{raw-bits, raw-id, raw-offset}
 use Rattle.model.proofs.Sound.{sound-true, initial-small}
 use Rattle.model.proofs.Splice.{length-zeros}

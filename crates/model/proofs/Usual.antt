@@ -1,12 +1,12 @@
 -- Where the invariant holds, no call is refused with what cannot come.
 use mathlib.Core.Path.{◌≡◌, refl, sym, ap, ◌∙◌, subst}
 use mathlib.Core.Bool.{Bool, true, false, cond, not}
-use Prim.Native.Nat.{ℕ, ◌+◌, ◌*◌}
+use Prim.Native.Nat.{ℕ, ◌+◌}
 use mathlib.Core.List.{List}
 use borrow.Author.Tests.{eq-eqb, not-true}
 use lib.Dec.{leb, ltb, eqb}
 use lib.ListN.{length}
-use lib.IntN.{ℤ, pos}
+use lib.IntN.{pos}
 use Rattle.model.specs.declared.LogRecord.{LogRecord}
 use Rattle.model.specs.declared.RecordReply.{RecordReply}
 use Rattle.model.specs.declared.Claim.{Claim}
@@ -26,9 +26,9 @@ use Rattle.model.specs.Parts.{located_by}
 use Rattle.model.specs.LogBufferDescriptor.{id_minus, reading, active, payload_limit, greatest, good_position, good_partition, sound_record, sound, last_term, is_ready, with_closed, with_mark, with_slowest}
 use Rattle.model.specs.TermAppender.{claim_record}
 use Rattle.model.specs.BufferClaim.{good_claim, matches, claim_start, claim_check, outcome_of, body_start, body_end, locate_of, write_span, write_outcome, commit_of}
-use Rattle.model.specs.Publication.{place, pressed, after_closed, tail_room, fits, on_trip, trip_error, too_long, need_of, before_append, offer_verdict, offered_by, offer_of, claim_verdict, claimed_by, claim_of, change_of, reply_by, not_due, clear_verdict, clear_of, raise_verdict, raise_of}
-use Rattle.model.specs.History.{Call, offer, claim, fill, commit, abort, set_limit, close, clear, raise, World, step, Shape, shape_of, Extent, Terms}
-use Rattle.model.specs.Corollaries.{rare, UsualOffered, UsualClaimed, UsualOutcome, UsualAnswer, Usual}
+use Rattle.model.specs.Publication.{place, pressed, after_closed, fits, on_trip, trip_error, too_long, need_of, before_append, offer_verdict, offered_by, offer_of, claim_verdict, claimed_by, claim_of, change_of, reply_by, not_due, clear_verdict, clear_of, raise_verdict, raise_of}
+use Rattle.model.specs.History.{Call, offer, claim, fill, commit, abort, set_limit, close, clear, raise, World, step, shape_of, Extent, Terms}
+use Rattle.model.specs.Corollaries.{rare, UsualOffered, UsualClaimed, UsualOutcome, Usual}
 use Rattle.model.proofs.Choice.{cond-case}
 use Rattle.model.proofs.Both.{and-true}
 use Rattle.model.proofs.RuleLaws.{trips_by, offer-trips, claim-trips}

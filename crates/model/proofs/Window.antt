@@ -4,22 +4,22 @@
 -- in both.
 use mathlib.Core.Path.{◌≡◌, refl, sym, ap, ap₂, ◌∙◌, subst}
 use mathlib.Core.Bool.{Bool}
-use Prim.Native.Nat.{ℕ, zero, suc, ◌+◌, ◌-◌, ◌*◌, ◌%◌, ◌≤◌, ◌<◌, min}
+use Prim.Native.Nat.{ℕ, zero, suc, ◌+◌, ◌-◌, ◌*◌, ◌%◌, ◌≤◌, ◌<◌}
 use native.Mathlib.Nat.{mul-le-mul_right}
 use native.Mathlib.Omega.{arith}
 use mathlib.Core.List.{List, [], ◌∷◌, ◌++◌}
-use lib.ListN.{length, take, drop, get_or, length-append, length-take, length-drop, take-append-drop, get_or-append}
+use lib.ListN.{length, take, drop, get_or, length-take, length-drop, take-append-drop, get_or-append}
 use lib.Seq.{length-take-le, get_or-take, get_or-drop, get_or-append-add, ext_get_or, drop-drop}
 use Rattle.model.specs.declared.Reading.{Reading}
 use Rattle.model.specs.declared.Frame.{Frame}
 use Rattle.model.specs.declared.Frame.TheVariants.{Absent, Unsound, Padding, Data}
-use Rattle.model.specs.Bytes.{splice, zeros, u16, u32, le2, le4, le8}
+use Rattle.model.specs.Bytes.{splice, u16, u32, le2, le4, le8}
 use Rattle.model.specs.FrameDescriptor.{align, space, frame_by, frame_length_of, frame_at, flags_at, ends}
 use Rattle.model.specs.DataFrameHeader.{header24, header_bytes}
 use Rattle.model.specs.TermReader.{Walked, still, over, handed_by, next_action, passed, walk}
 use Rattle.model.specs.TermAppender.{header, Fragment, fragment, body_of, fragment_bytes, written, sizes}
 use Rattle.model.proofs.Choice.{split, same?, le_yes, le-no}
-use Rattle.model.proofs.Splice.{length-splice, length-zeros}
+use Rattle.model.proofs.Splice.{length-splice}
 
 -- ---- bytes laid over a log, byte by byte
 

@@ -2,7 +2,6 @@
 -- number and whether the tail has moved. Proved in proofs/DecidingRule.antt.
 use Rattle.std.specs.Prelude.{◌≡◌, ℕ, ◌+◌, ◌≤◌, true, false, List, length, ℤ}
 use Rattle.model.specs.declared.LogRecord.{LogRecord}
-use Rattle.model.specs.declared.Reading.{Reading}
 use Rattle.model.specs.declared.Rule.{Rule}
 use Rattle.model.specs.declared.OfferReply.{OfferReply}
 use Rattle.model.specs.declared.ClaimReply.{ClaimReply}

@@ -1,6 +1,6 @@
 -- An image: its polls, the peek, the block poll, and its position ("Reading" in document 01). A call answers and hands the next image
 -- back. In order: 1, 2, closed, 3, 15, 16, 22 or 23. Read FragmentAssembler next.
-use Rattle.std.specs.Prelude.{ℕ, ◌+◌, ◌-◌, ◌*◌, ◌%◌, min, Bool, true, false, cond, ◌&&◌, ◌||◌, not, List, [], ◌∷◌, eqb, leb, ltb, length, drop, ℤ, pos}
+use Rattle.std.specs.Prelude.{ℕ, ◌+◌, ◌-◌, ◌*◌, ◌%◌, min, Bool, true, false, cond, ◌&&◌, ◌||◌, not, List, [], eqb, leb, ltb, length, drop, ℤ, pos}
 use Rattle.std.specs.Int.Signed.{le_z}
 use Rattle.std.specs.Int.{w32}
 use Rattle.std.proofs.Common.{to_z}
@@ -23,7 +23,7 @@ use Rattle.model.specs.declared.EndOfStream.TheVariants.{Is, Refused as EndRefus
 use Rattle.model.specs.Bytes.{long}
 use Rattle.model.specs.DataFrameHeader.{header_at}
 use Rattle.model.specs.FrameDescriptor.{unsound_frame_at}
-use Rattle.model.specs.LogBufferDescriptor.{partition_of, reading, greatest, good_position, sound}
+use Rattle.model.specs.LogBufferDescriptor.{partition_of, reading, good_position, sound}
 use Rattle.model.specs.TermReader.{Walked, walk, first_unsound, natural, good_entries, good_actions, good_control, laid}
 use Rattle.model.specs.TermScan.{scan_from}
 

@@ -1,6 +1,6 @@
 -- By what was located: type and length are stored before the body.
 use Rattle.std.proofs.Common.{◌≡◌, ℕ, ◌-◌, ◌≤◌, List, length, sym, ◌∙◌, ap₂, arith, w32, SFits, rules}
-use Rattle.model.specs.Bytes.{word, splice, le4}
+use Rattle.model.specs.Bytes.{splice, le4}
 use Rattle.model.specs.BufferClaim.{locate_of}
 use Rattle.model.specs.declared.Located.TheVariants.{Span}
 use Rattle.model.proofs.BufferClaim.{span-in, refuses, commits, aborts}

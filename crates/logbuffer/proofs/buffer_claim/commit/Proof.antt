@@ -3,9 +3,8 @@ use Rattle.std.proofs.Common.{◌≡◌, ℕ, ◌+◌, ◌-◌, ◌≤◌, true,
 use borrow.Author.Tests.{not-true, not-false}
 use Rattle.model.specs.Bytes.{word, splice, le4}
 use Rattle.model.specs.LogBufferDescriptor.{sound, Sound}
-use Rattle.model.specs.BufferClaim.{good_claim, commit_of, commit_bytes}
+use Rattle.model.specs.BufferClaim.{good_claim}
 use Rattle.model.specs.FrameDescriptor.{align}
-use Rattle.model.specs.declared.Outcome.TheVariants.{Done}
 use Rattle.model.proofs.Sound.{sound-true}
 use Rattle.model.proofs.BufferClaim.{good-claim-true, claim-inside, locate-bad, locate-unsound, locate-mismatch, locate-span, refuses, commits}
 use Rattle.logbuffer.proofs.Signed.{word-by}

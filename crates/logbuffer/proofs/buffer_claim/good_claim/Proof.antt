@@ -1,7 +1,6 @@
 -- A test that fails settles the conjunction.
 use Rattle.std.proofs.Common.{◌≡◌, w32, SFits, rules, eq-eqb, ne_eqb, le-leb}
 use borrow.Author.Tests.{lt-leb}
-use Rattle.model.specs.Bytes.{word}
 use Rattle.model.specs.BufferClaim.{good_claim}
 use Rattle.logbuffer.proofs.Signed.{word-by}
 use Rattle.logbuffer.proofs.Claims.{good_numbers, good-by}

@@ -1,9 +1,8 @@
 -- The bits put together are those of the three tails and of the claim's offset, and no bit is lost.
-use Rattle.std.proofs.Common.{◌≡◌, ℕ, ◌<◌, ℤ, ap, ◌∙◌, ap₂, arith, to_z-of_z, w32, w64, SFits, rules}
+use Rattle.std.proofs.Common.{◌≡◌, ◌<◌, ℤ, ap, ◌∙◌, ap₂, arith, to_z-of_z, w32, w64, SFits, rules}
 use lib.Bits.{bit_or, or_lt}
 use mir.Facts.{of_z-to_z}
-use Rattle.model.specs.Bytes.{word, long}
-use Rattle.model.specs.LogBufferDescriptor.{tail_of}
+use Rattle.model.specs.Bytes.{long}
 use Rattle.logbuffer.specs.Reads.{reading_with, reading_by}
 use Rattle.logbuffer.specs.Commits.{all_bits}
 use Rattle.logbuffer.proofs.Signed.{word-by, long-by}

@@ -1,6 +1,5 @@
 -- The sum of a product of two 32-bit numbers and a third is a machine number.
 use Rattle.std.proofs.Common.{ℕ, ◌+◌, ◌*◌, ap₂, arith, w32, SFits, rules}
-use Rattle.model.specs.Bytes.{word}
 use Rattle.logbuffer.proofs.Signed.{word-by}
 use Rattle.logbuffer.proofs.Claims.{start_small}
 use Rattle.logbuffer.proofs.buffer_claim.start.Statement.{statement}

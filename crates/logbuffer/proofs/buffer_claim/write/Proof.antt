@@ -1,5 +1,5 @@
 -- Too many bytes are refused first; then by what was located: the bytes are laid over the body.
-use Rattle.std.proofs.Common.{◌≡◌, ℕ, ◌-◌, ◌≤◌, min, List, length, take, drop, sym, ap, ◌∙◌, arith, take_all, rules}
+use Rattle.std.proofs.Common.{◌≡◌, ℕ, ◌-◌, min, List, length, take, drop, sym, ap, ◌∙◌, arith, take_all, rules}
 use lib.Seq.{take-length}
 use Rattle.model.specs.Bytes.{splice}
 use Rattle.model.specs.BufferClaim.{write_span, write_outcome, write_over}

@@ -1,5 +1,5 @@
 -- A length that is finished, has a header, and ends in the log.
-use Rattle.std.proofs.Common.{◌≡◌, ℕ, ◌+◌, ◌-◌, ◌<◌, ◌≤◌, leb, length, sym, ◌∙◌, arith, rules, le-leb}
+use Rattle.std.proofs.Common.{◌≡◌, ℕ, ◌+◌, ◌-◌, ◌≤◌, leb, length, sym, ◌∙◌, arith, rules, le-leb}
 use borrow.Author.Tests.{lt-leb}
 use Rattle.model.proofs.Choice.{split}
 use Rattle.logbuffer.proofs.Assembly.{framed-unfinished, framed-short, framed-by}

@@ -1,7 +1,7 @@
 -- Each test that fails refuses; behind them the frame is joined.
-use Rattle.std.proofs.Common.{◌≡◌, ◌+◌, Bool, true, false, ◌&&◌, eqb, leb, length, drop, sym, ap, ◌∙◌, ap₂, arith, rules, ne_eqb}
+use Rattle.std.proofs.Common.{◌≡◌, Bool, false, ◌&&◌, eqb, leb, length, sym, ap, ◌∙◌, arith, rules, ne_eqb}
 use borrow.Author.Tests.{not-true, not-false, lt-leb}
-use Rattle.model.specs.FragmentAssembler.{Sessions, joined_at}
+use Rattle.model.specs.FragmentAssembler.{Sessions}
 use Rattle.model.proofs.Both.{and-false}
 use Rattle.logbuffer.specs.Assembler.{sessions_as, Framed, is_framed}
 use Rattle.logbuffer.proofs.Assembly.{framed-true, not-joined, join-yes, enters-as, join-no}

@@ -3,7 +3,6 @@ use Rattle.std.proofs.Common.{ℕ, ◌+◌, ◌*◌, ◌/◌, ◌≤◌, length,
 use borrow.Author.Tests.{not-true, not-false}
 use Rattle.model.specs.Bytes.{splice}
 use Rattle.model.specs.FrameDescriptor.{ends}
-use Rattle.logbuffer.specs.Fragments.{joins, behind}
 use Rattle.logbuffer.specs.declared.fragment_assembler.Laid.{Laid}
 use Rattle.logbuffer.proofs.Fragments.{lays-nowhere, lays-other, lays-empty, lays-long, lays-past, lays}
 use Rattle.logbuffer.proofs.fragment_assembler.lay_fragment.Statement.{statement}

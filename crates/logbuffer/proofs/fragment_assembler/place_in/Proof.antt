@@ -1,5 +1,5 @@
 -- The loop goes over the ids that it passed: the session's place is i and its place among those left.
-use Rattle.std.proofs.Common.{◌≡◌, ℕ, ◌-◌, ◌≤◌, take, ℤ, sym, ap, ◌∙◌, arith, to_z-of_z, w32, to_z, of_z, rules}
+use Rattle.std.proofs.Common.{◌-◌, ◌≤◌, take, ℤ, sym, ap, ◌∙◌, arith, to_z-of_z, w32, to_z, of_z, rules}
 use Rattle.model.specs.FragmentAssembler.{place_in}
 use Rattle.logbuffer.proofs.Sessions.{Left, left-all, left_here, left-on, left-none}
 use Rattle.logbuffer.proofs.fragment_assembler.place_in.Statement.{statement}

@@ -1,5 +1,5 @@
 -- Where the term has room the header is written over it, its length last, else nothing is.
-use Rattle.std.proofs.Common.{◌+◌, ◌-◌, sym, ap, ◌∙◌, arith, rules, le-ltb, lt-ltb}
+use Rattle.std.proofs.Common.{◌+◌, ◌-◌, arith, rules, le-ltb, lt-ltb}
 use Rattle.model.specs.TermAppender.{padded}
 use Rattle.logbuffer.proofs.Headers.{finished-by}
 use Rattle.logbuffer.proofs.header.write_padding.Statement.{statement}

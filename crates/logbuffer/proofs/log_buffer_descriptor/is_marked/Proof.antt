@@ -1,6 +1,6 @@
 -- One of the three marks, and none past them.
-use Rattle.std.proofs.Common.{◌≡◌, ℕ, Bool, false, length, get_or, sym, ap, ◌∙◌, arith, rules}
-use lib.ListN.{length-map, get_or-eq_default}
+use Rattle.std.proofs.Common.{◌≡◌, ℕ, false, length, get_or, sym, ap, arith, rules}
+use lib.ListN.{get_or-eq_default}
 use Rattle.logbuffer.proofs.log_buffer_descriptor.is_marked.Statement.{statement}
 use Rattle.logbuffer.proofs.log_buffer_descriptor.is_marked.Tie as tie
 

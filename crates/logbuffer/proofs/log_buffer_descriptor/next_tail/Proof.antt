@@ -1,5 +1,5 @@
 -- By the next partition's term id; its mark goes on both ways.
-use Rattle.std.proofs.Common.{◌≡◌, ℕ, ◌+◌, ◌%◌, ◌<◌, false, sym, ap, ◌∙◌, subst, arith, rules}
+use Rattle.std.proofs.Common.{◌≡◌, ℕ, ◌+◌, ◌%◌, ◌<◌, false, sym, ap, ◌∙◌, subst, rules}
 use Rattle.model.specs.declared.LogRecord.{LogRecord}
 use Rattle.model.specs.declared.Reading.{Reading}
 use Rattle.model.specs.LogBufferDescriptor.{id_plus, with_tail, with_mark, reading_of}

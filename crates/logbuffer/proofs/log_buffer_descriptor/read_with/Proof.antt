@@ -1,5 +1,5 @@
 -- Each number is what its cast says of its field; a signed field passed on is the field.
-use Rattle.std.proofs.Common.{◌≡◌, ℕ, ◌/◌, ◌<◌, ℤ, ap, ◌∙◌, arith, to_z-of_z, w32, w64, SFits, of_z, rules}
+use Rattle.std.proofs.Common.{◌≡◌, ℕ, ◌/◌, ◌<◌, ℤ, ap, ◌∙◌, arith, to_z-of_z, w32, w64, SFits, rules}
 use Rattle.model.specs.declared.LogRecord.{LogRecord}
 use Rattle.model.specs.Bytes.{word, long}
 use Rattle.model.specs.LogBufferDescriptor.{id_bits, id_of, term_id_of, offset_of}

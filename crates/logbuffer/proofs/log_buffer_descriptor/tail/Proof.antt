@@ -1,6 +1,6 @@
 -- One of the three tails, and 0 past them.
-use Rattle.std.proofs.Common.{◌≡◌, ℕ, length, get_or, ℤ, pos, sym, ap, ◌∙◌, arith, w64, to_z, of_z, rules}
-use lib.ListN.{length-map, get_or-eq_default}
+use Rattle.std.proofs.Common.{◌≡◌, ℕ, length, get_or, pos, sym, ap, ◌∙◌, arith, w64, to_z, of_z, rules}
+use lib.ListN.{get_or-eq_default}
 use Rattle.logbuffer.proofs.log_buffer_descriptor.tail.Statement.{statement}
 use Rattle.logbuffer.proofs.log_buffer_descriptor.tail.Tie as tie
 

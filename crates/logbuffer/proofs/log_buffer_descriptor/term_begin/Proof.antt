@@ -1,5 +1,5 @@
 -- The count is a signed number of 32 bits, and shifted by at most 30 it fits.
-use Rattle.std.proofs.Common.{◌≡◌, ◌*◌, ◌%◌, ◌^◌, ◌<◌, ℤ, pos, ◌*ℤ◌, ap, ◌∙◌, arith, pow_pos, w32, w64, SFits, to_z, of_z, rules}
+use Rattle.std.proofs.Common.{◌≡◌, ◌*◌, ◌%◌, ◌^◌, ◌<◌, ℤ, ap, ◌∙◌, arith, pow_pos, w32, w64, SFits, to_z, of_z, rules}
 use mir.Facts.{sfits_to_z, sfits_widen}
 use Rattle.model.specs.LogBufferDescriptor.{id_minus}
 use Rattle.logbuffer.proofs.Signed.{lands, asks}

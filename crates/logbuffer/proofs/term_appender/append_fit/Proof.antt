@@ -1,7 +1,6 @@
 -- Where the frame fits it lies inside its partition, and so in the log.
 use Rattle.std.proofs.Common.{◌≡◌, ℕ, ◌*◌, true, [], ◌∷◌, length, sym, ap, ◌∙◌, arith, rules}
 use borrow.Author.Tests.{not-true, not-false}
-use Rattle.model.specs.FrameDescriptor.{space}
 use Rattle.model.specs.TermAppender.{fragment, written}
 use Rattle.model.proofs.Choice.{cond-true, cond-false}
 use Rattle.logbuffer.specs.Ways.{frame_fits}

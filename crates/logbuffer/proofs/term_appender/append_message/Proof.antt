@@ -1,5 +1,5 @@
 -- The record's numbers are read, and the way that the append goes makes the reply.
-use Rattle.std.proofs.Common.{ℤ, ap, ◌∙◌, to_z-of_z, rules}
+use Rattle.std.proofs.Common.{ap, ◌∙◌, to_z-of_z, rules}
 use Rattle.model.specs.Bytes.{word, long}
 use Rattle.logbuffer.proofs.Ways.{message-by}
 use Rattle.logbuffer.proofs.term_appender.append_message.Statement.{statement}

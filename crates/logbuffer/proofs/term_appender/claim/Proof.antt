@@ -1,5 +1,5 @@
 -- The record's numbers are read, and the way that the claim goes makes the reply.
-use Rattle.std.proofs.Common.{◌≡◌, ◌<◌, length, ℤ, sym, ap, ◌∙◌, subst, to_z-of_z, rules}
+use Rattle.std.proofs.Common.{◌≡◌, ◌<◌, length, sym, ap, ◌∙◌, subst, to_z-of_z, rules}
 use Rattle.model.specs.declared.Reading.{Reading}
 use Rattle.model.specs.Bytes.{word}
 use Rattle.model.proofs.Sound.{id-small, offset-small}

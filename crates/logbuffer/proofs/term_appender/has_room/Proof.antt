@@ -1,5 +1,5 @@
 -- A test that fails settles the conjunction; an offset of 31 bits makes no sum too large.
-use Rattle.std.proofs.Common.{◌*◌, arith, rules, eq-eqb, ne_eqb, le-leb}
+use Rattle.std.proofs.Common.{rules, eq-eqb, ne_eqb, le-leb}
 use borrow.Author.Tests.{lt-leb}
 use Rattle.logbuffer.specs.Ways.{has_room}
 use Rattle.logbuffer.proofs.term_appender.has_room.Statement.{statement}

@@ -1,5 +1,5 @@
 -- Row 1 is judged, of the numbers and of the handler's answers, and the walk answers the rest.
-use Rattle.std.proofs.Common.{◌≡◌, Bool, true, false, ◌&&◌, length, sym, ap, ◌∙◌, ap₂, arith, rules}
+use Rattle.std.proofs.Common.{◌≡◌, Bool, true, ◌&&◌, length, sym, ap, ◌∙◌, ap₂, arith, rules}
 use borrow.Author.Tests.{not-true, not-false}
 use Rattle.model.specs.TermReader.{good_walk, good_handler}
 use Rattle.model.proofs.ReaderLaws.{good-walk-true, frames-refused, frames-by}

@@ -1,5 +1,5 @@
 -- The span is located, and told by its number.
-use Rattle.std.proofs.Common.{◌≡◌, length, sym, ap, ◌∙◌, to_z-of_z, w32, rules}
+use Rattle.std.proofs.Common.{◌≡◌, sym, ap, ◌∙◌, to_z-of_z, w32, rules}
 use Rattle.model.specs.TermReader.{view_of}
 use Rattle.model.specs.Parts.{located_number}
 use Rattle.logbuffer.proofs.Signs.{passed_on}

@@ -1,6 +1,6 @@
 -- The loop keeps `Going` of model's WalkLoop, with what is settled left open: nobody asks for it here. Each turn and each way out cites its
 -- law there.
-use Rattle.std.proofs.Common.{◌≡◌, ℕ, ◌+◌, ◌-◌, ◌*◌, ◌/◌, ◌%◌, ◌≤◌, cond, [], length, drop, pos, sym, refl, ap, ◌∙◌, arith, length-set, w32, to_z, rules}
+use Rattle.std.proofs.Common.{◌≡◌, ℕ, ◌+◌, ◌-◌, ◌*◌, ◌/◌, ◌%◌, cond, [], length, drop, pos, sym, refl, ap, ◌∙◌, arith, length-set, w32, to_z, rules}
 use mir.Facts.{to_z_pos}
 use Rattle.model.specs.declared.Frame.TheVariants.{Padding, Data}
 use Rattle.model.specs.FrameDescriptor.{frame_at, flags_at, ends}

@@ -1,6 +1,5 @@
 -- Every way but a refusal stores the tail, at the constant that k is.
-use Rattle.std.proofs.Common.{◌≡◌, length, ℤ, sym, ◌∙◌, arith, to_z-of_z, w64, rules}
-use lib.ListN.{length-map}
+use Rattle.std.proofs.Common.{◌≡◌, length, ◌∙◌, arith, to_z-of_z, w64, rules}
 use Rattle.logbuffer.proofs.Ways.{tail-moves, none_moves, refused-moves}
 use Rattle.logbuffer.proofs.way.moved.Statement.{statement}
 use Rattle.logbuffer.proofs.way.moved.Tie as tie

@@ -1,6 +1,5 @@
 -- The rows are judged at the place that is read; a frame that passes them is joined.
-use Rattle.std.proofs.Common.{◌≡◌, ℕ, ◌+◌, ◌*◌, length, drop, ℤ, sym, ap, ◌∙◌, arith, to_z-of_z, w32, to_z, of_z, rules}
-use lib.ListN.{length-map}
+use Rattle.std.proofs.Common.{◌≡◌, ◌+◌, ◌*◌, length, drop, ℤ, sym, ap, ◌∙◌, arith, to_z-of_z, w32, to_z, of_z, rules}
 use Rattle.model.specs.declared.Place.{Place}
 use Rattle.model.specs.declared.Verdict.{Verdict}
 use Rattle.model.specs.declared.Verdict.TheVariants.{Pass, Refuse}
