@@ -1,5 +1,6 @@
 // What the programs share: bytes of a slice at any index. What lies past the end is cut off, or reads as 0.
 #![tactic(auto)]
+
 ghost use Rattle.std.specs.Prelude.{◌≡◌, ◌++◌, ◌+◌, ◌-◌, ◌<◌, min, length, take, drop, get_or};
 
 pub fn least(a: usize, b: usize) -> usize
@@ -36,7 +37,8 @@ pub fn byte(bytes: &[u8], at: usize) -> usize
 pub fn copy(to: &mut [u8], from: &[u8])
     ensures { to.new ≡ take (length to.old) from.now ++ drop (length from.now) to.old }
 {
-    bytes::copy(part(from, 0, to.len()), to);
+    let n = least(to.len(), from.len());
+    to[..n].copy_from_slice(&from[..n]);
 }
 
 // As many bytes as there is room for, over those of `to` from an index on.

@@ -42,9 +42,9 @@ take c =
     let s = st c in
     let a = s.args in
     let b = c in
-    taken a.rec a.log.now a.from a.to s.fits.from s.fits.to (sym b.in-Pass.is ∙ rows (judged c)) _ _ _ _
+    taken a.rec a.log.now a.from a.to s.ranges.from s.ranges.to (sym b.in-Pass.is ∙ rows (judged c)) _ _ _ _
     (b.word.ensures.0 ∙ search rules) b.position_bits_to_shift-bits.ensures
-    (long-by a.from c.long-start.ensures.0 s.fits.from) (long-by a.to c.long-end.ensures.0 s.fits.to)
+    (long-by a.from c.long-start.ensures.0 s.ranges.from) (long-by a.to c.long-end.ensures.0 s.ranges.to)
 
 -- the first term's id is one of 32 bits
 first-id : (c : tie.After-long-end) → SFits w32 (st c).args.rec.initial_term_id
@@ -89,7 +89,7 @@ returns-3 c =
     y.why-stop.ensures ∙ ap (λ (z : ℤ). why (stream_by (bits c.before.before.before.before.before.before) (word z) (st c.before.before.before.before.before.before).args.log.now) n w.between-w.result.end) (to_z-of_z (first-id c.before.before.before.before.before.before)) in
     ap (λ (x : Stop). Tally w.between-w.result.sums (to_z w64 w.between-w.result.end) x) r
     ∙ ap (λ (x : ℤ). Tally w.between-w.result.sums x (why s n w.between-w.result.end)) (to_z_pos w64 (ended c.before.before.before))
-    ∙ ap (λ (x : Walked). Tally x.sums-1 (pos x.end) (why s n x.end)) (walk c.before.before.before)
+    ∙ ap (λ (x : Walked). Tally x.sums (pos x.end) (why s n x.end)) (walk c.before.before.before)
     ∙ answer c.before.before.before.before.before Pass w.in-Pass-first_frame.is
 
 pub tally_spec : {M : Type 1} → statement M

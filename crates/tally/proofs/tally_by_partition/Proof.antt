@@ -46,9 +46,9 @@ take c =
     let s = st c in
     let a = s.args in
     let b = c in
-    taken a.rec a.log.now a.from a.to s.fits.from s.fits.to (sym b.in-Pass.is ∙ rows (judged c)) _ _ _ _
+    taken a.rec a.log.now a.from a.to s.ranges.from s.ranges.to (sym b.in-Pass.is ∙ rows (judged c)) _ _ _ _
     (b.word.ensures.0 ∙ search rules) b.position_bits_to_shift-bits.ensures
-    (long-by a.from c.long-start.ensures.0 s.fits.from) (long-by a.to c.long-end.ensures.0 s.fits.to)
+    (long-by a.from c.long-start.ensures.0 s.ranges.from) (long-by a.to c.long-end.ensures.0 s.ranges.to)
 
 -- the first term's id is one of 32 bits
 first-id : (c : tie.After-long-end) → SFits w32 (st c).args.rec.initial_term_id
@@ -56,16 +56,16 @@ first-id c = search rules
 
 -- the answer, by the third test and the first frame's verdict
 answer : (c : tie.After-in_three) (b : Bool) (y : Verdict) → let l = c in let a = (st c.before).args in
-    c.in_three_lem.result ≡ b → y ≡ first_frame (2 ^ min (bits c.before) 30) a.log.now (start c.before) l.long-end.result
+    c.in_three.result ≡ b → y ≡ first_frame (2 ^ min (bits c.before) 30) a.log.now (start c.before) l.long-end.result
     → partitioned_by (stream c.before) (start c.before) l.long-end.result (cond b y (Refuse IllegalArgument)) ≡ partition_tally_of a.rec a.log.now a.from a.to
 answer c b y eb ey =
     let l = c in
     let a = (st c.before).args in
-    partition-by a.rec a.log.now a.from a.to (bits c.before) (start c.before) l.long-end.result (take c.before) b y (sym c.in_three_lem.ensures ∙ eb) ey
+    partition-by a.rec a.log.now a.from a.to (bits c.before) (start c.before) l.long-end.result (take c.before) b y (sym c.in_three.ensures ∙ eb) ey
 
 -- where the test passes
 in_three_lem : (c : tie.Else-not-in_three) → let l = c in in_three (2 ^ min (bits c.before.before) 30) (start c.before.before) l.long-end.result ≡ true
-in_three_lem c = sym c.in_three_lem.ensures ∙ not-false _ c.if-not-in_three.false-raw
+in_three_lem c = sym c.in_three.ensures ∙ not-false _ c.if-not-in_three.false-raw
 
 three : (c : tie.Else-not-in_three) → let l = c in l.long-end.result ≤ (start c.before.before / (stream c.before.before).term + 3) * (stream c.before.before).term
 unfolding stream_by
@@ -105,7 +105,7 @@ added : (c : tie.After-by_partition-w) → total (all_of c.by_partition-w.result
 added c =
     let l = read c in
     let o = (take l).ordered in
-    omega (arith, ap (λ (x : Parted). total (all_of x.sums-1)) (parted c), total-low (stream l) (start l) l.long-end.result o.0 (three (tested c)), o.1)
+    omega (arith, ap (λ (x : Parted). total (all_of x.sums)) (parted c), total-low (stream l) (start l) l.long-end.result o.0 (three (tested c)), o.1)
 
 returns-4 : tie.Need-returns-in-Pass-first_frame
 returns-4 c =
@@ -118,10 +118,10 @@ returns-4 c =
     let x = w.by_partition-w.result in
     let r : y.why-stop.result ≡ why s n x.end = y.why-stop.ensures ∙ ap (λ (z : ℤ). why (stream_by (bits l) (word z) (st l).args.log.now) n x.end) (to_z-of_z (first-id l)) in
     let f = c in
-    ap (λ (q : Stop). Tally x.sums-1 t.together.result (to_z w64 x.end) q) r
-    ∙ ap (λ (q : Sums). Tally x.sums-1 q (to_z w64 x.end) (why s n x.end)) t.together.ensures
-    ∙ ap (λ (q : ℤ). Tally x.sums-1 (all_of x.sums-1) q (why s n x.end)) (to_z_pos w64 (ended c.before.before.before.before))
-    ∙ ap (λ (q : Parted). Tally q.sums-1 (all_of q.sums-1) (pos q.end) (why s n q.end)) (parted c.before.before.before.before)
+    ap (λ (q : Stop). Tally x.sums t.together.result (to_z w64 x.end) q) r
+    ∙ ap (λ (q : Sums). Tally x.sums q (to_z w64 x.end) (why s n x.end)) t.together.ensures
+    ∙ ap (λ (q : ℤ). Tally x.sums (all_of x.sums) q (why s n x.end)) (to_z_pos w64 (ended c.before.before.before.before))
+    ∙ ap (λ (q : Parted). Tally q.sums (all_of q.sums) (pos q.end) (why s n q.end)) (parted c.before.before.before.before)
     ∙ answer c.before.before.before.before.before.before.before.before true Pass (not-false _ f.if-not-in_three.false-raw) (sym w.in-Pass-first_frame.is ∙ f.first_frame.ensures)
 
 pub tally_by_partition_spec : {M : Type 1} → statement M

@@ -25,7 +25,7 @@ returns c =
     let z : to_z w64 (of_z w64 f.result.position) ≡ f.result.position = to_z-of_z {w = w64} {z = f.result.position} (search rules) in
     let k = to-term v a.log.now (state_of a.self) two true 1 [] ∙ as-numbers a.log.now (state_of a.self) two (pos 1) v 1 true refl refl ∙ as-poll a.log.now (state_of a.self) two (pos 1) v a.rec c.read_active-v.ensures in
     let n = replied v a.log.now (state_of a.self) two true 1 [] (end_offset v (long a.self.position) 9223372036854775807) _ f.result z f.ensures.0 in
-    (n ∙ ap poll_reply_of k, to_z-of_z {w = w32} {z = get_or f.new.entries.1.1.0 0 (pos 0)} (search rules) ∙ ap (λ (s : List ℤ). get_or s 0 (pos 0)) (f.ensures.1 ∙ ap (λ x. x.slots) k))
+    (n ∙ ap poll_reply_of k, to_z-of_z {w = w32} {z = get_or f.new.entries 0 (pos 0)} (search rules) ∙ ap (λ (s : List ℤ). get_or s 0 (pos 0)) (f.ensures.1 ∙ ap (λ x. x.slots) k))
 
 pub poll_one_spec : {M : Type 1} → statement M
 poll_one_spec =

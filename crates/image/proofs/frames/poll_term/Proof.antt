@@ -80,10 +80,10 @@ returns c =
     let s = st c.before.before.before.before.before.before in
     let a = s.args in
     let d = c in
-    let e = d.enum_told-in_default-1.given in
-    let u = on-unsound a.v a.log.now a.entries.now a.limit q.long-p.result _ (p-is c.before.before.before.before.before.before) f.frames_on-read.result _ f.frames_on-read.ensures.0 f.frames_on-read.ensures.1 _ e.1 in
+    let e = d.in_default.is in
+    let u = on-unsound a.v a.log.now a.entries.now a.limit q.long-p.result _ (p-is c.before.before.before.before.before.before) f.frames_on-read.result _ f.frames_on-read.ensures.0 f.frames_on-read.ensures.1 _ e in
     let x = poll-by a.v a.log.now (state_of a.image) a.good a.v.term a.limit true u.0 (told c.before.before.before.before.before.before) in (
-      stays s (Refused d.read_refusal.result) ∙ ap {B = PolledTo} (λ (y : Error). record { position = a.image.position; answer = Refused y }) (d.read_refusal.ensures ∙ ap read_refusal e.1 ∙ u.1.1) ∙ ap (said s) x,
+      stays s (Refused d.read_refusal.result) ∙ ap {B = PolledTo} (λ (y : Error). record { position = a.image.position; answer = Refused y }) (d.read_refusal.ensures ∙ ap read_refusal e ∙ u.1.1) ∙ ap (said s) x,
       u.1.0 ∙ ap (wrote s) x,
     )
 

@@ -35,7 +35,7 @@ returns c =
     let w = c in
     let s = c in
     let k = whole-answer (stream c.before.before.before.before) s.args.from s.args.to s.requires.0.0 (three c.before.before.before.before) (sym (ap (λ (x : Parts). x.whole) (parts c.before.before)) ∙ i.if-parts.true) in
-    ap₂ told (ap (λ (x : Parts). x.sums-1) (parts c.before.before) ∙ k.0) k.1
+    ap₂ told (ap (λ (x : Parts). x.sums) (parts c.before.before) ∙ k.0) k.1
 
 -- one stopped short; the walk in stream order
 walks : (c : tie.After-between-w) → let s = c in c.between-w.result ≡ walk_of (stream c.before.before.before.before) s.args.from s.args.to
@@ -63,7 +63,7 @@ returns-2 c =
     let p = c in
     let s = c in
     let k = short-answer (stream c.before.before.before.before.before.before) s.args.from s.args.to s.requires.0.0 (three c.before.before.before.before.before.before) (sym (ap (λ (x : Parts). x.whole) (parts c.before.before.before.before)) ∙ i.if-parts.false) in
-    ap₂ told (ap (λ (x : Parts). x.sums-1) (parts-2 c.before) ∙ ap (by_parts (stream c.before.before.before.before.before.before) s.args.from) (ends c.before.before) ∙ k.0) (ends c.before.before ∙ k.1)
+    ap₂ told (ap (λ (x : Parts). x.sums) (parts-2 c.before) ∙ ap (by_parts (stream c.before.before.before.before.before.before) s.args.from) (ends c.before.before) ∙ k.0) (ends c.before.before ∙ k.1)
 
 pub by_partition_spec : {M : Type 1} → statement M
 by_partition_spec = tie.close (tie.spec (λ c κs. search rules) returns (λ c κs. search rules) again returns-2)

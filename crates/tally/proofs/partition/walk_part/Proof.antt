@@ -57,14 +57,14 @@ end_is c =
 
 -- a part by its walk and its end
 abbrev tell : Walked → ℕ → Part
-tell w end = record { sums = w.sums-1; whole = eqb w.end end }
+tell w end = record { sums = w.sums; whole = eqb w.end end }
 
 walks : (c : tie.After-between-w) → let s = st c.before.before.before.before.before.before in
     c.between-w.result ≡ walk_of (stream_by s.args.bits (word s.args.initial) s.args.log.now) c.edge-start.result c.edge-end.result
 walks c =
     let s = st c.before.before.before.before.before.before in
     c.between-w.ensures
-    ∙ ap (λ (z : ℤ). walk_of (stream_by s.args.bits (word z) s.args.log.now) c.edge-start.result c.edge-end.result) (to_z-of_z s.fits.initial)
+    ∙ ap (λ (z : ℤ). walk_of (stream_by s.args.bits (word z) s.args.log.now) c.edge-start.result c.edge-end.result) (to_z-of_z s.ranges.initial)
 
 returns : tie.Need-returns
 unfolding part reaches stream_by

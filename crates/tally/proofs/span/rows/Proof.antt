@@ -25,14 +25,14 @@ from_is c =
     let i = c in
     let s = st c.before.before.before in
     sym (c.good_position.ensures ∙ ap (λ (v : Reading). good_position v c.long.result) i.read_active-v.ensures
-    ∙ ap (good_position (reading s.args.rec)) (long-by s.args.from c.long.ensures.0 s.fits.from))
+    ∙ ap (good_position (reading s.args.rec)) (long-by s.args.from c.long.ensures.0 s.ranges.from))
 
 to_is : (c : tie.After-good_position-2) → let a = (st c.before.before.before.before.before.before).args in good_position (reading a.rec) (long a.to) ≡ c.good_position-2.result
 to_is c =
     let i = c in
     let s = st c.before.before.before.before.before.before in
     sym (c.good_position-2.ensures ∙ ap (λ (v : Reading). good_position v c.long-2.result) i.read_active-v.ensures
-    ∙ ap (good_position (reading s.args.rec)) (long-by s.args.to c.long-2.ensures.0 s.fits.to))
+    ∙ ap (good_position (reading s.args.rec)) (long-by s.args.to c.long-2.ensures.0 s.ranges.to))
 
 -- what is known behind each test
 good : (c : tie.Else-not-good_span) → let a = c.args in good_span a.rec.term_length a.from a.to ≡ true

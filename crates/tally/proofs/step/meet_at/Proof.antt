@@ -22,7 +22,7 @@ own : (c : tie.After-is_own-own) → let s = c in c.is_own-own.result ≡ own_id
 own d =
     let c = d.before in
     let s = c in
-    d.is_own-own.ensures ∙ search rules ∙ owns s.args.bits (word s.args.initial) s.args.log.now s.args.p s.args.at s.pre
+    d.is_own-own.ensures ∙ search rules ∙ owns s.args.bits (word s.args.initial) s.args.log.now s.args.p s.args.at s.requires
 
 met-by-requires : tie.Need-met_by-requires
 met-by-requires c κs = let s = c in rw (frame c.before) (seen-small (stream c.before.before.before.before) s.args.p)
