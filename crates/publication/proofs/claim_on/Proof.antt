@@ -85,17 +85,17 @@ module _ (c : tie.After-claiming-a) where
       × (c.claiming-a.new.log ≡ claim_bytes start.args.rec start.args.log.now start.args.length)
   law =
       let a = start.args in
-      claim-by a.rec a.log.now a.v k· (word a.length) a.v.id c.claiming-a.result (part start) start.pre.0 refl does.0 c.claiming-a.new.log a.length refl start.pre.1 does.1
+      claim-by a.rec a.log.now a.v k· (word a.length) a.v.id c.claiming-a.result (part start) start.requires.0 refl does.0 c.claiming-a.new.log a.length refl start.requires.1 does.1
 
   ready : next_marked c.claiming-a.result.next start.args.v ≡ is_ready start.args.rec
   ready =
       let a = start.args in
-      claim-ready a.rec a.log.now a.v k· (word a.length) a.v.id c.claiming-a.result (part start) start.pre.0 refl does.0
+      claim-ready a.rec a.log.now a.v k· (word a.length) a.v.id c.claiming-a.result (part start) start.requires.0 refl does.0
 
   ends : (end : ℕ) (x : Claim) → c.claiming-a.result.answer ≡ Claimed end x → start.args.v.count * start.args.v.term + end < 9223372036854775808
   ends end x h =
       let a = start.args in
-      omega (arith, claim-end a.rec a.log.now a.v k· (word a.length) a.v.id c.claiming-a.result (part start) start.pre.0 refl does.0 end x h, begin-most a.v (bounds _ _ (so start)), so start)
+      omega (arith, claim-end a.rec a.log.now a.v k· (word a.length) a.v.id c.claiming-a.result (part start) start.requires.0 refl does.0 end x h, begin-most a.v (bounds _ _ (so start)), so start)
 
 claiming-requires : tie.Need-claiming-a-requires
 claiming-requires c κs = let s = c in (

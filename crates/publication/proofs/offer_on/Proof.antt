@@ -61,20 +61,20 @@ module _ (c : tie.After-append_message-a) where
       × (c.append_message-a.new.log ≡ offer_bytes start.args.rec start.args.log.now start.args.message.now start.args.reserved)
   law =
       let a = start.args in
-      offer-by a.rec a.log.now a.message.now a.v (a.v.count % 3) a.v.id c.append_message-a.result (part start) start.pre.0 refl c.append_message-a.ensures.0
-      c.append_message-a.new.log a.reserved (long (to_z w64 (of_z w64 a.reserved))) (ap long (to_z-of_z start.fits.reserved)) start.pre.1 c.append_message-a.ensures.1
+      offer-by a.rec a.log.now a.message.now a.v (a.v.count % 3) a.v.id c.append_message-a.result (part start) start.requires.0 refl c.append_message-a.ensures.0
+      c.append_message-a.new.log a.reserved (long (to_z w64 (of_z w64 a.reserved))) (ap long (to_z-of_z start.ranges.reserved)) start.requires.1 c.append_message-a.ensures.1
 
   ready : next_marked c.append_message-a.result.next start.args.v ≡ is_ready start.args.rec
   ready =
       let a = start.args in
-      ready_by a.rec a.log.now a.message.now a.v (a.v.count % 3) a.v.id c.append_message-a.result (part start) start.pre.0 refl c.append_message-a.ensures.0
+      ready_by a.rec a.log.now a.message.now a.v (a.v.count % 3) a.v.id c.append_message-a.result (part start) start.requires.0 refl c.append_message-a.ensures.0
 
   ends : (end : ℕ) → c.append_message-a.result.answer ≡ Offset end → start.args.v.count * start.args.v.term + end < 9223372036854775808
   ends end h =
       let a = start.args in
       omega (
         arith,
-        end_by a.rec a.log.now a.message.now a.v (a.v.count % 3) a.v.id c.append_message-a.result (part start) start.pre.0 refl c.append_message-a.ensures.0 end h,
+        end_by a.rec a.log.now a.message.now a.v (a.v.count % 3) a.v.id c.append_message-a.result (part start) start.requires.0 refl c.append_message-a.ensures.0 end h,
         begin-most a.v (bounds _ _ (so start)),
         so start,
       )
@@ -109,7 +109,7 @@ after-trip-requires c κs =
 
 returns : tie.Need-returns-in_default-answer
 returns c =
-    let d = c in
+    let d = c.before.before.before.before.before.before.before.before.before in
     let a = c.args in
     let e = neither d.append_message-a.result.answer c.in_default.in_default-own.keys2 c.in_default-answer.in_default-answer-own.keys2 in (
       trip-reply _ _ _ _ _ _ c.after_trip-t.ensures.0 c.after_trip-t.ensures.1.0 c.after_trip-t.ensures.1.1
@@ -120,7 +120,7 @@ returns c =
 
 returns-2 : tie.Need-returns-in_default
 returns-2 c =
-    let d = c in
+    let d = c.before.before.before.before.before.before in
     let a = c.args in
     (trip-reply _ _ _ _ _ _ refl refl c.of_refusal.ensures ∙ sym (ap (after_by a.v (is_ready a.rec) (length a.message.now) d.append_message-a.result.next) c.in-Refused.is) ∙ (law d).0, (law d).1)
 
@@ -128,14 +128,14 @@ begin-position-requires : tie.Need-begin_position-begin-requires
 begin-position-requires c κs = let s = c in (bounds _ _ (so c.before.before), (so c.before.before).one_bit)
 
 add-t22 : tie.Need-overflow_add-result
-add-t22 c = omega (arith, ends c.before.before.before.before.before.before _ c.in-Offset.is, c.begin_position-begin.ensures)
+add-t22 c = omega (arith, ends c.before.before.before.before _ c.in-Offset.is, c.begin_position-begin.ensures)
 
 cast-t27 : tie.Need-overflow_cast-result
-cast-t27 c = record { sfits = omega (arith, ends c.before.before.before.before.before.before _ c.in-Offset.is, c.begin_position-begin.ensures) }
+cast-t27 c = record { sfits = omega (arith, ends c.before.before.before.before _ c.in-Offset.is, c.begin_position-begin.ensures) }
 
 returns-3 : tie.Need-returns
 returns-3 c =
-    let d = c in
+    let d = c.before.before.before.before.before in
     let a = c.args in
     let begin = c.begin_position-begin.ensures in
     let end = c.in-Offset.end in (

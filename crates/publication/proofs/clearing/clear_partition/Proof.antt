@@ -29,7 +29,7 @@ module _ (c : tie.After-before_clear) where
       × (cleared_by c.read_active-v.result start.args.log.now c.word-k.result x ≡ clear_bytes start.args.rec start.args.log.now start.args.partition)
   law x h =
       clear-by start.args.rec start.args.log.now start.args.partition c.read_active-v.result c.word-k.result x c.read_active-v.ensures
-      (c.word-k.ensures.0 ∙ ap word (to_z-of_z start.fits.partition)) (sym h ∙ c.before_clear.ensures)
+      (c.word-k.ensures.0 ∙ ap word (to_z-of_z start.ranges.partition)) (sym h ∙ c.before_clear.ensures)
 
   low : c.before_clear.result ≡ Pass → c.word-k.result ≤ 2
   low h = (clear-passed _ _ _ (sym c.before_clear.ensures ∙ h)).0

@@ -30,7 +30,7 @@ module _ (c : tie.After-compute_position-answer) where
   computed : c.compute_position-answer.result ≡ Position (publisher_position start.args.v)
   computed =
       c.compute_position-answer.ensures
-      ∙ position-by start.args.rec start.args.v _ start.pre.0 (so start) (tail_of start.args.rec (start.args.v.count % 3)) _ _ _ _ tail-fits refl initial-fits (to_z-of_z initial-fits)
+      ∙ position-by start.args.rec start.args.v _ start.requires.0 (so start) (tail_of start.args.rec (start.args.v.count % 3)) _ _ _ _ tail-fits refl initial-fits (to_z-of_z initial-fits)
       (to_z-of_z {w = w32} {z = c.term_id-id.result} (search rules) ∙ c.term_id-id.ensures ∙ ap term_id_of (to_z-of_z tail-fits))
       (c.term_offset-offset.ensures ∙ ap (λ (z : ℤ). term_offset_of z start.args.v.term) (to_z-of_z tail-fits)) c.position_bits_to_shift-bits.ensures
 
