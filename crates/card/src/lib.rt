@@ -1,6 +1,7 @@
 // Find cards: a message body that every device reads alike. specs/Card.antt draws the format and says what each call answers and
 // leaves. The crate rests on no other; its refusals are two of its own, by the numbers 1 and 21 of the documents.
 #![tactic(auto)]
+
 mod field;
 
 ghost use Rattle.std.specs.Prelude.{◌≡◌, ◌+◌, ◌≤◌, ◌<◌};

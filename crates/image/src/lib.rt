@@ -1,5 +1,6 @@
 // An image: a reader's place in a log that is lent. A call takes the image by value, and hands the next one back beside its answer.
 #![tactic(auto)]
+
 ghost use Rattle.std.specs.Prelude.{◌≡◌, ◌≤◌, pos, get_or};
 ghost use Rattle.model.specs.Image.{new_image, poll_of, bounded_poll_of, controlled_poll_of, set_position_of, end_of_stream_of, close_image_of, peek_of, peek_slots, block_poll_of};
 ghost use Rattle.model.specs.Bytes.{long};

@@ -1,5 +1,6 @@
 // The publication above the leaf library, of which it knows only the promises: offers and claims. Read judge next.
 #![tactic(auto)]
+
 ghost use Rattle.std.specs.Prelude.{◌≡◌, ◌+◌, ◌*◌, ◌%◌, ◌≤◌, ◌<◌, length as length_of};
 ghost use Rattle.model.specs.declared.Verdict.TheVariants.{Pass};
 ghost use Rattle.model.specs.Bytes.{word, long};

@@ -1,6 +1,7 @@
 // Where a log's bytes went between two positions: body bytes, headers, slack and padding, where the walk ended, and why there; in stream order, and as
 // the partitions lie. specs/Walk.antt says what a step of the walk is, specs/Tally.antt and specs/Partitions.antt what the calls answer. Read step next.
 #![tactic(auto)]
+
 ghost use Rattle.std.specs.Prelude.{◌≡◌};
 ghost use Rattle.tally.specs.Tally.{tally_of};
 ghost use Rattle.tally.specs.Partitions.{partition_tally_of};
