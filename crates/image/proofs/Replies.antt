@@ -1,6 +1,5 @@
 -- A reply is the image at the position that was worked out, beside the answer; and no call changes more of an image than its position.
 use mathlib.Core.Path.{◌≡◌, refl, ap, ap₂, ◌∙◌}
-use mathlib.Core.List.{List}
 use Prim.Native.Nat.{ℕ}
 use lib.IntN.{ℤ}
 use Rattle.model.specs.declared.Polled.{Polled}
@@ -8,12 +7,11 @@ use Rattle.model.specs.declared.BlockPolled.{BlockPolled}
 use Rattle.model.specs.declared.ReadVerdict.{ReadVerdict}
 use Rattle.model.specs.declared.ReadVerdict.TheVariants.{Read, Closed, Refuse}
 use Rattle.model.specs.Image.{Image as State, PollReply as PollSaid, BlockReply as BlockSaid, moved_to, image_by}
-use Rattle.image.specs.declared.Image.{Image}
 use Rattle.image.specs.declared.PollReply.{PollReply}
 use Rattle.image.specs.declared.BlockReply.{BlockReply}
 use Rattle.image.specs.declared.frames.PolledTo.{PolledTo}
 use Rattle.image.specs.declared.block.BlockTo.{BlockTo}
-use Rattle.image.specs.Images.{state_of, image_of, poll_reply_of, block_reply_of, polled_to, block_to}
+use Rattle.image.specs.Images.{image_of, poll_reply_of, block_reply_of, polled_to, block_to}
 
 pub only-moved : (i : State) (n : ℕ) (x : ReadVerdict) → moved_to i (image_by i n x).position ≡ image_by i n x
 only-moved i n Read = refl

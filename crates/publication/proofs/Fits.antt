@@ -14,20 +14,17 @@ use mir.Val.{to_z}
 use mir.Facts.{of_z-to_z}
 use Rattle.model.specs.declared.LogRecord.{LogRecord}
 use Rattle.model.specs.declared.Reading.{Reading}
-use Rattle.model.specs.declared.Verdict.TheVariants.{Pass}
 use Rattle.model.specs.declared.Course.{Course}
 use Rattle.model.specs.declared.Course.TheVariants.{Fit}
 use Rattle.model.specs.declared.Rule.{Rule}
 use Rattle.model.specs.declared.Rule.TheVariants.{Unfragmented, Fragmented, Claimed as ByClaim}
-use Rattle.model.specs.declared.OfferReply.{OfferReply}
-use Rattle.model.specs.declared.ClaimReply.{ClaimReply}
 use Rattle.model.specs.declared.Offered.TheVariants.{Position}
 use Rattle.model.specs.declared.Claimed.TheVariants.{Position as ClaimPosition}
 use Rattle.model.specs.Bytes.{word, long}
 use Rattle.model.specs.FrameDescriptor.{space}
-use Rattle.model.specs.LogBufferDescriptor.{id_minus, reading_of, reading, active, payload_limit, message_limit, sound, Sound, with_tail, is_ready, raw_of, term_id_of}
+use Rattle.model.specs.LogBufferDescriptor.{id_minus, reading, active, payload_limit, message_limit, sound, Sound, with_tail, is_ready, raw_of, term_id_of}
 use Rattle.model.specs.TermAppender.{need, cut, fragment, written, claimed, course, bytes_by, reply_by, claim_record, claim_appended_by}
-use Rattle.model.specs.Publication.{place, too_long, need_of, after_closed, before_append, claim_verdict, offer_of, offer_bytes, claim_of, claim_bytes}
+use Rattle.model.specs.Publication.{place, too_long, need_of, offer_of, offer_bytes, claim_of, claim_bytes}
 use Rattle.model.proofs.Both.{and-true, test}
 use Rattle.model.proofs.Choice.{cond-true, cond-false}
 use Rattle.model.proofs.Sound.{sound-true, sound-by, Bounds}
@@ -35,7 +32,6 @@ use Rattle.model.proofs.Cut.{need-one, cut-one}
 use Rattle.model.proofs.OfferLaws.{closed-last, rung-10, after, offer-is}
 use Rattle.logbuffer.proofs.Ways.{fits-true, frames-true}
 use Rattle.publication.specs.declared.fit.Fitted.{Fitted}
-use Rattle.publication.specs.declared.fit.FittedClaim.{FittedClaim}
 use Rattle.publication.specs.Fits.{in_step, unpressed, in_terms, is_open, is_fit, is_long, is_long_fit, none_fitted, fitted_at, after_end, claim_at}
 use Rattle.publication.proofs.OfferBy.{active-by}
 use Rattle.publication.proofs.ClaimLaws as claims

@@ -1,5 +1,5 @@
 -- The poll by the record's numbers, which are those that were read.
-use mathlib.Core.Path.{◌≡◌, ap, ◌∙◌}
+use mathlib.Core.Path.{ap, ◌∙◌}
 use lib.IntN.{ℤ}
 use mir.Facts.{to_z-of_z}
 use Rattle.image.specs.Images.{state_of, poll_by, poll_reply_of}

@@ -1,5 +1,5 @@
 -- The place of the position, and the leaf library's read of its partition to the term's end.
-use mathlib.Core.Path.{◌≡◌, sym, ap, ap₂, ◌∙◌}
+use mathlib.Core.Path.{sym, ap, ap₂, ◌∙◌}
 use mathlib.Core.List.{List}
 use Prim.Native.Nat.{ℕ, ◌%◌}
 use lib.IntN.{ℤ}

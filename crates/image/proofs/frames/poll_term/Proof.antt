@@ -9,14 +9,13 @@ use lib.IntN.{ℤ, pos}
 use mir.Syntax.{w64}
 use mir.Val.{SFits, to_z, of_z}
 use mir.Facts.{to_z-of_z, to_z_pos}
-use Rattle.model.specs.declared.TermRead.TheVariants.{Outcome}
 use Rattle.model.specs.declared.Polled.TheVariants.{Fragments, Refused}
 use Rattle.model.specs.declared.Error.{Error}
 use Rattle.model.specs.declared.ReadVerdict.{ReadVerdict}
 use Rattle.model.specs.declared.ReadVerdict.TheVariants.{Read}
 use Rattle.model.specs.Bytes.{long}
 use Rattle.model.specs.LogBufferDescriptor.{partition_of}
-use Rattle.model.specs.Image.{readable, walk_at, poll_reply, poll_verdict, slots_by}
+use Rattle.model.specs.Image.{readable, walk_at, poll_reply, slots_by}
 use Rattle.model.proofs.Sound.{sound-true}
 use Rattle.logbuffer.proofs.Signed.{long-by}
 use Rattle.model.specs.declared.Polled.{Polled}

@@ -3,7 +3,6 @@ use native.Mathlib.Omega.{arith}
 use native.Mathlib.Nat.{mod-le}
 use Rattle.model.specs.declared.ReadVerdict.TheVariants.{Read}
 use Rattle.image.proofs.Rungs.{before-current, past-term, no-boundary, reaches}
-use borrow.Author.Rules.{rules}
 use Rattle.image.proofs.ladder.reachable.Statement.{statement}
 use Rattle.image.proofs.ladder.reachable.Tie as tie
 

@@ -2,7 +2,7 @@
 use mathlib.Core.Path.{◌≡◌, sym, ap, ◌∙◌}
 use mathlib.Core.Bool.{true}
 use native.Mathlib.Omega.{arith}
-use Prim.Native.Nat.{ℕ, ◌+◌, ◌*◌, ◌%◌, ◌≤◌}
+use Prim.Native.Nat.{◌%◌, ◌≤◌}
 use borrow.Author.Tests.{not-true, not-false, ne_eqb}
 use borrow.Author.Rules.{rules}
 use lib.Dec.{eqb}
@@ -16,8 +16,7 @@ use Rattle.model.proofs.Choice.{cond-true, cond-false}
 use Rattle.model.proofs.Sound.{bounds}
 use Rattle.logbuffer.specs.Ways.{frame_fits}
 use Rattle.logbuffer.proofs.Ways.{fits-true}
-use Rattle.publication.specs.declared.fit.Fitted.{Fitted}
-use Rattle.publication.specs.Fits.{is_open, is_fit, none_fitted, fitted_at}
+use Rattle.publication.specs.Fits.{is_open, none_fitted, fitted_at}
 use Rattle.publication.proofs.Fits.{Unpressed, open-true, not-open, end-in, end_none, end-some, bytes-by, raw-is, raw-term, claim-answer}
 use Rattle.publication.proofs.fit.claim_fit.Statement.{statement}
 use Rattle.publication.proofs.fit.claim_fit.Tie as tie

@@ -1,9 +1,8 @@
 -- What the appender gives is the answer and the log where nothing refuses; else both are as they were.
 use mathlib.Core.Path.{◌≡◌, sym, ap, ◌∙◌}
 use mathlib.Core.Bool.{true}
-use mathlib.Core.List.{[], ◌∷◌}
 use native.Mathlib.Omega.{arith}
-use Prim.Native.Nat.{ℕ, ◌*◌, ◌%◌}
+use Prim.Native.Nat.{◌%◌}
 use borrow.Author.Tests.{not-true, not-false}
 use borrow.Author.Rules.{rules}
 use lib.IntN.{ℤ}
@@ -11,7 +10,6 @@ use lib.ListN.{length}
 use mir.Facts.{to_z-of_z}
 use Rattle.model.specs.Bytes.{long}
 use Rattle.model.specs.FrameDescriptor.{space}
-use Rattle.model.specs.TermAppender.{fragment, written}
 use Rattle.model.proofs.Choice.{cond-false}
 use Rattle.model.proofs.Sound.{bounds}
 use Rattle.logbuffer.specs.Ways.{frame_fits}

@@ -4,7 +4,6 @@ use Rattle.model.specs.LogBufferDescriptor.{id_minus, raw_of}
 use Rattle.model.specs.Bytes.{word}
 use mir.Facts.{to_z-of_z}
 use mir.Syntax.{w64}
-use lib.IntN.{ℤ}
 use Prim.Native.Nat.{ℕ}
 use mathlib.Core.Path.{◌≡◌, ap, ◌∙◌}
 use borrow.Author.Rules.{rules}
