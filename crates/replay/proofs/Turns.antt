@@ -1,7 +1,7 @@
 -- One turn of a replay: by the poll's answer, by the assembler's, and before what follows it.
 use mathlib.Core.Path.{◌≡◌, refl, sym, ap, ap₂, ◌∙◌}
 use mathlib.Core.Bool.{Bool, true, false, cond}
-use mathlib.Core.List.{List}
+use mathlib.Core.List.{List, []}
 use Prim.Native.Nat.{ℕ, suc, ◌+◌, ◌-◌, ◌*◌, ◌/◌, ◌≤◌, ◌<◌}
 use native.Mathlib.Omega.{arith}
 use lib.Dec.{eqb, leb}
@@ -25,7 +25,7 @@ use Rattle.model.specs.Bytes.{word, long, u32, i32}
 use Rattle.model.specs.FrameDescriptor.{flags_at}
 use Rattle.model.specs.LogBufferDescriptor.{reading_of, reading, sound, partition_of}
 use Rattle.model.specs.TermReader.{Walked, natural, good_entries}
-use Rattle.model.specs.Image.{Image, new_image, polled_by, poll_verdict, poll_of}
+use Rattle.model.specs.Image.{Image, new_image, polled_by, walk_at, poll_verdict, poll_of}
 use Rattle.model.specs.FragmentAssembler.{Sessions, Assembly, fresh, assemble_verdict, assemble_by, assemble_of, assembled_by, buffer_by, joining}
 use Rattle.model.specs.Replay.{ReplayState, NextReply, giving, given_by, assembled_to, poll_one, assemble_one, is_over, turn_by, next_from, next_of, from_start}
 use Rattle.model.proofs.Choice.{cond-true, cond-false, le_yes, le-no, eq_yes, eq_no}
@@ -56,10 +56,13 @@ pub polled-sound : (r : LogRecord) (log : List ℕ) (i : Image) (n m : ℕ) → 
 unfolding poll_of poll_verdict
 polled-sound r log i n m h = go (good_entries 2 1) (sound (reading r) (length log)) refl refl
   where
+    w : Walked
+    w = walk_at (reading r) log (long i.position) (reading r).term 1 []
+
     go : (g b : Bool) → good_entries 2 1 ≡ g → sound (reading r) (length log) ≡ b → sound (reading r) (length log) ≡ true
     go g true eg eb = eb
-    go true false eg eb = absurd (refused_none _ _ IllegalRecord n m (not_sound (good_entries 2 1) (reading r) (length log) i eg eb _) h)
-    go false false eg eb = absurd (refused_none _ _ IllegalArgument n m (not_good (good_entries 2 1) (reading r) (length log) i eg _) h)
+    go true false eg eb = absurd (refused_none w _ IllegalRecord n m (not_sound (good_entries 2 1) (reading r) (length log) i eg eb _) h)
+    go false false eg eb = absurd (refused_none w _ IllegalArgument n m (not_good (good_entries 2 1) (reading r) (length log) i eg _) h)
 
 -- ---- the assembler's answer
 

@@ -10,7 +10,7 @@ use Rattle.model.specs.Replay.{NextReply}
 use Rattle.image.specs.Images.{state_of as image_state}
 use Rattle.logbuffer.specs.Assembler.{sessions_as, join_of}
 use Rattle.replay.specs.declared.LentReply.{LentReply}
-use Rattle.replay.specs.declared.gathering.Gathered.{Gathered}
+use Rattle.replay.specs.declared.frames.Gathered.{Gathered}
 use Rattle.replay.specs.declared.gathering.DataFrame.{DataFrame}
 use Rattle.replay.specs.declared.gathering.Current.{Current}
 use Rattle.replay.specs.InPlace.{index_at, data_at, replied_by, is_refused}

@@ -4,9 +4,10 @@ ghost use Rattle.std.specs.Prelude.{◌≡◌, ◌%◌, ◌≤◌, ◌<◌, min,
 ghost use Rattle.model.specs.FragmentAssembler.{place_in};
 ghost use Rattle.logbuffer.specs.Assembler.{sessions_as, join_of};
 ghost use Rattle.replay.specs.InPlace.{TermOrNone, TermsOf, index_at, data_at};
-ghost use Rattle.replay.specs.Gather.{no_frame, FrameHere, current_of, Knows, at_hand, led_by, gathered_as, gathering_of, gather_from, is_end};
+ghost use Rattle.replay.specs.Gather.{no_frame, FrameHere, current_of, Knows, at_hand, led_by, gathering_of, gather_from};
 
 use crate::frames;
+use crate::frames::Gathered;
 use logbuffer::data_frame_header::HEADER_LENGTH;
 use logbuffer::fragment_assembler;
 use logbuffer::frame_descriptor::{ALIGNMENT_MASK, FRAME_ALIGNMENT};
@@ -56,26 +57,6 @@ fn data_at(log: &[u8], term: usize, stop: usize, p: usize) -> DataFrame
     }
 }
 
-// Where the frames lead: how many sessions are entered and turns left, the position, and the reply; End where nothing came of them.
-#[derive(Clone, Copy)]
-pub(crate) struct Gathered {
-    pub count: usize,
-    pub left: usize,
-    pub position: usize,
-    pub answer: Replayed,
-}
-
-fn gathered_as(count: usize, left: usize, position: usize, answer: Replayed) -> Gathered
-    ensures { result ≡ gathered_as count left position answer }
-{
-    Gathered {
-        count: count,
-        left: left,
-        position: position,
-        answer: answer,
-    }
-}
-
 // A data frame of n bytes given to the assembler's core, and where that leads. A frame that is refused is not passed.
 fn give_one(
     count: usize,
@@ -96,10 +77,10 @@ fn give_one(
     let answer = given.answer;
     let reply = frames::reply_by(answer, index, n);
     if frames::is_refused(answer) {
-        return gathered_as(given.count, left, p, reply);
+        return frames::gathered_as(given.count, left, p, reply);
     }
     let end = p + (n + ALIGNMENT_MASK) / FRAME_ALIGNMENT * FRAME_ALIGNMENT;
-    gathered_as(given.count, left - 1, end, reply)
+    frames::gathered_as(given.count, left - 1, end, reply)
 }
 
 // ---- the session at hand
@@ -219,12 +200,12 @@ fn take(
         let from = place * (buffer.len() / 16);
         return Step {
             current: current_as(place, session, 0),
-            gathered: gathered_as(entered, left - 1, end, Replayed::InBuffer(from, laid.held)),
+            gathered: frames::gathered_as(entered, left - 1, end, Replayed::InBuffer(from, laid.held)),
         };
     }
     Step {
         current: current_as(place, session, laid.held),
-        gathered: gathered_as(entered, left - 1, end, Replayed::End),
+        gathered: frames::gathered_as(entered, left - 1, end, Replayed::End),
     }
 }
 
@@ -251,7 +232,7 @@ pub(crate) fn gather(
         let frame = data_at(log, term, stop, p);
         if frame.length == 0 {
             settle(held, current.place, current.bytes);
-            return gathered_as(entered, left, p, Replayed::End);
+            return frames::gathered_as(entered, left, p, Replayed::End);
         }
         let step = take(
             entered, ids, held, current, log, buffer, term, p, frame, left,
@@ -259,7 +240,7 @@ pub(crate) fn gather(
         let gathered = step.gathered;
         let answer = gathered.answer;
         current = step.current;
-        if !is_end(answer) {
+        if !frames::is_end(answer) {
             settle(held, current.place, current.bytes);
             return gathered;
         }
@@ -268,17 +249,5 @@ pub(crate) fn gather(
         left = gathered.left;
     }
     settle(held, current.place, current.bytes);
-    gathered_as(entered, left, p, Replayed::End)
-}
-
-// Whether nothing came of them.
-pub(crate) fn is_end(answer: Replayed) -> bool
-    ensures { result ≡ is_end answer }
-{
-    match answer {
-        Replayed::InLog(_, _) => false,
-        Replayed::InBuffer(_, _) => false,
-        Replayed::End => true,
-        Replayed::Refused(_) => false,
-    }
+    frames::gathered_as(entered, left, p, Replayed::End)
 }

@@ -266,7 +266,7 @@ fn next_lent(
     let mut image = start;
     let position = cast::to_i64(gathered.position);
     image.position = position;
-    if !gathering::is_end(answer) {
+    if !frames::is_end(answer) {
         return LentReply {
             image: image,
             count: gathered.count,

@@ -97,7 +97,7 @@ module _ (c : tie.After-whole_from-found invariant-loop decreases-loop) where
   whole_is : whole_of (st l).args.rec (st l).args.log.now (image_state l.loop-messages.image) (length l.loop-messages.buffer) ≡ n
   whole_is =
       sym (c.whole_from-found.ensures.0 ∙ ap (λ (x : ℕ). whole_at (st l).args.log.now l.reach_of-reach.result.term x c.long-p.result) l.reach_of-reach.ensures.1
-      ∙ ap₂ (λ (t p : ℕ). whole_at (st l).args.log.now t (stop_at (reading (st l).args.rec)) p) l.loop-messages.inv.1.1.1.0 p-is)
+      ∙ ap₂ (λ (t p : ℕ). whole_at (st l).args.log.now t (stop_at (reading (st l).args.rec)) p) l.loop-messages.invariant.1.1.1.0 p-is)
 
   module _ (some : 0 < n) where
     near : (c.long-p.result < 2305843009213693952) × ((32 ≤ n) × (n < 2147483648))
@@ -121,19 +121,19 @@ loop-again c =
     let under : q.loop-messages.messages < most q = omega (arith, c.loop-messages-test) in
     let g = count-goes a.rec a.log.now (S q) q.loop-messages.messages q.loop-messages.bytes (most q - q.loop-messages.messages) (omega arith) (whole_reply (reading a.rec).term (S q) (n c.before.before)) (whole_says a.rec a.log.now (S q) (n c.before.before) (whole_is c.before.before) some) refl in
     let m : most q - (q.loop-messages.messages + 1) ≡ most q - q.loop-messages.messages - 1 = omega arith in
-    let stays = q.loop-messages.inv.1.1.1.0 ∙ sym (open-moved (image_state q.loop-messages.image) (pos (long q.loop-messages.image.position + align (n c.before.before))) (reading a.rec) (length a.log.now) (length q.loop-messages.buffer))
+    let stays = q.loop-messages.invariant.1.1.1.0 ∙ sym (open-moved (image_state q.loop-messages.image) (pos (long q.loop-messages.image.position + align (n c.before.before))) (reading a.rec) (length a.log.now) (length q.loop-messages.buffer))
     ∙ ap (λ (y : ℤ). open_term (moved_to (image_state q.loop-messages.image) y) (reading a.rec) (length a.log.now) (length q.loop-messages.buffer)) (sym z) in (
-      q.loop-messages.inv.0,
+      q.loop-messages.invariant.0,
       (
         omega arith,
         (
-          q.loop-messages.inv.1.1.0,
+          q.loop-messages.invariant.1.1.0,
           (
             stays,
             (
               ap₂ (λ (i j : ℕ). count_from i a.rec a.log.now (record { image = moved_to (image_state q.loop-messages.image) (to_z w64 (f.long-p.result + (n c.before.before + 31) / 32 * 32)); sessions = (S q).sessions; buffer = q.loop-messages.buffer }) (q.loop-messages.messages + 1) j) m c.added-bytes.ensures
                   ∙ ap (λ (y : ℤ). count_from (most q - q.loop-messages.messages - 1) a.rec a.log.now (record { image = moved_to (image_state q.loop-messages.image) y; sessions = (S q).sessions; buffer = q.loop-messages.buffer }) (q.loop-messages.messages + 1) (added_to q.loop-messages.bytes (n c.before.before - 32))) z
-                  ∙ g ∙ q.loop-messages.inv.1.1.1.1.0,
+                  ∙ g ∙ q.loop-messages.invariant.1.1.1.1.0,
               f.whole_from-found.ensures.1.0,
             ),
           ),
@@ -152,7 +152,7 @@ next-lent-requires c κs =
 
 -- the reply
 abbrev Y : tie.After-next_lent-reply invariant-loop decreases-loop → NextReply
-Y f = lent_reply_of f.next_lent-reply.result f.next_lent-reply.new.held.1.0 f.next_lent-reply.new.held.1.1.0 f.next_lent-reply.new.held.1.1.1.1.1.0
+Y f = lent_reply_of f.next_lent-reply.result f.next_lent-reply.new.ids f.next_lent-reply.new.held f.next_lent-reply.new.buffer
 
 returns-2 : tie.Need-returns-then-not-gives invariant-loop decreases-loop
 returns-2 c =

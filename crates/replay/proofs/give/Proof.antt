@@ -46,7 +46,7 @@ abbrev S : tie.After-on_fragment-reply → ReplayState
 S c = state_of (st c).args.before (st c).args.buffer.now
 
 abbrev left : tie.After-on_fragment-reply → List ℕ
-left c = c.on_fragment-reply.new.buffer.1.1.0
+left c = c.on_fragment-reply.new.buffer
 
 abbrev behind : tie.After-on_fragment-reply → ReplayState
 behind c = record { image = image_state (st c).args.passed; sessions = sessions_of c.on_fragment-reply.result.next; buffer = left c }
@@ -68,7 +68,7 @@ inside : (c : tie.After-on_fragment-reply) (at n : ℕ) → c.on_fragment-reply.
 inside c at n e =
     let t = ap (λ (v : Reading). (st c).args.k * v.term) c.read_active-v.ensures in
     let s = fragment-in (st c).args.rec (st c).args.log.now (S c).sessions (st c).args.buffer.now (st c).args.k (natural (st c).args.entry - 32) at n in
-    let f = s (ap₂ (λ (p o : ℤ). (assemble_of (st c).args.rec (st c).args.log.now (S c).sessions (st c).args.buffer.now p o).answer-1) (sym (part c)) (sym (offset c)) ∙ sym c.on_fragment-reply.ensures.0.0 ∙ e) in
+    let f = s (ap₂ (λ (p o : ℤ). (assemble_of (st c).args.rec (st c).args.log.now (S c).sessions (st c).args.buffer.now p o).answer) (sym (part c)) (sym (offset c)) ∙ sym c.on_fragment-reply.ensures.0.0 ∙ e) in
     omega (arith, t, f)
 
 -- the turn by an answer that is no part of the log

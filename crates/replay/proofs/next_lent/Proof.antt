@@ -52,7 +52,7 @@ module _ (f : tie.After-gather-gathered) where
   s = f.before.before.before.before.before.before.before.before.before.before
 
   abbrev G : Gathering
-  G = gathering_of f.gather-gathered.result f.gather-gathered.last.1.0 f.gather-gathered.last.1.1.0 f.gather-gathered.last.1.1.1.1.0
+  G = gathering_of f.gather-gathered.result f.gather-gathered.new.ids f.gather-gathered.new.held f.gather-gathered.new.buffer
 
   fits : SFits w64 s.args.start.position
   fits = search rules
@@ -67,9 +67,9 @@ module _ (f : tie.After-gather-gathered) where
       let a = s.args in
       let p = long-by a.start.position f.long-p.ensures.0 fits in
       ap (resumed a.rec a.log.now (image_state a.start))
-      (f.gather-gathered.ensures ∙ ap₂ (λ (x y : ℕ). gather_from (3 * w.result + 1) a.log.now a.reach.term x y (S s).sessions a.buffer.now) s.pre.1.1 p)
-      ∙ gather-next a.rec a.log.now (3 * w.result + 1) (S s) a.reach.term s.pre.1.0 ids-16 fits
-      ∙ next-starts a.rec a.log.now (S s) w.result (word-by a.rec.term_length w.ensures.0 (term_fits s)) s.pre.0
+      (f.gather-gathered.ensures ∙ ap₂ (λ (x y : ℕ). gather_from (3 * w.result + 1) a.log.now a.reach.term x y (S s).sessions a.buffer.now) s.requires.1.1 p)
+      ∙ gather-next a.rec a.log.now (3 * w.result + 1) (S s) a.reach.term s.requires.1.0 ids-16 fits
+      ∙ next-starts a.rec a.log.now (S s) w.result (word-by a.rec.term_length w.ensures.0 (term_fits s)) s.requires.0
 
 -- the position behind the frames, as the image has it
 placed : (c : tie.After-to_i64-position) → let f = c.before.before.before in to_z w64 (of_z w64 c.to_i64-position.result) ≡ to_z w64 f.gather-gathered.result.position
@@ -93,7 +93,7 @@ returns-2 c =
     let k = c in
     let e : is_end g.answer ≡ true = sym k.is_end.ensures ∙ not-false _ k.if-not-is_end.false-raw in
     u.turns-reply.ensures
-    ∙ ap (λ (x : Replay). next_from g.left a.rec a.log.now (state_of x f.gather-gathered.new.held.1.1.1.0)) u.replay_of-replay.ensures
+    ∙ ap (λ (x : Replay). next_from g.left a.rec a.log.now (state_of x f.gather-gathered.new.buffer)) u.replay_of-replay.ensures
     ∙ ap (λ (z : ℤ). next_from g.left a.rec a.log.now (record { image = moved_to (image_state a.start) z; sessions = (G c.before.before.before.before.before.before.before.before.before.before.before.before.before.before.before.before.before).sessions; buffer = (G c.before.before.before.before.before.before.before.before.before.before.before.before.before.before.before.before.before).buffer })) (placed c.before.before.before.before.before.before.before.before.before.before.before.before.before.before)
     ∙ sym (cond-true (is_end g.answer) _ (giving (behind a.rec a.log.now (image_state a.start) (G c.before.before.before.before.before.before.before.before.before.before.before.before.before.before.before.before.before)) g.answer) e) ∙ comes c.before.before.before.before.before.before.before.before.before.before.before.before.before.before.before.before.before
 

@@ -63,7 +63,7 @@ polled c = c.poll_one-one.ensures.0
 
 answered : (c : tie.After-poll_one-one) (x : Polled) → c.poll_one-one.result.polled.answer ≡ x → turn_said (st (at c)).args.rec (log (at c)) (S (at c)) x ≡ turn_of (st (at c)).args.rec (log (at c)) (S (at c))
 answered c x e =
-    ap (turn_said (st (at c)).args.rec (log (at c)) (S (at c))) (sym e ∙ ap (λ (y : PollReply). y.answer-1) (polled c))
+    ap (turn_said (st (at c)).args.rec (log (at c)) (S (at c))) (sym e ∙ ap (λ (y : PollReply). y.answer) (polled c))
     ∙ sym (cond-false (is_over (st (at c)).args.rec (log (at c)) (S (at c)).image.position) (stops (S (at c)) End) _ (sym (over (at c)) ∙ c.if-is_over.false))
 
 next-is : (c : tie.After-poll_one-one) → image_state c.poll_one-one.result.polled.next ≡ (poll_one (st (at c)).args.rec (log (at c)) (S (at c)).image).next
@@ -91,7 +91,7 @@ returns-2 c =
 
 -- a poll that answers fragments found the record sound
 so : (q : tie.After-poll_one-one) (n m : ℕ) → q.poll_one-one.result.polled.answer ≡ Fragments n m → Sound (reading (st (at q)).args.rec) (length (log (at q)))
-so q n m e = sound-true _ _ (polled-sound (st (at q)).args.rec (log (at q)) (S (at q)).image n m (sym (ap (λ (y : PollReply). y.answer-1) (polled q)) ∙ e))
+so q n m e = sound-true _ _ (polled-sound (st (at q)).args.rec (log (at q)) (S (at q)).image n m (sym (ap (λ (y : PollReply). y.answer) (polled q)) ∙ e))
 
 cast-position-bits-to-shift : tie.Need-overflow_cast-term
 cast-position-bits-to-shift c = let q = c in omega (arith, term_is (at c.before.before.before.before), (so c.before.before.before.before _ _ c.in-Fragments.is).term-high)
@@ -114,32 +114,32 @@ returns-3 : tie.Need-returns-then-m-ne0
 returns-3 c =
     let q = c in
     let o = at c.before.before.before.before.before.before.before.before.before.before.before in
-    let a = c.answer-1.given in
+    let a = c.in-Fragments in
     c.give.ensures
-    ∙ fragment-one (st o).args.rec (log o) (S o) a.0.0 a.0.1.0 _ _ _ (next-is c.before.before.before.before.before.before.before.before.before.before.before)
+    ∙ fragment-one (st o).args.rec (log o) (S o) a.field-0 a.m _ _ _ (next-is c.before.before.before.before.before.before.before.before.before.before.before)
     (part-is c.before.before.before.before.before) (to_z-of_z {w = w32} {z = q.poll_one-one.result.entry} (search rules) ∙ q.poll_one-one.ensures.1)
-    ∙ turn-fragment (st o).args.rec (log o) (S o) a.0.0 a.0.1.0 c.if-m-ne0.true
-    ∙ answered c.before.before.before.before.before.before.before.before.before.before.before (Fragments a.0.0 a.0.1.0) a.1
+    ∙ turn-fragment (st o).args.rec (log o) (S o) a.field-0 a.m c.if-m-ne0.true
+    ∙ answered c.before.before.before.before.before.before.before.before.before.before.before (Fragments a.field-0 a.m) a.is
 
 returns-4 : tie.Need-returns-then-long-p
 returns-4 c =
     let q = c in
     let o = at c.before.before.before.before.before.before.before.before in
-    let a = c.answer-1.given in
+    let a = c.in-Fragments in
     turned_as c.stopped-then-long-p.result false _ _ (st o).args.buffer.now c.stopped-then-long-p.ensures
-    ∙ turn-quiet (st o).args.rec (log o) (S o) a.0.0 a.0.1.0 c.if-m-ne0.false
+    ∙ turn-quiet (st o).args.rec (log o) (S o) a.field-0 a.m c.if-m-ne0.false
     (ap (λ (i : Image). long i.position) (sym (next-is c.before.before.before.before.before.before.before.before)) ∙ sym (long-by q.poll_one-one.result.polled.next.position c.long.ensures.0 (search rules)) ∙ c.if-long-p.true ∙ p-is o)
-    ∙ answered c.before.before.before.before.before.before.before.before (Fragments a.0.0 a.0.1.0) a.1
+    ∙ answered c.before.before.before.before.before.before.before.before (Fragments a.field-0 a.m) a.is
 
 returns-5 : tie.Need-returns
 returns-5 c =
     let q = c in
     let o = at c.before.before.before.before.before.before.before in
-    let a = c.answer-1.given in
+    let a = c.in-Fragments in
     ap (λ (i : Image). goes_on (record { image = i; sessions = (S o).sessions; buffer = (S o).buffer })) (next-is c.before.before.before.before.before.before.before)
-    ∙ turn-padding (st o).args.rec (log o) (S o) a.0.0 a.0.1.0 c.if-m-ne0.false
+    ∙ turn-padding (st o).args.rec (log o) (S o) a.field-0 a.m c.if-m-ne0.false
     (λ e. c.if-long-p.false (long-by q.poll_one-one.result.polled.next.position c.long.ensures.0 (search rules) ∙ ap (λ (i : Image). long i.position) (next-is c.before.before.before.before.before.before.before) ∙ e ∙ sym (p-is o)))
-    ∙ answered c.before.before.before.before.before.before.before (Fragments a.0.0 a.0.1.0) a.1
+    ∙ answered c.before.before.before.before.before.before.before (Fragments a.field-0 a.m) a.is
 
 pub turn_spec : {M : Type 1} → statement M
 turn_spec =

@@ -96,7 +96,7 @@ module _ (c : tie.After-whole_from-found invariant-loop decreases-loop) where
   whole_is : whole_of (st l).args.rec (st l).args.log.now (image_state l.loop-laid.image) (length l.loop-laid.buffer) ≡ n
   whole_is =
       sym (c.whole_from-found.ensures.0 ∙ ap (λ (x : ℕ). whole_at (st l).args.log.now l.reach_of-reach.result.term x c.long-p.result) l.reach_of-reach.ensures.1
-      ∙ ap₂ (λ (t p : ℕ). whole_at (st l).args.log.now t (stop_at (reading (st l).args.rec)) p) l.loop-laid.inv.1.1.1.0 p-is)
+      ∙ ap₂ (λ (t p : ℕ). whole_at (st l).args.log.now t (stop_at (reading (st l).args.rec)) p) l.loop-laid.invariant.1.1.1.0 p-is)
 
   module _ (some : 0 < n) where
     abbrev X : ℕ
@@ -107,7 +107,7 @@ module _ (c : tie.After-whole_from-found invariant-loop decreases-loop) where
 
     -- the index, by the numbers of the code
     index_is : index_at l.reach_of-reach.result.term c.long-p.result ≡ X
-    index_is = ap₂ index_at (l.loop-laid.inv.1.1.1.0 ∙ close.term_is) p-is
+    index_is = ap₂ index_at (l.loop-laid.invariant.1.1.1.0 ∙ close.term_is) p-is
 
     near : (c.long-p.result < 2305843009213693952) × ((32 ≤ n) × ((n < 2147483648) × (X < 3221225472)))
     near =
@@ -141,13 +141,13 @@ loop-again c =
     let left = most q - q.loop-laid.laid in
     let goes = batch-goes a.rec a.log.now (S q) q.loop-laid.numbers q.loop-laid.laid left (omega (arith, h.1.1)) y (whole_says a.rec a.log.now (S q) (n g) (whole_is g) (some c.before.before.before.before.before)) (X g (some c.before.before.before.before.before) + 32) (n g - 32) refl in
     let e : most q - (q.loop-laid.laid + 1) ≡ left - 1 = omega arith in
-    let stays = q.loop-laid.inv.1.1.1.0 ∙ sym (open-moved (image_state q.loop-laid.image) (pos (long q.loop-laid.image.position + align (n g))) (reading a.rec) (length a.log.now) (length q.loop-laid.buffer))
+    let stays = q.loop-laid.invariant.1.1.1.0 ∙ sym (open-moved (image_state q.loop-laid.image) (pos (long q.loop-laid.image.position + align (n g))) (reading a.rec) (length a.log.now) (length q.loop-laid.buffer))
     ∙ ap (λ (x : ℤ). open_term (moved_to (image_state q.loop-laid.image) x) (reading a.rec) (length a.log.now) (length q.loop-laid.buffer)) (sym z) in
     let out : c.lay.new.numbers ≡ laid_at q.loop-laid.numbers q.loop-laid.laid 1 (X g (some c.before.before.before.before.before) + 32) (n g - 32) (long q.loop-laid.image.position + align (n g)) =
     c.lay.ensures ∙ ap₂ (λ (i x : ℕ). laid_at q.loop-laid.numbers q.loop-laid.laid 1 (i + 32) (n g - 32) (x + align (n g))) (g.whole_from-found.ensures.1.1 (some c.before.before.before.before.before) ∙ index_is g (some c.before.before.before.before.before)) (p-is g) in (
-      q.loop-laid.inv.0,
+      q.loop-laid.invariant.0,
       (
-        omega (arith, c.numbers-1.given, q.loop-laid.inv.1.0),
+        omega (arith, c.numbers-1.given, q.loop-laid.invariant.1.0),
         (
           omega (arith, h.1.1),
           (
@@ -155,7 +155,7 @@ loop-again c =
             (
               ap₂ (λ (x : ℤ) (o : List ℕ). batch_from (most q - (q.loop-laid.laid + 1)) a.rec a.log.now (record { image = moved_to (image_state q.loop-laid.image) x; sessions = (S q).sessions; buffer = q.loop-laid.buffer }) o (q.loop-laid.laid + 1)) z out
                   ∙ ap (λ (k : ℕ). batch_from k a.rec a.log.now y.next (laid_at q.loop-laid.numbers q.loop-laid.laid 1 (X g (some c.before.before.before.before.before) + 32) (n g - 32) (long q.loop-laid.image.position + align (n g))) (q.loop-laid.laid + 1)) e
-                  ∙ goes ∙ q.loop-laid.inv.1.1.1.1.0,
+                  ∙ goes ∙ q.loop-laid.invariant.1.1.1.1.0,
               g.whole_from-found.ensures.1.0,
             ),
           ),
@@ -174,20 +174,20 @@ next-lent-requires c κs =
 
 module _ (f : tie.After-next_lent-reply invariant-loop decreases-loop) where
   abbrev ids' : List ℤ
-  ids' = f.next_lent-reply.new.held.1.0
+  ids' = f.next_lent-reply.new.ids
 
   abbrev held' : List ℕ
-  held' = f.next_lent-reply.last.1.1.1.0
+  held' = f.next_lent-reply.new.held
 
   abbrev b : List ℕ
-  b = f.next_lent-reply.last.1.1.1.1.1.1.0
+  b = f.next_lent-reply.new.buffer
 
   -- the reply
   abbrev Y : NextReply
   Y = lent_reply_of f.next_lent-reply.result ids' held' b
 
   fits_next : SFits w64 f.next_lent-reply.result.image.position
-  fits_next = let k = f.next_lent-reply.ok in search (rules, k)
+  fits_next = let k = f.next_lent-reply.type_inv in search (rules, k)
 
 last-requires : tie.Need-last-answer-requires invariant-loop decreases-loop
 last-requires c κs = let h = room c.before.before.before.before.before.before.before.before.before.before.before.before.before.before.before in (h.0, h.1.0)
@@ -204,7 +204,7 @@ returns-3 c =
     let x = f.next_lent-reply.result in
     let p2 = long-by x.image.position c.long.ensures.0 (fits_next c.before.before.before.before.before.before.before.before.before.before.before.before) in
     ap₂ {C = Batch} (λ (r : Replay) (y : Batched). record { answer = y; next = state_of r (b c.before.before.before.before.before.before.before.before.before.before.before.before); numbers = c.last-answer.new.numbers }) (c.batch_reply-in_default.ensures.0 ∙ c.replay_of.ensures) (c.batch_reply-in_default.ensures.1 ∙ c.last-answer.ensures.0)
-    ∙ ap {B = Batch} (λ (o : List ℕ). record { answer = last_by q.loop-laid.laid x.answer-1; next = (Y c.before.before.before.before.before.before.before.before.before.before.before.before).next; numbers = o }) (c.last-answer.ensures.1 ∙ ap (λ (i : ℕ). last_numbers q.loop-laid.numbers q.loop-laid.laid i x.answer-1) p2)
+    ∙ ap {B = Batch} (λ (o : List ℕ). record { answer = last_by q.loop-laid.laid x.answer; next = (Y c.before.before.before.before.before.before.before.before.before.before.before.before).next; numbers = o }) (c.last-answer.ensures.1 ∙ ap (λ (i : ℕ). last_numbers q.loop-laid.numbers q.loop-laid.laid i x.answer) p2)
     ∙ batch-ends a.rec a.log.now (S c.before.before.before.before.before.before.before.before.before.before.before.before.before.before.before.before.before.before.before.before.before) q.loop-laid.numbers q.loop-laid.laid (most c.before.before.before.before.before.before.before.before.before.before.before.before.before.before.before.before.before.before.before.before.before - q.loop-laid.laid) (omega (arith, h.1.1)) (Y c.before.before.before.before.before.before.before.before.before.before.before.before) f.next_lent-reply.ensures c.in_default.in_default-own.keys2
     ∙ goal c.before.before.before.before.before.before.before.before.before.before.before.before.before.before.before.before.before.before.before.before.before
 
@@ -215,11 +215,11 @@ loop-again-2 c =
     let a = (st c.before.before.before.before.before.before.before.before.before.before.before.before.before.before.before.before.before.before.before).args in
     let h = room c.before.before.before.before.before.before.before.before.before.before.before.before.before.before.before.before.before.before in
     let x = f.next_lent-reply.result in
-    let m = c.answer-1.given in
+    let m = c.in-InLog in
     let left = most c.before.before.before.before.before.before.before.before.before.before.before.before.before.before.before.before.before.before.before - q.loop-laid.laid in
     let e : most c.before.before.before.before.before.before.before.before.before.before.before.before.before.before.before.before.before.before.before - (q.loop-laid.laid + 1) ≡ left - 1 = omega arith in
     let p3 = long-by x.image.position c.long-in-loop-laid.ensures.0 (fits_next c.before.before.before.before.before.before.before.before.before.before) in
-    let out = c.lay-in-loop-laid.ensures ∙ ap (λ (i : ℕ). laid_at q.loop-laid.numbers q.loop-laid.laid 1 m.0.0 m.0.1.0 i) p3 in
+    let out = c.lay-in-loop-laid.ensures ∙ ap (λ (i : ℕ). laid_at q.loop-laid.numbers q.loop-laid.laid 1 m.from m.length i) p3 in
     let same : length (b c.before.before.before.before.before.before.before.before.before.before) ≡ length q.loop-laid.buffer = omega (arith, c.buffer-1.given) in
     let stays = q.loop-laid.invariant.1.1.1.0 ∙ ap (open_term (image_state q.loop-laid.image) (reading a.rec) (length a.log.now)) (sym same)
     ∙ sym (open_kept a.rec a.log.now (S c.before.before.before.before.before.before.before.before.before.before.before.before.before.before.before.before.before.before.before) (Y c.before.before.before.before.before.before.before.before.before.before) (reading a.rec) (length a.log.now) (length (b c.before.before.before.before.before.before.before.before.before.before)) f.next_lent-reply.ensures) in (
@@ -232,7 +232,7 @@ loop-again-2 c =
             stays,
             (
               ap₂ (λ (k : ℕ) (o : List ℕ). batch_from k a.rec a.log.now (Y c.before.before.before.before.before.before.before.before.before.before).next o (q.loop-laid.laid + 1)) e out
-                  ∙ batch-goes a.rec a.log.now (S c.before.before.before.before.before.before.before.before.before.before.before.before.before.before.before.before.before.before.before) q.loop-laid.numbers q.loop-laid.laid left (omega (arith, h.1.1)) (Y c.before.before.before.before.before.before.before.before.before.before) f.next_lent-reply.ensures m.0.0 m.0.1.0 m.1
+                  ∙ batch-goes a.rec a.log.now (S c.before.before.before.before.before.before.before.before.before.before.before.before.before.before.before.before.before.before.before) q.loop-laid.numbers q.loop-laid.laid left (omega (arith, h.1.1)) (Y c.before.before.before.before.before.before.before.before.before.before) f.next_lent-reply.ensures m.from m.length m.is
                   ∙ q.loop-laid.invariant.1.1.1.1.0,
               c.whole_from-found.ensures.1.0,
             ),

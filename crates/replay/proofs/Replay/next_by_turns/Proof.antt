@@ -32,7 +32,7 @@ next-lent-requires c κs = (omega (arith, c.if-buffer-gt2147483647.false), c.rea
 returns-3 : tie.Need-returns
 returns-3 c =
     let u = c in
-    ap {B = NextReply} (λ (x : Replay). record { answer = u.next_lent-reply.result.answer; next = state_of x u.next_lent-reply.new.held.1.1.1.1.1.0 }) c.replay_of.ensures ∙ u.next_lent-reply.ensures
+    ap {B = NextReply} (λ (x : Replay). record { answer = u.next_lent-reply.result.answer; next = state_of x u.next_lent-reply.new.buffer }) c.replay_of.ensures ∙ u.next_lent-reply.ensures
 
 pub next_by_turns_spec : {M : Type 1} → statement M
 next_by_turns_spec =

@@ -30,14 +30,14 @@ returns c =
     let f = c in
     let l = c in
     let a = l.args in
-    next-stops a.rec a.log.now (S c.before.before.before.before.before.before.before.before) (turned f.turn-t.result f.turn-t.new.buffer.1.1.0) f.turn-t.ensures l.loop-left.left (goes c.before.before.before.before.before.before.before) (not-true _ c.if-not-t.true) ∙ l.loop-left.invariant.1
+    next-stops a.rec a.log.now (S c.before.before.before.before.before.before.before.before) (turned f.turn-t.result f.turn-t.new.buffer) f.turn-t.ensures l.loop-left.left (goes c.before.before.before.before.before.before.before) (not-true _ c.if-not-t.true) ∙ l.loop-left.invariant.1
 
 loop-again : tie.Need-loop-left-preserved invariant-loop decreases-loop
 loop-again c =
     let f = c in
     let l = c in
     let a = l.args in
-    (search rules, next-goes a.rec a.log.now (S c.before.before.before.before.before.before.before.before) (turned f.turn-t.result f.turn-t.new.buffer.1.1.0) f.turn-t.ensures l.loop-left.left (goes c.before.before.before.before.before.before.before) (not-false _ c.if-not-t.false) ∙ l.loop-left.invariant.1)
+    (search rules, next-goes a.rec a.log.now (S c.before.before.before.before.before.before.before.before) (turned f.turn-t.result f.turn-t.new.buffer) f.turn-t.ensures l.loop-left.left (goes c.before.before.before.before.before.before.before) (not-false _ c.if-not-t.false) ∙ l.loop-left.invariant.1)
 
 returns-2 : tie.Need-returns invariant-loop decreases-loop
 returns-2 c =

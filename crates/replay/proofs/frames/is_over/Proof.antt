@@ -7,7 +7,7 @@ use borrow.Author.Tests.{not-true, not-false, le-leb, lt-leb, ltb-true, ltb-fals
 use lib.Dec.{leb, ltb}
 use Rattle.replay.specs.InPlace.{stop_at}
 use borrow.Author.Rules.{rules}
-use Rattle.replay.proofs.InPlace.{over-unsound, over-high, over-off, over_by}
+use Rattle.replay.proofs.InPlace.{over-unsound, over-high, over-off, over_by_lem}
 use Rattle.replay.proofs.frames.is_over.Statement.{statement}
 use Rattle.replay.proofs.frames.is_over.Tie as tie
 
@@ -31,7 +31,7 @@ either p s = go (ltb p s) refl
 returns-4 : tie.Need-returns
 returns-4 c =
     let a = c.args in
-    ap (λ (s : ℕ). leb s a.p) c.stop_at.ensures ∙ either a.p (stop_at a.v) ∙ over_by a.v a.n a.p (sym c.is_sound.ensures ∙ not-false _ c.if-not-is_sound.false-raw) (omega arith) c.if-p-ne0.false
+    ap (λ (s : ℕ). leb s a.p) c.stop_at.ensures ∙ either a.p (stop_at a.v) ∙ over_by_lem a.v a.n a.p (sym c.is_sound.ensures ∙ not-false _ c.if-not-is_sound.false-raw) (omega arith) c.if-p-ne0.false
 
 pub is_over_spec : {M : Type 1} → statement M
 is_over_spec = tie.close (tie.spec (search rules) returns (λ c. omega (arith, c.requires.1.1)) returns-2 returns-3 (λ c κs. c.requires) returns-4)

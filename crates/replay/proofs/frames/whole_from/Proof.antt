@@ -68,7 +68,7 @@ module _ (c : tie.After-base_at-begin) where
   low = omega (arith, room q, mod-lt q.args.p (some q))
 
   high : c.base_at-begin.result + bit_and q.args.p (q.args.term - 1) ≤ 4294967295
-  high = omega (arith, low, c.base_at-begin.ensures.1, q.pre.0.fits.high)
+  high = omega (arith, low, c.base_at-begin.ensures.1, q.requires.0.fits.high)
 
 returns-4 : tie.Need-returns
 returns-4 c =
@@ -76,7 +76,7 @@ returns-4 c =
     let s = (q c.before).before.before.before in
     let a = s.args in
     let i : e.base_at-begin.result + bit_and a.p (a.term - 1) ≡ index_at a.term a.p = ap₂ (λ (x y : ℕ). x + y) e.base_at-begin.ensures.0 (room (q c.before)) in (
-      c.whole_length.ensures ∙ ap₂ (λ (x y : ℕ). whole_frame a.log.now x (a.term - y)) i (room (q c.before)) ∙ whole_in a.log.now a.term a.stop a.p s.pre.0 (omega arith) (some (q c.before)) e.if-p-ne0.false,
+      c.whole_length.ensures ∙ ap₂ (λ (x y : ℕ). whole_frame a.log.now x (a.term - y)) i (room (q c.before)) ∙ whole_in a.log.now a.term a.stop a.p s.requires.0 (omega arith) (some (q c.before)) e.if-p-ne0.false,
       (e.base_at-begin.ensures.0 ∙ ap (λ (x : ℕ). a.p / x % 3 * a.term) (sym (bits_are c.before.before).0), λ h. i),
     )
 

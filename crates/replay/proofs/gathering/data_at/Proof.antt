@@ -25,13 +25,13 @@ says_none : (s : tie.Start) (x : DataFrame) → x ≡ no_frame → 0 ≡ data_at
 says_none s x e h = subst (Says s) (sym e) (h, λ l. absurd (omega arith))
 
 returns : tie.Need-returns-then-p-stop
-returns c = let s = c in let a = s.args in says_none s _ c.no_frame.ensures (data-past a.log.now a.term a.stop a.p (omega arith))
+returns c = let s = c in let a = s.args in says_none c.before.before.before _ c.no_frame.ensures (data-past a.log.now a.term a.stop a.p (omega arith))
 
 returns-2 : tie.Need-returns-then-term-eq0
-returns-2 c = let s = c in let a = s.args in says_none s _ c.no_frame-then-term-eq0.ensures (data-empty a.log.now a.term a.stop a.p c.if-term-eq0.true)
+returns-2 c = let s = c in let a = s.args in says_none c.before.before.before.before _ c.no_frame-then-term-eq0.ensures (data-empty a.log.now a.term a.stop a.p c.if-term-eq0.true)
 
 returns-3 : tie.Need-returns-then-p-ne0
-returns-3 c = let s = c in let a = s.args in says_none s _ c.no_frame-then-p-ne0.ensures (data-off a.log.now a.term a.stop a.p c.if-p-ne0.true)
+returns-3 c = let s = c in let a = s.args in says_none c.before.before.before.before.before _ c.no_frame-then-p-ne0.ensures (data-off a.log.now a.term a.stop a.p c.if-p-ne0.true)
 
 some : (c : tie.Else-term-eq0) → 0 < c.args.term
 some c = omega arith

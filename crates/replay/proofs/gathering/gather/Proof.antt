@@ -13,7 +13,7 @@ use Rattle.model.specs.FragmentAssembler.{Sessions, Assembly}
 use Rattle.model.proofs.Choice.{cond-true, cond-false}
 use Rattle.logbuffer.specs.Assembler.{sessions_as}
 use Rattle.replay.specs.declared.gathering.Current.{Current}
-use Rattle.replay.specs.declared.gathering.Gathered.{Gathered}
+use Rattle.replay.specs.declared.frames.Gathered.{Gathered}
 use Rattle.replay.specs.InPlace.{index_at}
 use Rattle.replay.specs.Gather.{Gathering, Knows, at_hand, gathered_as, gathering_of, joined_here, gather_from, is_end}
 use Rattle.replay.proofs.InPlace.{DataAt, data-found}
@@ -83,8 +83,8 @@ take-requires c κs =
     let s = st c.before.before.before.before.before.before.before in
     let some = c.if-frame-eq0.false in
     let f = found c.before.before.before.before.before some in (
-      (s.pre.0.0, (f.some, omega (arith, f.below, s.pre.0.1 f.some))),
-      (goes c.before.before.before.before.before.before, (d.data_at-frame.ensures.1 (omega (arith, some)), ((l.loop-left.invariant.0.0 ∙ s.pre.1.0, l.loop-left.invariant.0.1 ∙ s.pre.1.1), l.loop-left.invariant.1.1.0))),
+      (s.requires.0.0, (f.some, omega (arith, f.below, s.requires.0.1 f.some))),
+      (goes c.before.before.before.before.before.before, (d.data_at-frame.ensures.1 (omega (arith, some)), ((l.loop-left.invariant.0.0 ∙ s.requires.1.0, l.loop-left.invariant.0.1 ∙ s.requires.1.1), l.loop-left.invariant.1.1.0))),
     )
 
 module _ (k : tie.After-take-step invariant-loop decreases-loop) where
@@ -101,13 +101,13 @@ module _ (k : tie.After-take-step invariant-loop decreases-loop) where
   n = d.data_at-frame.result.length
 
   some : ¬ (n ≡ 0)
-  some = k.if-frame-eq0.left
+  some = k.if-frame-eq0.false
 
   abbrev r : Gathered
   r = k.take-step.result.gathered
 
   abbrev G : Gathering
-  G = gathering_of r k.take-step.last.1.0 (set k.take-step.last.1.1.0 k.take-step.result.current.place k.take-step.result.current.bytes) k.take-step.last.1.1.1.1.1.0
+  G = gathering_of r k.take-step.new.ids (set k.take-step.new.held k.take-step.result.current.place k.take-step.result.current.bytes) k.take-step.new.buffer
 
   abbrev J : Assembly
   J = joined_here s.args.log.now s.args.term l.loop-left.p (ss l) l.loop-left.buffer
@@ -116,7 +116,7 @@ module _ (k : tie.After-take-step invariant-loop decreases-loop) where
   on : gone_on s.args.log.now s.args.term s.args.stop G ≡ gather_from s.args.most s.args.log.now s.args.term s.args.stop s.args.position (sessions_as s.args.count s.args.ids.now s.args.held.now) s.args.buffer.now
   on =
       ap (gone_on s.args.log.now s.args.term s.args.stop) k.take-step.ensures.0
-      ∙ led_on s.args.log.now s.args.term s.args.stop l.loop-left.p (ss l) l.loop-left.buffer l.loop-left.left (goes d.before) n d.data_at-frame.ensures.0 some ∙ l.loop-left.inv.1.1.1
+      ∙ led_on s.args.log.now s.args.term s.args.stop l.loop-left.p (ss l) l.loop-left.buffer l.loop-left.left (goes d.before) n d.data_at-frame.ensures.0 some ∙ l.loop-left.invariant.1.1.1
 
   one : is_end r.answer ≡ true → r.left ≡ l.loop-left.left - 1
   one e =
@@ -127,7 +127,7 @@ returns-2 : tie.Need-returns-then-not-is_end invariant-loop decreases-loop
 returns-2 c =
     let k = c in
     let e = sym c.is_end.ensures ∙ not-true _ c.if-not-is_end.true-raw in
-    ap (λ (h : List ℕ). gathering_of (r c.before.before.before.before.before.before.before.before.before.before.before.before.before) k.take-step.new.held h k.take-step.new.held.1.1.1.1.0) c.settle-then-not-is_end.ensures
+    ap (λ (h : List ℕ). gathering_of (r c.before.before.before.before.before.before.before.before.before.before.before.before.before) k.take-step.new.ids h k.take-step.new.buffer) c.settle-then-not-is_end.ensures
     ∙ sym (cond-false (is_end (r c.before.before.before.before.before.before.before.before.before.before.before.before.before).answer) _ (G c.before.before.before.before.before.before.before.before.before.before.before.before.before) e) ∙ on c.before.before.before.before.before.before.before.before.before.before.before.before.before
 
 loop-less : tie.Need-loop-left-smaller invariant-loop decreases-loop

@@ -13,7 +13,7 @@ use Rattle.model.specs.FragmentAssembler.{Sessions, Assembly}
 use Rattle.model.proofs.Choice.{cond-true, cond-false}
 use Rattle.logbuffer.specs.Assembler.{sessions_as, join_of}
 use Rattle.logbuffer.proofs.Shifts.{offset-by}
-use Rattle.replay.specs.declared.gathering.Gathered.{Gathered}
+use Rattle.replay.specs.declared.frames.Gathered.{Gathered}
 use Rattle.replay.specs.InPlace.{kept_as, kept_by, replied_by, is_refused}
 use Rattle.replay.specs.Gather.{gathered_as, gathering_of}
 use Rattle.replay.proofs.InPlace.{kept-so, kept-not}
@@ -39,23 +39,23 @@ module _ (f : tie.After-give-given) where
 
   join_is : join_of (S s) s.args.buffer.now s.args.log.now s.args.index (bit_and s.args.p (s.args.term - 1)) ≡ J s
   join_is =
-      ap (join_of (S s) s.args.buffer.now s.args.log.now s.args.index) (offset-by s.args.term s.pre.0.1.high (s.pre.0.1.one_bit s.pre.0.0) s.args.p)
+      ap (join_of (S s) s.args.buffer.now s.args.log.now s.args.index) (offset-by s.args.term s.requires.0.1.high (s.requires.0.1.one_bit s.requires.0.0) s.args.p)
 
   answer-is : f.give-given.result.answer ≡ (J s).answer
   answer-is = f.give-given.ensures.0 ∙ ap (λ (y : Assembly). y.answer) join_is
 
-  sessions-are : sessions_as f.give-given.result.count f.give-given.last.1.0 f.give-given.last.1.1.0 ≡ kept_as (S s) (J s).next (J s).answer
+  sessions-are : sessions_as f.give-given.result.count f.give-given.new.ids f.give-given.new.held ≡ kept_as (S s) (J s).next (J s).answer
   sessions-are = f.give-given.ensures.1.0 ∙ ap (kept_by (S s)) join_is
 
-  buffer-is : f.give-given.last.1.1.1.1.0 ≡ (J s).buffer
+  buffer-is : f.give-given.new.buffer ≡ (J s).buffer
   buffer-is = f.give-given.ensures.1.1 ∙ ap (λ (y : Assembly). y.buffer) join_is
 
   -- by its parts
   led : (g : Gathered) (left p : ℕ) (y : Replayed) (t : Sessions) → g ≡ gathered_as f.give-given.result.count left p y → y ≡ replied_by s.args.index s.args.n f.give-given.result.answer
       → kept_as (S s) (J s).next (J s).answer ≡ t
-      → gathering_of g f.give-given.last.1.0 f.give-given.last.1.1.0 f.give-given.last.1.1.1.1.0 ≡ led_to left p t (J s).buffer (replied_by s.args.index s.args.n (J s).answer)
+      → gathering_of g f.give-given.new.ids f.give-given.new.held f.give-given.new.buffer ≡ led_to left p t (J s).buffer (replied_by s.args.index s.args.n (J s).answer)
   led g left p y t e r k =
-      ap (λ (x : Gathered). gathering_of x f.give-given.last.1.0 f.give-given.last.1.1.0 f.give-given.last.1.1.1.1.0) e
+      ap (λ (x : Gathered). gathering_of x f.give-given.new.ids f.give-given.new.held f.give-given.new.buffer) e
       ∙ ap₂ (λ (x : Sessions) (b : List ℕ). led_to left p x b y) (sessions-are ∙ k) buffer-is
       ∙ ap (led_to left p t (J s).buffer) (r ∙ ap (replied_by s.args.index s.args.n) answer-is)
 

@@ -25,7 +25,7 @@ use Rattle.logbuffer.specs.Assembler.{sessions_as, entered_with, Framed, join_of
 use Rattle.logbuffer.specs.Fragments.{behind, is_laid, laid_of, laid_bytes}
 use Rattle.logbuffer.proofs.Fragments.{Lying, laid-true}
 use Rattle.replay.specs.declared.gathering.Current.{Current}
-use Rattle.replay.specs.declared.gathering.Gathered.{Gathered}
+use Rattle.replay.specs.declared.frames.Gathered.{Gathered}
 use Rattle.replay.specs.InPlace.{index_at}
 use Rattle.replay.specs.Gather.{FrameHere, Gathering, current_of, Knows, gathered_as, gathering_of, led_by}
 use Rattle.replay.proofs.Inside.{part-16}
@@ -53,21 +53,21 @@ module _ (s : tie.Start) where
   fr = drop X log
 
   here : FrameHere log s.args.term s.args.p s.args.frame
-  here = s.pre.1.1.0
+  here = s.requires.1.1.0
 
   framed : Framed log X × (n ≡ u32 fr)
-  framed = data-framed log s.args.term 0 s.args.p s.pre.0.0 n s.pre.0.1.0 here.frame
+  framed = data-framed log s.args.term 0 s.args.p s.requires.0.0 n s.requires.0.1.0 here.frame
 
   long : Lies n (s.args.term - o)
   long = lies _ _ (Data n) here.frame refl
 
   low : o < s.args.term
-  low = mod-lt s.args.p s.pre.0.1.0
+  low = mod-lt s.args.p s.requires.0.1.0
 
   near : X < 3221225472
   near =
       let m : partition_of s.args.p s.args.term * s.args.term ≤ 2 * s.args.term = mul-le-mul_right s.args.term (omega arith) in
-      omega (arith, s.pre.0.0.fits.high, low)
+      omega (arith, s.requires.0.0.fits.high, low)
 
   session-is : to_z w32 (of_z w32 s.args.frame.session) ≡ session_at fr
   session-is = to_z-of_z {w = w32} {z = s.args.frame.session} (search rules) ∙ here.session-is
@@ -88,7 +88,7 @@ module _ (t : tie.After-turn_to-now) where
   b = t.turn_to-now.result.bytes
 
   abbrev held· : List ℕ
-  held· = t.turn_to-now.last.1.1.0
+  held· = t.turn_to-now.new.held
 
   abbrev count· : ℕ
   count· = s·.args.count
@@ -134,7 +134,7 @@ module _ (y : tie.After-lay_fragment-laid) where
   fr· = fr st
 
   abbrev buffer· : List ℕ
-  buffer· = y.lay_fragment-laid.last.1.1.1.1.1.1.0
+  buffer· = y.lay_fragment-laid.new.buffer
 
   -- by the numbers that were read
   as_read : (g : ℕ → ℕ → ℕ → Type 0) → g st.args.frame.flags (n st - 32) (st.args.frame.index + 32) → g (flags_at fr·) (body_length fr·) (X st + 32)
@@ -177,16 +177,16 @@ module _ (y : tie.After-lay_fragment-laid) where
     J = join_of (sessions_as (count· t·) (ids· t·) (set (held· t·) (K t·) (b t·))) (buffer₀ t·) (log st) (X st) (o st)
 
     small : o st ≤ 4294967295
-    small = omega (arith, low st, st.pre.0.0.fits.high)
+    small = omega (arith, low st, st.requires.0.0.fits.high)
 
     goes : ends (flags_at fr·) ≡ false → J ≡ record { answer = Nothing; next = Left (behind (b t·) (flags_at fr·) + body_length fr·); buffer = Filled }
-    goes = lay-goes (count· t·) (K t·) (b t·) (ids· t·) (held· t·) (buffer₀ t·) (log st) (X st) (o st) (framed st).0 small st.pre.1.1.1.0.0 (place_is t·) (bytes-now t·) lying
+    goes = lay-goes (count· t·) (K t·) (b t·) (ids· t·) (held· t·) (buffer₀ t·) (log st) (X st) (o st) (framed st).0 small st.requires.1.1.1.0.0 (place_is t·) (bytes-now t·) lying
 
     ended : ends (flags_at fr·) ≡ true → J ≡ record { answer = Message (K t· * (length (buffer₀ t·) / 16)) (behind (b t·) (flags_at fr·) + body_length fr·); next = Left 0; buffer = Filled }
-    ended = lay-ends (count· t·) (K t·) (b t·) (ids· t·) (held· t·) (buffer₀ t·) (log st) (X st) (o st) (framed st).0 small st.pre.1.1.1.0.0 (place_is t·) (bytes-now t·) lying
+    ended = lay-ends (count· t·) (K t·) (b t·) (ids· t·) (held· t·) (buffer₀ t·) (log st) (X st) (o st) (framed st).0 small st.requires.1.1.1.0.0 (place_is t·) (bytes-now t·) lying
 
     placed : K t· ≡ place_in (take (min (entered_with (count· t·) (K t·)) 16) (set (ids· t·) (K t·) (session_at fr·))) (session_at fr·)
-    placed = lay-place (count· t·) (K t·) (b t·) (ids· t·) (held· t·) (buffer₀ t·) (log st) (X st) (o st) (framed st).0 small st.pre.1.1.1.0.0 (place_is t·) (bytes-now t·) lying
+    placed = lay-place (count· t·) (K t·) (b t·) (ids· t·) (held· t·) (buffer₀ t·) (log st) (X st) (o st) (framed st).0 small st.requires.1.1.1.0.0 (place_is t·) (bytes-now t·) lying
 
 -- ---- a frame that is given to the core
 
@@ -204,15 +204,15 @@ returns c =
     let y = c in
     let t = t· c.before.before.before.before.before.before.before.before.before.before.before.before.before.before.before.before.before.before in
     let s = st c.before.before.before.before.before.before.before.before.before.before.before.before.before.before.before.before.before.before in
-    let h = g.give_one-gathered.new.held.1.0 in
+    let h = g.give_one-gathered.new.held in
     let e = c.current_as.ensures in (
-      ap (λ (x : Current). gathering_of g.give_one-gathered.result g.give_one-gathered.new.held (set h x.place x.bytes) g.give_one-gathered.new.held.1.1.1.0) e
-          ∙ ap (λ (x : List ℕ). gathering_of g.give_one-gathered.result g.give_one-gathered.new.held x g.give_one-gathered.new.held.1.1.1.0)
-          (set_out h 16 0 (omega (arith, c.held-then-laid-eq0-2-1.given, c.held-then-laid-eq0-1.given, c.held-1.given, s.pre.1.1.1.0.1)))
+      ap (λ (x : Current). gathering_of g.give_one-gathered.result g.give_one-gathered.new.ids (set h x.place x.bytes) g.give_one-gathered.new.buffer) e
+          ∙ ap (λ (x : List ℕ). gathering_of g.give_one-gathered.result g.give_one-gathered.new.ids x g.give_one-gathered.new.buffer)
+          (set_out h 16 0 (omega (arith, c.held-then-laid-eq0-2-1.given, c.held-then-laid-eq0-1.given, c.held-1.given, s.requires.1.1.1.0.1)))
           ∙ g.give_one-gathered.ensures
           ∙ ap₂ (λ (x bs : List ℕ). Leads t s.args.frame.index x bs) w.settle.ensures (stays c.before.before.before.before.before.before.before.before.before.before.before.before.before.before.before.before.before.before c.if-laid-eq0.true)
           ∙ ap (λ (i : ℕ). Leads t i (set (held· t) (K t) (b t)) (buffer₀ t)) (here s).index_is ∙ asked t,
-      subst (Knows g.give_one-gathered.result.count g.give_one-gathered.new.held) (sym e) (λ q. absurd (omega arith)),
+      subst (Knows g.give_one-gathered.result.count g.give_one-gathered.new.ids) (sym e) (λ q. absurd (omega arith)),
     )
 
 -- ---- a body that was laid
@@ -222,7 +222,7 @@ module _ (q : tie.After-entered_with-entered) where
   y· = q.before.before.before.before.before.before.before.before.before
 
   abbrev h· : ¬ (y·.lay_fragment-laid.result.held ≡ 0)
-  h· = q.if-laid-eq0.left
+  h· = q.if-laid-eq0.false
 
   abbrev tq : tie.After-turn_to-now
   tq = t· y·
@@ -231,7 +231,7 @@ module _ (q : tie.After-entered_with-entered) where
   sq = st y·
 
   abbrev ids-now : List ℤ
-  ids-now = q.enter.last.0
+  ids-now = q.enter.new.ids
 
   ids-are : ids-now ≡ set (ids· tq) (K tq) (session_at (fr sq))
   ids-are = q.enter.ensures ∙ ap (set (ids· tq) (K tq)) (named tq)
