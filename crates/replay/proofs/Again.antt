@@ -1,10 +1,10 @@
 -- What is refused once is refused again: the turn that refused is the first of the next call.
-use Prim.Native.Nat.{ℕ, zero, suc, ◌+◌, ◌-◌, ◌*◌, ◌/◌, ◌≤◌, ◌<◌}
-use mathlib.Core.Path.{◌≡◌, refl, sym, ap, ap₂, subst, ◌∙◌}
+use Prim.Native.Nat.{ℕ, zero, suc, ◌+◌, ◌-◌, ◌*◌, ◌/◌, ◌≤◌}
+use mathlib.Core.Path.{◌≡◌, refl, sym, ap, ◌∙◌}
 use mathlib.Core.Bool.{Bool, true, false, cond}
 use mathlib.Core.List.{List}
 use native.Mathlib.Omega.{arith}
-use lib.Dec.{eqb, leb}
+use lib.Dec.{eqb}
 use lib.IntN.{pos}
 use lib.ListN.{length, take, drop, get_or, length-drop}
 use lib.Seq.{length-take-le}
@@ -20,13 +20,13 @@ use Rattle.model.specs.declared.Verdict.TheVariants.{Pass, Refuse}
 use Rattle.model.specs.declared.Assembled.{Assembled}
 use Rattle.model.specs.declared.Assembled.TheVariants.{Nothing, Fragment, Message, Refused as AssemblyRefused}
 use Rattle.model.specs.declared.Replayed.TheVariants.{End, Refused as ReplayRefused}
-use Rattle.model.specs.Bytes.{word, long, u32}
+use Rattle.model.specs.Bytes.{long, u32}
 use Rattle.model.specs.FrameDescriptor.{flags_at}
 use Rattle.model.specs.LogBufferDescriptor.{reading, partition_of}
 use Rattle.model.specs.TermReader.{natural}
 use Rattle.model.specs.FragmentAssembler.{Sessions, session_at, joining, buffer_by, assemble_verdict, assemble_by, assemble_of}
 use Rattle.model.specs.Replay.{ReplayState, NextReply, giving, given_by, assembled_to, poll_one, assemble_one, is_over, turn_by, next_from, next_of}
-use Rattle.model.proofs.Choice.{split, le_yes, le-no, cond-case, cond-false}
+use Rattle.model.proofs.Choice.{split, le_yes, cond-case, cond-false}
 use Rattle.model.proofs.Splice.{length-splice}
 use Rattle.logbuffer.proofs.Assembly.{verdict-passed, Fit, join-fits}
 use Rattle.replay.specs.Again.{RefusesAgain}

@@ -1,25 +1,20 @@
 -- A count's numbers are those of the messages that a replay gives: how many there are, and their bytes.
-use Prim.Native.Nat.{ℕ, zero, suc, ◌+◌, ◌-◌, ◌*◌, ◌≤◌, ◌<◌, min}
+use Prim.Native.Nat.{ℕ, zero, suc, ◌+◌, ◌*◌, ◌≤◌, ◌<◌}
 use mathlib.Core.Path.{◌≡◌, refl, sym, ap, ap₂, ◌∙◌}
-use mathlib.Core.Bool.{Bool, true, false, cond}
+use mathlib.Core.Bool.{Bool, true, cond}
 use mathlib.Core.List.{List, [], ◌∷◌}
 use native.Mathlib.Omega.{arith}
 use lib.ListN.{length, take, drop, length-drop}
 use lib.Seq.{length-take-le}
 use lib.IntN.{ℤ, pos}
 use Rattle.model.specs.declared.LogRecord.{LogRecord}
-use Rattle.model.specs.declared.Polled.{Polled}
-use Rattle.model.specs.declared.Polled.TheVariants.{Fragments, Refused}
-use Rattle.model.specs.declared.Assembled.{Assembled}
-use Rattle.model.specs.declared.Assembled.TheVariants.{Nothing, Fragment, Message, Refused as AssemblyRefused}
 use Rattle.model.specs.declared.Replayed.{Replayed}
 use Rattle.model.specs.declared.Replayed.TheVariants.{InLog, InBuffer, End, Refused as ReplayRefused}
 use Rattle.model.specs.LogBufferDescriptor.{reading}
 use Rattle.model.specs.History.{World, total}
-use Rattle.model.specs.Replay.{ReplayState, NextReply, giving, given_by, assembled_to, turn_by, next_from, next_of, from_start, standing, message_by, replayed}
+use Rattle.model.specs.Replay.{ReplayState, NextReply, next_of, from_start, standing, message_by, replayed}
 use Rattle.model.specs.Demand.{GivesAll}
 use Rattle.model.proofs.Season.{Few}
-use Rattle.replay.specs.declared.Counted.{Counted}
 use Rattle.replay.specs.declared.Counted.TheVariants.{Counts}
 use Rattle.replay.specs.Replays.{Tally, added_to, gives_by, length_by, counted_by, count_from, count_of}
 use Rattle.replay.proofs.Inside.{next-inside, Inside}

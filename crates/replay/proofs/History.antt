@@ -1,26 +1,25 @@
 -- What callers see of the running functions is what the definitions say, call after call; so the season's theorem and demand 3 hold of them.
-use Prim.Native.Nat.{ℕ, zero, suc, ◌+◌, ◌-◌, ◌*◌, ◌<◌}
+use Prim.Native.Nat.{ℕ, zero, suc, ◌+◌, ◌-◌, ◌*◌}
 use mathlib.Core.Path.{◌≡◌, refl, sym, ap, ap₂, ◌∙◌, subst}
 use mathlib.Core.Bool.{Bool, true, false, cond}
 use mathlib.Core.Logic.{◌⊎◌, inl, inr, ⊎_elim}
 use mathlib.Core.List.{List, [], ◌∷◌, ◌++◌}
 use native.Mathlib.Omega.{arith}
-use lib.ListN.{length, drop, get_or}
+use lib.ListN.{drop, get_or}
 use lib.IntN.{ℤ, pos}
 use Rattle.model.specs.declared.LogRecord.{LogRecord}
 use Rattle.model.specs.declared.Assembled.{Assembled}
-use Rattle.model.specs.declared.Outcome.{Outcome}
 use Rattle.model.specs.declared.Outcome.TheVariants.{Done}
 use Rattle.model.specs.declared.RecordReply.{RecordReply}
 use Rattle.model.specs.declared.OfferReply.{OfferReply}
 use Rattle.model.specs.declared.ClaimReply.{ClaimReply}
 use Rattle.model.specs.Bytes.{long}
 use Rattle.model.specs.LogBufferDescriptor.{reading, partition_of}
-use Rattle.model.specs.Publication.{open_of, open_bytes}
+use Rattle.model.specs.Publication.{open_of}
 use Rattle.model.specs.TermReader.{natural}
-use Rattle.model.specs.Image.{Image, PollReply, new_image, poll_of}
+use Rattle.model.specs.Image.{Image, new_image, poll_of}
 use Rattle.model.specs.FragmentAssembler.{Sessions, Assembly, fresh, assemble_of}
-use Rattle.model.specs.History.{Call, Answer, offered, claimed, outcome, World, step, answers, left, Shape, messages, learn, Terms, no_terms, tell_terms, Given, AllGiven}
+use Rattle.model.specs.History.{Call, Answer, offered, claimed, outcome, World, step, answers, left, Shape, messages, learn, Terms, no_terms, tell_terms, AllGiven}
 use Rattle.model.specs.Rule.{is_trip}
 use Rattle.model.specs.Replay.{Replaying, Polls, handed_out, entries_of, feed, feed_all, round, start, is_below, turn, rounds, QuietPoll, free_rounds, ReplayState, NextReply, from_start, next_of, standing, message_by, replayed}
 use Rattle.model.specs.Demand.{Season, Demand3, Replayed, ReplayedFree, GivesAll, Start, from, opened, shape, history}

@@ -1,14 +1,14 @@
 -- What a replay answers lies inside the log, or inside the lent buffer.
 use Prim.Native.Nat.{ℕ, zero, suc, ◌+◌, ◌-◌, ◌*◌, ◌/◌, ◌≤◌, ◌<◌}
-use mathlib.Core.Path.{◌≡◌, refl, sym, ap, ◌∙◌}
+use mathlib.Core.Path.{◌≡◌, refl}
 use mathlib.Core.Bool.{Bool, true, false, cond}
-use mathlib.Core.List.{List, []}
+use mathlib.Core.List.{List}
 use native.Mathlib.Nat.{mul-le-mul_right}
 use native.Mathlib.Omega.{arith}
 use lib.Dec.{eqb, leb}
-use lib.ListN.{length, take, drop, length-take, length-drop}
+use lib.ListN.{length, take, drop, length-drop}
 use lib.Seq.{length-take-le}
-use lib.IntN.{ℤ, pos}
+use lib.IntN.{pos}
 use Rattle.model.specs.declared.LogRecord.{LogRecord}
 use Rattle.model.specs.declared.Error.TheVariants.{IllegalArgument}
 use Rattle.model.specs.declared.Polled.{Polled}
@@ -21,13 +21,12 @@ use Rattle.model.specs.declared.Assembled.{Assembled}
 use Rattle.model.specs.declared.Assembled.TheVariants.{Nothing, Fragment, Message, Refused as AssemblyRefused}
 use Rattle.model.specs.declared.Replayed.{Replayed}
 use Rattle.model.specs.declared.Replayed.TheVariants.{InLog, InBuffer, End, Refused as ReplayRefused}
-use Rattle.model.specs.Bytes.{word, long, u32, splice}
+use Rattle.model.specs.Bytes.{long, u32}
 use Rattle.model.specs.FrameDescriptor.{flags_at}
 use Rattle.model.specs.LogBufferDescriptor.{reading, partition_of}
-use Rattle.model.specs.FragmentAssembler.{Sessions, Assembly, part_length, session_at, body_length, assemble_verdict, assemble_by, assemble_of, assembled_by, buffer_by, joined, joining}
+use Rattle.model.specs.FragmentAssembler.{Sessions, session_at, assemble_verdict, assemble_by, assemble_of, assembled_by, buffer_by, joining}
 use Rattle.model.specs.Replay.{ReplayState, NextReply, giving, given_by, assembled_to, poll_one, assemble_one, is_over, turn_by, next_from, next_of}
 use Rattle.model.proofs.Splice.{length-splice}
-use Rattle.logbuffer.specs.Assembler.{Framed}
 use Rattle.logbuffer.proofs.Assembly.{verdict-passed, Fit, join-fits}
 
 -- a reply's part of the log, or of the lent buffer that it leaves

@@ -4,7 +4,7 @@ use mathlib.Core.Bool.{Bool, true, false, cond}
 use mathlib.Core.List.{List, []}
 use Prim.Native.Nat.{ℕ, suc, ◌+◌, ◌-◌, ◌*◌, ◌/◌, ◌≤◌, ◌<◌}
 use native.Mathlib.Omega.{arith}
-use lib.Dec.{eqb, leb}
+use lib.Dec.{eqb}
 use lib.ListN.{length, drop, get_or}
 use lib.IntN.{ℤ, pos}
 use Rattle.model.specs.declared.LogRecord.{LogRecord}
@@ -27,7 +27,7 @@ use Rattle.model.specs.LogBufferDescriptor.{reading_of, reading, sound, partitio
 use Rattle.model.specs.TermReader.{Walked, natural, good_entries}
 use Rattle.model.specs.Image.{Image, new_image, polled_by, walk_at, poll_verdict, poll_of}
 use Rattle.model.specs.FragmentAssembler.{Sessions, Assembly, fresh, assemble_verdict, assemble_by, assemble_of, assembled_by, buffer_by, joining}
-use Rattle.model.specs.Replay.{ReplayState, NextReply, giving, given_by, assembled_to, poll_one, assemble_one, is_over, turn_by, next_from, next_of, from_start}
+use Rattle.model.specs.Replay.{ReplayState, NextReply, giving, given_by, assembled_to, poll_one, assemble_one, is_over, turn_by, next_from, next_of}
 use Rattle.model.proofs.Choice.{cond-true, cond-false, le_yes, le-no, eq_yes, eq_no}
 use Rattle.logbuffer.proofs.Assembly.{verdict-passed}
 use Rattle.image.proofs.Rungs.{not_good, not_sound}

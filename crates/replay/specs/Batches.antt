@@ -1,14 +1,14 @@
 -- A batch: up to so many messages at once, four numbers for each in a lent slice: where it lies (1 in the log, 2 in the lent buffer), from, its
 -- length, and the position behind it. Each is a reply of `next_of`. A message in the lent buffer ends the batch, for the next one may lie over
 -- it. A refusal is answered where nothing was laid before it; else it ends the batch, and comes with the next call.
-use Rattle.std.specs.Prelude.{ℕ, zero, suc, ◌+◌, ◌*◌, ◌/◌, Bool, cond, ◌&&◌, List, [], ◌∷◌, eqb, leb, pos, length, set}
+use Rattle.std.specs.Prelude.{ℕ, zero, suc, ◌+◌, ◌*◌, ◌/◌, cond, ◌&&◌, List, [], ◌∷◌, eqb, leb, pos, length, set}
 use Rattle.model.specs.declared.LogRecord.{LogRecord}
 use Rattle.model.specs.declared.Error.TheVariants.{IllegalArgument}
 use Rattle.model.specs.declared.Replayed.{Replayed}
 use Rattle.model.specs.declared.Replayed.TheVariants.{InLog, InBuffer, End, Refused as ReplayRefused}
 use Rattle.model.specs.Bytes.{long}
 use Rattle.model.specs.Answers.{Told, answered, refused}
-use Rattle.model.specs.Replay.{ReplayState, NextReply, next_of}
+use Rattle.model.specs.Replay.{ReplayState, next_of}
 use Rattle.replay.specs.declared.BatchReply.{BatchReply}
 use Rattle.replay.specs.declared.Batched.{Batched}
 use Rattle.replay.specs.declared.Batched.TheVariants.{Laid, Refused}

@@ -1,5 +1,5 @@
 -- A replay of the code with its lent buffer, as the definitions have it; and one turn of it, told without what follows it.
-use Rattle.std.specs.Prelude.{ℕ, zero, suc, ◌+◌, ◌-◌, ◌*◌, min, Bool, true, false, cond, List, [], ◌∷◌, eqb, leb, ℤ, pos}
+use Rattle.std.specs.Prelude.{ℕ, zero, suc, ◌+◌, ◌-◌, ◌*◌, min, Bool, true, false, cond, List, [], ◌∷◌, eqb, ℤ, pos}
 use Rattle.model.specs.declared.LogRecord.{LogRecord}
 use Rattle.model.specs.declared.Polled.{Polled}
 use Rattle.model.specs.declared.Polled.TheVariants.{Fragments, Refused}
@@ -12,7 +12,7 @@ use Rattle.model.specs.Answers.{Told, answered, refused}
 use Rattle.model.specs.LogBufferDescriptor.{reading, partition_of}
 use Rattle.model.specs.TermReader.{natural}
 use Rattle.model.specs.Image.{Image as ImageState}
-use Rattle.model.specs.FragmentAssembler.{Sessions, Assembly, assemble_of}
+use Rattle.model.specs.FragmentAssembler.{Assembly, assemble_of}
 use Rattle.model.specs.Replay.{ReplayState, NextReply as NextSaid, assembled_to, poll_one, assemble_one, is_over, next_of, from_start}
 use Rattle.image.specs.declared.Image.{Image}
 use Rattle.image.specs.Images.{state_of as image_state}

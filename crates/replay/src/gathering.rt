@@ -200,7 +200,12 @@ fn take(
         let from = place * (buffer.len() / 16);
         return Step {
             current: current_as(place, session, 0),
-            gathered: frames::gathered_as(entered, left - 1, end, Replayed::InBuffer(from, laid.held)),
+            gathered: frames::gathered_as(
+                entered,
+                left - 1,
+                end,
+                Replayed::InBuffer(from, laid.held),
+            ),
         };
     }
     Step {

@@ -1,6 +1,7 @@
 // A replay: polls of one fragment each into an assembler, from wherever its image stands, until one gives a message. Demand 3 says what it
 // gives of a log that was made by any list of calls; read `next_of` in the definitions.
 #![tactic(auto)]
+
 ghost use Rattle.std.specs.Prelude.{◌≡◌, false, ◌-◌, ◌≤◌, ◌<◌, length, pos};
 ghost use Rattle.model.specs.TermReader.{natural};
 ghost use Rattle.model.specs.Image.{new_image};

@@ -10,7 +10,6 @@ use lib.ListN.{length}
 use mir.Syntax.{w32, w64}
 use mir.Val.{to_z, of_z, SFits}
 use mir.Facts.{to_z-of_z}
-use Rattle.model.specs.Bytes.{long}
 use Rattle.model.specs.LogBufferDescriptor.{reading}
 use Rattle.model.specs.Image.{moved_to}
 use Rattle.model.specs.Replay.{ReplayState, giving, next_from, next_of}

@@ -1,8 +1,6 @@
 -- Each test that fails answers 0; behind them the frame's kind says.
 use mathlib.Core.Path.{◌≡◌, sym, ap, ap₂, ◌∙◌}
-use mathlib.Core.Bool.{Bool}
-use mathlib.Core.List.{List}
-use Prim.Native.Nat.{ℕ, ◌-◌, ◌*◌, ◌%◌, ◌<◌}
+use Prim.Native.Nat.{ℕ, ◌-◌, ◌%◌, ◌<◌}
 use native.Mathlib.Nat.{mod-lt}
 use native.Mathlib.Omega.{arith}
 use lib.Bits.{bit_and}
@@ -11,7 +9,6 @@ use Rattle.model.specs.FrameDescriptor.{frame_at}
 use Rattle.logbuffer.proofs.Shifts.{offset-by}
 use Rattle.logbuffer.specs.Whole.{data_length}
 use Rattle.logbuffer.proofs.Whole.{no-data}
-use Rattle.replay.specs.InPlace.{data_at}
 use Rattle.replay.proofs.InPlace.{data-past, data-empty, data-off, data-by}
 use borrow.Author.Rules.{rules}
 use Rattle.replay.proofs.frames.data_at.Statement.{statement}

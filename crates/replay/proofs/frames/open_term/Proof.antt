@@ -1,7 +1,7 @@
 -- Each test that fails answers 0; behind them the term length stands.
-use mathlib.Core.Path.{◌≡◌, sym, ◌∙◌}
+use mathlib.Core.Path.{sym, ◌∙◌}
 use native.Mathlib.Omega.{arith}
-use borrow.Author.Tests.{not-true, not-false, le-leb, lt-leb}
+use borrow.Author.Tests.{not-true, not-false}
 use borrow.Author.Rules.{rules}
 use Rattle.image.specs.Images.{state_of as image_state}
 use Rattle.replay.proofs.InPlace.{shut-lent, shut-closed, shut-unsound, opened}

@@ -1,9 +1,8 @@
 -- The term's count says where it begins; ids that no log has put it below.
-use mathlib.Core.Path.{◌≡◌, sym, ap, ◌∙◌}
+use mathlib.Core.Path.{◌≡◌, ap, ◌∙◌}
 use Prim.Native.Nat.{ℕ, ◌+◌, ◌*◌, ◌≤◌, min}
 use native.Mathlib.Nat.{mul-le-mul_right}
 use native.Mathlib.Omega.{arith}
-use Rattle.model.specs.LogBufferDescriptor.{id_minus}
 use Rattle.replay.specs.InPlace.{stop_at}
 use Rattle.replay.proofs.InPlace.{stop-none, stop-by}
 use borrow.Author.Rules.{rules}

@@ -1,8 +1,6 @@
 -- Case by case on the reply.
-use mathlib.Core.Path.{◌≡◌, refl, sym, ap, ◌∙◌}
-use mathlib.Core.Bool.{Bool, cond}
+use mathlib.Core.Path.{sym, ap, ◌∙◌}
 use borrow.Author.Rules.{rules}
-use lib.Dec.{eqb}
 use Rattle.model.proofs.Choice.{eq_yes, eq_no}
 use Rattle.replay.specs.Batches.{last_by, last_numbers}
 use Rattle.replay.proofs.laying.last.Statement.{statement}
