@@ -2,6 +2,7 @@
 // line for each: what it is; the length, or the card with its bits first and where its note starts; or the refusal's number. The
 // stored output was worked out from document 02.
 #![tactic(auto)]
+
 mod print;
 
 use card::{Card, CardRead, CardWritten};

@@ -1,6 +1,7 @@
 // The log at work: two writers catalogue their finds into one log, then a replay reads it back. Each call is printed with its answer.
 // writers.rt makes the calls, back.rt replays, season.rt goes on for twelve terms, tell.rt has the words; docs/GUIDE.md explains terms, frames and positions.
 #![tactic(auto)]
+
 mod back;
 mod season;
 mod tell;

@@ -1,6 +1,7 @@
 // Which card holds: of the find cards of one find between two positions, each field from the last that has it, with the end position of that card's
 // message. specs/Messages.antt says what a message is, specs/Holding.antt what the call answers. Read walk next.
 #![tactic(auto)]
+
 ghost use Rattle.std.specs.Prelude.{◌≡◌, [], pos, ◌<◌};
 ghost use Rattle.holding.specs.declared.Answer.TheVariants.{Refused};
 ghost use Rattle.holding.specs.Holding.{answer_of, held_of, padded, holding_with, holding_of};

@@ -2,6 +2,7 @@
 // comes first. A line is a name, the refusal's number or 0, and where the walk ended, or the place of a frame that is refused; then the card that holds by its
 // bits and fields, where the message that each field is from ends, and the note. The stored output was worked out from document 02.
 #![tactic(auto)]
+
 mod print;
 
 use holding::Answer;

@@ -1,6 +1,7 @@
 // The metadata section of a log: the 320 bytes of the Rust's `LogMetaDataDefn`, written and read. specs/Metadata.antt draws the layout,
 // specs/Calls.antt says what each call answers and leaves. Its refusals are the crate's own, by the numbers 1, 2 and 25 of the documents.
 #![tactic(auto)]
+
 mod bytes;
 mod section;
 

@@ -1,6 +1,7 @@
 // The quick start of the README, whole: a log is opened, two requests are offered, each works its block of find numbers out of its position, and
 // a replay reads the log back. The README quotes it; docs/quoted.sh holds the two together. Read crates/demo next.
 #![tactic(auto)]
+
 use logbuffer::cast;
 use model::{LogRecord, Offered, Replayed};
 use publication::{opening, positions};

@@ -2,6 +2,7 @@
 // answer. A line is a name, the refusal's number or 0, and the numbers answered, or the place of a frame that is refused; then the next position, and
 // the first entries.
 #![tactic(auto)]
+
 use image::{BlockReply, Image, ImageReply, PeekReply, PollReply};
 use logbuffer::{cast, errors};
 use model::{BlockPolled, EndOfStream, Error, LogRecord, Outcome, Peeked, Polled};

@@ -4,6 +4,7 @@
 // and a replay whose lent buffer has parts of one byte: 18. Last the same list from the largest term id on, so that its second term has the
 // lowest (R-8 of document 02): the same lines again.
 #![tactic(auto)]
+
 use logbuffer::{buffer_claim, cast, errors};
 use model::{Claim, ClaimReply, Claimed, Error, LogRecord, Offered, Outcome, Replayed};
 use publication::{opening, positions};

@@ -2,6 +2,7 @@
 // that are no theorems; and of document 02 a small input for each rule that decides an offer or a claim (R-10), and those of the metadata section (R-11). A line for
 // each: the call, its number (0: none), its position or value, the active term count after it, and the rule.
 #![tactic(auto)]
+
 mod print;
 mod rules;
 mod sections;

@@ -2,6 +2,7 @@
 // layout, specs/Calls.antt says what each call answers and leaves. Its refusals are the crate's own, by the numbers 1, 2 and 26 of the
 // documents.
 #![tactic(auto)]
+
 mod bytes;
 mod frames;
 mod laying;

@@ -2,6 +2,7 @@
 // with its bytes of the first nine frames and of the last, and where the bodies lie; then the small inputs of each refusal, by number, 0 for
 // none. The stored output was worked out from document 02.
 #![tactic(auto)]
+
 mod filling;
 mod print;
 mod refusals;

@@ -3,6 +3,7 @@
 // 64, by 32 and by 0, and how often by anything else than the rule says (never). Then the lengths around the first edges, with what is
 // answered, and the same for claims. A refused length answers 0.
 #![tactic(auto)]
+
 use logbuffer::cast;
 use model::{Claimed, LogRecord, Offered};
 use publication::{opening, positions};

@@ -15,6 +15,7 @@
 //   10 the arguments, 8 bytes each; the results, 8 bytes each; the fields: place, 1 byte, and value, 8 bytes; the payload;
 //   the ranges: first index, 4 bytes, length, 2 bytes, and the bytes.
 #![tactic(auto)]
+
 mod decode;
 mod images;
 mod joining;
