@@ -35,11 +35,11 @@ use Rattle.holding.proofs.Cutting.{goes_on, closes}
 pub placed-bodies : PlacedBodies
 unfolding placed bodies messages_of
 placed-bodies c p [] = refl
-placed-bodies c p (message re m ∷ h) = ap (λ (ms : List (List ℕ)). m ∷ ms) (placed-bodies c _ h)
+placed-bodies c p (message re m ∷ h) = ap (λ (ms : List (List ℕ)). m ∷ ms) (placed-bodies c (p + size_of c (message re m)) h)
 placed-bodies c p (claimed· open· b ∷ h) = refl
-placed-bodies c p (claimed· committed b ∷ h) = ap (λ (ms : List (List ℕ)). b ∷ ms) (placed-bodies c _ h)
-placed-bodies c p (claimed· aborted b ∷ h) = placed-bodies c _ h
-placed-bodies c p (padding n ∷ h) = placed-bodies c _ h
+placed-bodies c p (claimed· committed b ∷ h) = ap (λ (ms : List (List ℕ)). b ∷ ms) (placed-bodies c (p + size_of c (claimed· committed b)) h)
+placed-bodies c p (claimed· aborted b ∷ h) = placed-bodies c (p + size_of c (claimed· aborted b)) h
+placed-bodies c p (padding n ∷ h) = placed-bodies c (p + size_of c (padding n)) h
 
 -- ---- the fragments of a message
 

@@ -43,10 +43,10 @@ abbrev stream : tie.After-long-end → Stream
 stream c = stream_by c.position_bits_to_shift-bits.result (word (st c).args.rec.initial_term_id) (st c).args.log.now
 
 start_is : (c : tie.After-long-end) → start c ≡ long (st c).args.from
-start_is c = let s = st c in long-by s.args.from c.long-start.ensures.0 s.fits.from
+start_is c = let s = st c in long-by s.args.from c.long-start.ensures.0 s.ranges.from
 
 end_is : (c : tie.After-long-end) → c.long-end.result ≡ long (st c).args.to
-end_is c = let s = st c in long-by s.args.to c.long-end.ensures.0 s.fits.to
+end_is c = let s = st c in long-by s.args.to c.long-end.ensures.0 s.ranges.to
 
 -- what is known behind the rows
 passed : (c : tie.After-long-end) → let a = (st c).args in Pass ≡ span_rows a.rec (length a.log.now) a.from a.to Pass

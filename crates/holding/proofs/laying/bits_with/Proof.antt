@@ -1,6 +1,6 @@
 -- Each bit by its two.
 use mathlib.Core.Path.{◌≡◌, refl}
-use borrow.Author.Rules.{rules}
+use native.Mathlib.Omega.{arith}
 use Rattle.holding.specs.Within.{bits_with}
 use Rattle.holding.proofs.laying.bits_with.Statement.{statement}
 use Rattle.holding.proofs.laying.bits_with.Tie as tie
@@ -18,21 +18,21 @@ pub bits_with_spec : {M : Type 1} → statement M
 bits_with_spec =
     tie.close
     (tie.spec
-    (search rules)
-    (search rules)
-    (search rules)
-    (search rules)
-    (search rules)
-    (search rules)
-    (search rules)
-    (search rules)
-    (search rules)
-    (search rules)
-    (search rules)
-    (search rules)
-    (search rules)
-    (search rules)
-    (search rules)
-    (search rules)
-    (search rules)
+    (λ c κs. omega arith)
+    (λ c κs. omega arith)
+    (λ c. omega arith)
+    (λ c. omega arith)
+    (λ c κs. omega arith)
+    (λ c. omega arith)
+    (λ c. omega arith)
+    (λ c κs. omega arith)
+    (λ c. omega arith)
+    (λ c. omega arith)
+    (λ c κs. omega arith)
+    (λ c. omega arith)
+    (λ c. omega arith)
+    (λ c κs. omega arith)
+    (λ c. omega arith)
+    (λ c. omega arith)
+    (λ c. omega arith)
     returns)

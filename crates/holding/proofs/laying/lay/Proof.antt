@@ -11,7 +11,7 @@ use Rattle.holding.proofs.laying.lay.Statement.{statement}
 use Rattle.holding.proofs.laying.lay.Tie as tie
 
 -- what was read
-found : (c : tie.In-Found-2) → let g = c.card-1.given.0 in read_of c.args.bytes.now ≡ Found g.0 g.1.0 g.1.1.0
+found : (c : tie.In-Found) → let g = c.in-Found in read_of c.args.bytes.now ≡ Found g.card g.from g.n
 found c = sym c.read.ensures ∙ c.in-Found.is
 
 returns : tie.Need-returns-then-card-find

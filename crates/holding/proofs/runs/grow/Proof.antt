@@ -24,7 +24,9 @@ flag : (c : tie.After-flags_at) → let a = c.args in
 flag c = ap (λ (x : ℕ). eqb (x / 128 % 2) 1) c.flags_at.ensures
 
 returns : tie.Need-returns-in_default
-returns c = (broken-by _ _ c.args.frame c.in_default.in_default-own.keys2, omega arith)
+returns c =
+    let a = c.args in
+    (broken-by (drop a.index a.log.now) (run_in a.run a.buffer.now) a.frame c.in_default.in_default-own.keys2, omega arith)
 
 sub-n : tie.Need-overflow_sub-n
 sub-n c = omega (arith, length-is c, c.requires.1.1.0)

@@ -82,7 +82,7 @@ grow-requires c κs =
 
 -- the buffer keeps its length
 buffered : (c : tie.After-grow-run invariant-loop decreases-loop) → length c.grow-run.new.buffer ≡ 270
-buffered c = c.grow-run.auto.1.0 ∙ c.loop-run.invariant.1.1.1
+buffered c = c.grow-run.auto.buffer ∙ c.loop-run.invariant.1.1.1
 
 add-p : tie.Need-overflow_add-p invariant-loop decreases-loop
 add-p c = let e = c in omega (arith, sized c.before.before.before.before.before.before, (passes c.before.before.before.before.before).before)
@@ -114,7 +114,7 @@ loop-again c =
     let t = q.closes-closed.result in (
       turned_by (stream c.before.before.before.before.before.before.before.before.before.before.before.before.before.before.before) s.args.find s.args.from s.args.to _ _ l.loop-run.p l.loop-run.invariant.0 (some c.before.before.before.before.before.before.before.before.before.before) t _ _ _ _ _ _ (bytes c.before.before.before.before.before.before.before.before.before) (framed c.before.before.before.before.before.before.before.before.before.before.before) (sized c.before.before.before.before.before.before.before.before.before.before.before) q.closes-closed.ensures g.grow-run.ensures.0
           y.lay_run-held.ensures (ap (λ (x : Run). run_in x g.grow-run.new.buffer) c.left-run.ensures ∙ left_in t g.grow-run.result g.grow-run.new.buffer),
-      (rw c.left-run.ensures (left-small t g.grow-run.result g.grow-run.ensures.1), (y.lay_run-held.auto.1.0 ∙ l.loop-run.invariant.1.1.0, buffered c.before.before.before.before.before.before.before)),
+      (rw c.left-run.ensures (left-small t g.grow-run.result g.grow-run.ensures.1), (y.lay_run-held.auto.note ∙ l.loop-run.invariant.1.1.0, buffered c.before.before.before.before.before.before.before)),
     )
 
 returns : tie.Need-returns invariant-loop decreases-loop
