@@ -7,7 +7,7 @@ use lib.ListN.{replicate, take}
 use Rattle.model.specs.Bytes.{le4, u16, u32}
 use Rattle.model.specs.FrameDescriptor.{frame_length_of, frame_at}
 use Rattle.tally.specs.Walk.{Stream, frame_in, own_id, met, walked, between}
-use Rattle.holding.specs.Messages.{Message, idle, messages}
+use Rattle.holding.specs.Messages.{idle, messages}
 use Rattle.holding.specs.Holding.{Found, latest, held_of}
 
 -- ---- a find is weighed again, and moved to another context

@@ -1,5 +1,5 @@
 -- The answer by the verdicts, over the numbers that the code has read.
-use mathlib.Core.Path.{◌≡◌, refl, sym, ap, ◌∙◌}
+use mathlib.Core.Path.{◌≡◌, ap, ◌∙◌}
 use mathlib.Core.List.{List}
 use Prim.Native.Nat.{ℕ, ◌*◌, ◌^◌, ◌≤◌, min}
 use native.Mathlib.Omega.{arith}

@@ -1,6 +1,6 @@
 -- A run of more than 270 bytes is no card, so that it may be dropped as soon as it has them.
 use mathlib.Core.Path.{◌≡◌, refl, sym, ap, ◌∙◌}
-use mathlib.Core.Bool.{Bool, true, false, cond, ◌&&◌}
+use mathlib.Core.Bool.{Bool, true, false, ◌&&◌}
 use mathlib.Core.List.{List, [], ◌∷◌, ◌++◌}
 use Prim.Native.Nat.{ℕ, ◌+◌, ◌-◌, ◌/◌, ◌%◌, ◌≤◌, ◌<◌}
 use native.Mathlib.Omega.{arith}
@@ -22,8 +22,7 @@ use Rattle.card.specs.Card.{widths, card_of, within, sound_card, Decoded, card, 
 use Rattle.card.proofs.Fields.{number-one}
 use Rattle.card.proofs.Calls.{accepted}
 use Rattle.holding.specs.Messages.{Run, idle, running, joined, grown}
-use Rattle.holding.proofs.Anchors as Anchors
-use Rattle.holding.specs.Within.{capped, Laid, laid_card, laid_run}
+use Rattle.holding.specs.Within.{capped, Laid, laid_run}
 
 -- ---- a card has at most 270 bytes
 

@@ -1,6 +1,5 @@
 -- The messages are just those whose frames lie one behind the other among the walked ones, and come by position.
 use mathlib.Core.Path.{◌≡◌, refl, sym, ap, ap₂, ◌∙◌, subst}
-use mathlib.Core.Logic.{◌↔◌}
 use mathlib.Core.Bool.{Bool, true, false, cond}
 use mathlib.Core.List.{List, [], ◌∷◌, ◌++◌, append_assoc}
 use Prim.Native.Nat.{ℕ, zero, suc, ◌+◌, ◌-◌, ◌≤◌, ◌<◌}
@@ -12,7 +11,7 @@ use Rattle.model.specs.declared.Frame.{Frame}
 use Rattle.model.specs.declared.Frame.TheVariants.{Absent, Unsound, Padding, Data}
 use Rattle.model.specs.FrameDescriptor.{flags_at, begins, ends}
 use Rattle.model.proofs.Both.{test}
-use Rattle.tally.specs.Walk.{Stream, bytes_at, size, met, Passed, walked, between}
+use Rattle.tally.specs.Walk.{Stream, bytes_at, size, met, Passed, walked}
 use Rattle.tally.proofs.Steps.{stepped, no_fuel, stops, goes}
 use Rattle.holding.specs.Messages.{Message, Run, idle, running, joined, grown, told, messages}
 use Rattle.holding.specs.Theorems.{Piece, Opened, begun, went_on, Frames, unfragmented, run_of, Among, here, there, Lies, JustThose, Rising, none_left, behind-it, ByPosition}

@@ -3,20 +3,17 @@
 use mathlib.Core.Path.{◌≡◌, refl, sym, ap, ◌∙◌}
 use mathlib.Core.Logic.{◌⊎◌, inl, inr}
 use mathlib.Core.Bool.{Bool, true, false, cond}
-use mathlib.Core.List.{List, [], ◌∷◌, ◌++◌, append-nil, append_assoc}
-use Prim.Native.Nat.{ℕ, ◌+◌, ◌*◌, ◌/◌, ◌%◌, ◌^◌, ◌<◌}
+use mathlib.Core.List.{List, [], ◌∷◌, ◌++◌, append-nil}
+use Prim.Native.Nat.{ℕ, ◌+◌, ◌*◌, ◌/◌, ◌%◌, ◌<◌}
 use native.Mathlib.Omega.{arith}
 use borrow.Author.Tests.{eqb-true, eqb-false}
 use lib.Dec.{eqb}
 use lib.ListN.{length, replicate}
 use Rattle.model.proofs.Both.{test}
-use Rattle.card.specs.declared.Card.{Card}
 use Rattle.card.specs.Card.{Decoded, card, broken}
-use Rattle.holding.specs.declared.laying.Held.{Held}
-use Rattle.holding.specs.Holding.{Found, of_find, bit, none, latest, holder, some, held_by, held_of, padded, note_held}
+use Rattle.holding.specs.Holding.{Found, of_find, bit, none, latest, holder, some, held_of, padded, note_held}
 use Rattle.holding.specs.Within.{newer, bits_with, held_with, Laid, laid_card}
 use Rattle.holding.proofs.Same.{same-card, same-held, same-laid}
-use Rattle.holding.proofs.Anchors as Anchors
 use Rattle.holding.specs.Theorems.{Without, all, more, Holds, HeldByLast}
 
 -- ---- the theorem

@@ -1,15 +1,14 @@
 -- What the card reader answered, laid over what is held.
 use mathlib.Core.Path.{◌≡◌, refl, sym, ap, ◌∙◌}
-use mathlib.Core.Bool.{Bool, true, false, cond}
+use mathlib.Core.Bool.{true, false, cond}
 use mathlib.Core.List.{List}
-use Prim.Native.Nat.{ℕ, ◌+◌, ◌/◌, ◌%◌, ◌≤◌}
+use Prim.Native.Nat.{ℕ, ◌/◌, ◌%◌, ◌≤◌}
 use native.Mathlib.Omega.{arith}
 use borrow.Author.Tests.{le-leb}
 use lib.Dec.{eqb}
 use lib.ListN.{length, take, drop, length-take, length-drop}
 use Rattle.card.specs.declared.Card.{Card}
 use Rattle.card.specs.declared.CardError.{CardError}
-use Rattle.card.specs.declared.CardError.TheVariants.{IllegalArgument}
 use Rattle.card.specs.declared.CardRead.TheVariants.{Found, Refused}
 use Rattle.card.specs.Card.{Decoded, card, broken, decode, located, read_of, note_of}
 use Rattle.card.proofs.Calls.{located-note, found-decoded}

@@ -1,5 +1,5 @@
 -- The answers of both tallies by the verdicts, over the numbers that the code has read.
-use Rattle.std.proofs.Common.{◌≡◌, ℕ, ◌^◌, ◌≤◌, min, Bool, cond, List, length, ℤ, sym, refl, ap, ◌∙◌, arith, w64, SFits}
+use Rattle.std.proofs.Common.{◌≡◌, ℕ, ◌^◌, min, Bool, cond, List, length, ℤ, sym, refl, ap, ◌∙◌, arith, w64, SFits}
 use Rattle.model.specs.declared.LogRecord.{LogRecord}
 use Rattle.model.specs.declared.Error.{Error}
 use Rattle.model.specs.declared.Error.TheVariants.{IllegalArgument}
@@ -15,7 +15,7 @@ use Rattle.tally.specs.Tally.{tallied_by, tally_verdict, tally_of}
 use Rattle.tally.specs.Partitions.{in_three, partitioned_by, partition_verdict, partition_tally_of}
 use Rattle.tally.specs.Within.{Ordered}
 use Rattle.tally.proofs.Spots.{term_is, stream-is}
-use Rattle.tally.proofs.Spans.{Spanned, span-pass, span-after}
+use Rattle.tally.proofs.Spans.{span-pass, span-after}
 
 module _ (r : LogRecord) (log : List ℕ) (from to : ℤ) where
   abbrev rows : Verdict → Verdict

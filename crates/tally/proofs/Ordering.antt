@@ -1,5 +1,5 @@
 -- The tally in partition order is the tally: the same rows, totals and end.
-use Rattle.std.proofs.Common.{◌≡◌, ℕ, ◌+◌, ◌*◌, ◌/◌, ◌≤◌, true, List, length, ℤ, pos, sym, refl, ap, ◌∙◌, ap₂, w64, SFits, leb-true}
+use Rattle.std.proofs.Common.{◌≡◌, ℕ, ◌+◌, ◌*◌, ◌/◌, ◌≤◌, true, List, length, ℤ, pos, refl, ap, ◌∙◌, ap₂, w64, SFits, leb-true}
 use Rattle.model.specs.declared.LogRecord.{LogRecord}
 use Rattle.model.specs.declared.Verdict.{Verdict}
 use Rattle.model.specs.declared.Verdict.TheVariants.{Pass, Refuse}
@@ -8,10 +8,10 @@ use Rattle.model.specs.LogBufferDescriptor.{reading}
 use Rattle.tally.specs.declared.Sums.{Sums}
 use Rattle.tally.specs.declared.Partitions.{Partitions}
 use Rattle.tally.specs.declared.Tallied.TheVariants.{Tally}
-use Rattle.tally.specs.Walk.{Stream, stream_of, between, end_of, why}
-use Rattle.tally.specs.Span.{span_rows, first_frame}
-use Rattle.tally.specs.Tally.{sums_of, tally_verdict, tallied_by, tally_of}
-use Rattle.tally.specs.Partitions.{all_of, in_three, partitioned, partitioned_end, partition_verdict, partitioned_by, partition_tally_of}
+use Rattle.tally.specs.Walk.{Stream, stream_of, between, why}
+use Rattle.tally.specs.Span.{first_frame}
+use Rattle.tally.specs.Tally.{tally_verdict, tallied_by, tally_of}
+use Rattle.tally.specs.Partitions.{all_of, in_three, partition_verdict, partitioned_by, partition_tally_of}
 use Rattle.tally.specs.Theorems.{whole, StreamOrder}
 use Rattle.tally.proofs.Spans.{span-order}
 use Rattle.tally.proofs.Parting.{each_in, end-in, all_in}

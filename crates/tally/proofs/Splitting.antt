@@ -1,5 +1,5 @@
 -- A walk in two: where its first half reaches a place between, and that it does at each beginning of a term, since no frame passes one.
-use Rattle.std.proofs.Common.{◌≡◌, ℕ, zero, suc, ◌+◌, ◌-◌, ◌*◌, ◌/◌, ◌%◌, ◌<◌, ◌≤◌, eqb, leb, List, [], ◌∷◌, ◌++◌, sym, refl, ap, ◌∙◌, ap₂, mul-le-mul, lt_of_not-le, div-add-mod', arith, eqb-true, leb-false, leb-true}
+use Rattle.std.proofs.Common.{◌≡◌, ℕ, zero, suc, ◌+◌, ◌-◌, ◌*◌, ◌/◌, ◌%◌, ◌<◌, ◌≤◌, eqb, leb, List, ◌∷◌, ◌++◌, sym, refl, ap, ◌∙◌, ap₂, mul-le-mul, lt_of_not-le, div-add-mod', arith, eqb-true, leb-false, leb-true}
 use borrow.Author.Tests.{eqb-false}
 use Rattle.model.proofs.Both.{test}
 use Rattle.tally.specs.Walk.{Stream, Passed, size, met, walked, between, end_of}

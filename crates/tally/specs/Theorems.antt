@@ -17,7 +17,7 @@ use Rattle.tally.specs.Partitions.{by_stream, in_three, partitioned, partition_t
 abbrev pub AddsUp : Type 0
 AddsUp = (s : Stream) (from to : ℕ) → from + total (sums_of (between s from to)) ≡ end_of from (between s from to)
 
--- A walk ends at the second position or before it, and only where nothing is left to pass (Adding, `Ends-there`).
+-- A walk ends at the second position or before it, and only where nothing is left to pass (Adding, `ends_there`).
 abbrev pub EndsThere : Type 0
 EndsThere = (s : Stream) (from to : ℕ) → from ≤ to
     → (end_of from (between s from to) ≤ to) × (size (met s to (end_of from (between s from to))) ≡ 0)

@@ -9,7 +9,7 @@ use Rattle.tally.specs.declared.walk.Walked.{Walked}
 use Rattle.tally.specs.declared.partition.Part.{Part}
 use Rattle.tally.specs.declared.partition.Parts.{Parts}
 use Rattle.tally.specs.declared.partition.Parted.{Parted}
-use Rattle.tally.specs.Walk.{Stream, place_at, size, between, end_of, why}
+use Rattle.tally.specs.Walk.{Stream, place_at, size, between, end_of}
 use Rattle.tally.specs.Tally.{sums_of}
 use Rattle.tally.specs.Partitions.{term_in, part, reaches, all_reach, by_parts, partitioned, partitioned_end}
 

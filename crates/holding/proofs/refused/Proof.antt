@@ -1,5 +1,5 @@
 -- Nothing is held.
-use mathlib.Core.Path.{◌≡◌, refl, ap, ◌∙◌}
+use mathlib.Core.Path.{ap}
 use borrow.Author.Rules.{rules}
 use Rattle.holding.specs.declared.laying.Held.{Held}
 use Rattle.holding.specs.declared.Answer.TheVariants.{Refused}

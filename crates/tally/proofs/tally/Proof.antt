@@ -1,9 +1,9 @@
 -- The rows, the first frame, the walk, and why it ended: the answer by `tally-by`.
-use Rattle.std.proofs.Common.{◌≡◌, ℕ, ◌-◌, ◌<◌, ◌≤◌, length, ℤ, pos, sym, ap, ◌∙◌, arith, to_z-of_z, w32, w64, SFits, to_z, rules}
+use Rattle.std.proofs.Common.{◌≡◌, ℕ, ◌-◌, ◌<◌, length, ℤ, pos, sym, ap, ◌∙◌, arith, to_z-of_z, w32, w64, SFits, to_z, rules}
 use mir.Facts.{to_z_pos}
 use Rattle.model.specs.declared.Verdict.{Verdict}
 use Rattle.model.specs.declared.Verdict.TheVariants.{Pass}
-use Rattle.model.specs.Bytes.{word, long}
+use Rattle.model.specs.Bytes.{word}
 use Rattle.logbuffer.proofs.Signed.{long-by}
 use Rattle.tally.specs.declared.step.Stop.{Stop}
 use Rattle.tally.specs.declared.walk.Walked.{Walked}

@@ -5,7 +5,7 @@ use mir.Facts.{to_z_pos}
 use Rattle.model.specs.declared.Error.TheVariants.{IllegalArgument}
 use Rattle.model.specs.declared.Verdict.{Verdict}
 use Rattle.model.specs.declared.Verdict.TheVariants.{Pass, Refuse}
-use Rattle.model.specs.Bytes.{word, long}
+use Rattle.model.specs.Bytes.{word}
 use Rattle.logbuffer.proofs.Signed.{long-by}
 use Rattle.tally.specs.declared.step.Stop.{Stop}
 use Rattle.tally.specs.declared.Sums.{Sums}

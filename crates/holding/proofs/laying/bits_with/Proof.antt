@@ -1,5 +1,4 @@
 -- Each bit by its two.
-use mathlib.Core.Path.{◌≡◌, refl}
 use native.Mathlib.Omega.{arith}
 use Rattle.holding.specs.Within.{bits_with}
 use Rattle.holding.proofs.laying.bits_with.Statement.{statement}

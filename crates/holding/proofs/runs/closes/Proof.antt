@@ -1,5 +1,5 @@
 -- By the flags.
-use mathlib.Core.Path.{◌≡◌, ap}
+use mathlib.Core.Path.{ap}
 use Prim.Native.Nat.{ℕ, ◌/◌, ◌%◌}
 use borrow.Author.Rules.{rules}
 use lib.Dec.{eqb}

@@ -1,5 +1,5 @@
 -- Where every part reached its end, their sums; else those of the parts up to where the stream order ended.
-use Rattle.std.proofs.Common.{◌≡◌, ℕ, ◌+◌, ◌-◌, ◌*◌, ◌/◌, ◌^◌, ◌≤◌, min, sym, ap, ◌∙◌, ap₂, arith, rules, leb-true}
+use Rattle.std.proofs.Common.{◌≡◌, ℕ, ◌+◌, ◌-◌, ◌*◌, ◌/◌, ◌≤◌, sym, ap, ◌∙◌, ap₂, arith, rules, leb-true}
 use Rattle.model.specs.Bytes.{word}
 use Rattle.tally.specs.declared.Partitions.{Partitions}
 use Rattle.tally.specs.declared.walk.Walked.{Walked}

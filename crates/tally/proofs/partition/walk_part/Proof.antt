@@ -3,7 +3,7 @@ use Rattle.std.proofs.Common.{◌≡◌, ℕ, ◌+◌, ◌*◌, ◌/◌, ◌%◌
 use Rattle.model.specs.Bytes.{word}
 use Rattle.tally.specs.declared.partition.Part.{Part}
 use Rattle.tally.specs.declared.walk.Walked.{Walked}
-use Rattle.tally.specs.Walk.{Stream, stream_by}
+use Rattle.tally.specs.Walk.{stream_by}
 use Rattle.tally.specs.Partitions.{edge, term_in, part, reaches}
 use Rattle.tally.specs.Within.{walk_of}
 use Rattle.tally.proofs.Spots.{Lying, lying}

@@ -1,5 +1,5 @@
 -- The order, how far apart the two are by their bits, and the term length.
-use Rattle.std.proofs.Common.{◌≡◌, ℕ, ◌*◌, true, leb, sym, ap, ◌∙◌, arith, rules}
+use Rattle.std.proofs.Common.{◌≡◌, ℕ, ◌*◌, leb, sym, ap, ◌∙◌, arith, rules}
 use borrow.Author.Tests.{not-true, not-false}
 use lib.Signed.{le_z}
 use Rattle.model.specs.Bytes.{word}

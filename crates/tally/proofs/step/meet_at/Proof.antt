@@ -1,5 +1,5 @@
 -- The end first; then the frame and the id seen at the spot.
-use Rattle.std.proofs.Common.{◌≡◌, sym, ap, ◌∙◌, arith, rules}
+use Rattle.std.proofs.Common.{◌≡◌, ap, ◌∙◌, arith, rules}
 use Rattle.model.specs.declared.Frame.{Frame}
 use Rattle.model.specs.Bytes.{word}
 use Rattle.tally.specs.declared.step.Met.{Met}

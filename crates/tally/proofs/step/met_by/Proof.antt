@@ -1,5 +1,5 @@
 -- The tests pick the case.
-use Rattle.std.proofs.Common.{◌≡◌, ℕ, ◌<◌, ◌≤◌, Bool, true, false, cond, ◌&&◌, ◌||◌, leb, [], ◌∷◌, sym, refl, ap, ◌∙◌, ⊎_elim, arith, rules, le-leb}
+use Rattle.std.proofs.Common.{◌≡◌, ℕ, Bool, true, false, cond, ◌&&◌, ◌||◌, leb, [], ◌∷◌, sym, refl, ap, ◌∙◌, ⊎_elim, arith, rules, le-leb}
 use borrow.Author.Tests.{lt-leb}
 use types.Run.{OneOf}
 use denote.Enum.Declared.{tag_of}
