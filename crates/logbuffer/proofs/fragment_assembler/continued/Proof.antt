@@ -10,10 +10,6 @@ returns : tie.Need-returns-then-k-entered
 returns c =
     let a = c.args in more-unknown a.k a.entered a.from a.n a.part a.ends (omega arith)
 
-returns-2 : tie.Need-returns-then-from-eq0
-returns-2 c =
-    let a = c.args in more-none a.k a.entered a.from a.n a.part a.ends (omega arith) (omega arith)
-
 returns-3 : tie.Need-returns-then-too_long
 returns-3 c =
     let a = c.args in
@@ -32,6 +28,14 @@ returns-5 c =
     sym (cond-false (ltb a.part (a.from + a.n)) (TooLong a.k) _ (sym c.too_long.ensures ∙ c.if-too_long.false) ∙ cond-false a.ends _ _ c.if-ends.false)
     ∙ more_by a.k a.entered a.from a.n a.part a.ends (omega arith) (omega arith)
 
+-- The answer at the test of what is held stands in the list, by no name that has the test in it.
 pub continued_spec : {M : Type 1} → statement M
 continued_spec =
-    tie.close (tie.spec returns returns-2 (search rules) returns-3 returns-4 returns-5)
+    tie.close
+    (tie.spec
+    returns
+    (λ c. let a = c.args in more-none a.k a.entered a.from a.n a.part a.ends (omega arith) (omega arith))
+    (search rules)
+    returns-3
+    returns-4
+    returns-5)

@@ -76,10 +76,6 @@ mul-t36 : tie.Need-overflow_mul-k
 mul-t36 c =
     record { fits = omega (arith, part_in c.in-Complete.k (part c.before.before.before.before.before) (length (st c.before.before.before.before.before).args.buffer.now) refl (fits c.before.before.before.before.before (Complete c.in-Complete.k c.in-Complete.from) c.in-Complete.is).0, (st c.before.before.before.before.before).well_formed) }
 
-add-t37 : tie.Need-overflow_add-from-in-Complete
-add-t37 c =
-    record { fits = omega (arith, (fits c.before.before.before.before.before (Complete c.in-Complete.k c.in-Complete.from) c.in-Complete.is).1, (st c.before.before.before.before.before).well_formed) }
-
 -- what is left, by its numbers
 by : (c : tie.After-joining) (r : Joined) (x : Joining) (k n : ℕ) (a : Assembled) → c.joining.result ≡ x → r ≡ leaving k (z c) n a
     → (a ≡ assembled c x) × (held_at (ss c) k (z c) n ≡ entered c x)
@@ -120,6 +116,7 @@ returns-6 c =
     let h = c.in-Complete.is in
     (by c.before.before.before.before.before.before _ (Complete k from) k 0 _ h c.holding-in-Complete.ensures (refl, held c.before.before.before.before.before.before k 0 (fits c.before.before.before.before.before.before (Complete k from) h).0), c.append-in-Complete.ensures ∙ (three _ _ (does c.before.before.before.before.before.before (Complete k from) h)).1)
 
+-- The answer for the sum of a whole message stands in the list, by no name that has what is added in it.
 pub join_frame_spec : {M : Type 1} → statement M
 join_frame_spec =
     tie.close
@@ -150,7 +147,7 @@ join_frame_spec =
     (search rules)
     append-requires-2
     mul-t36
-    add-t37
+    (λ c. record { fits = omega (arith, (fits c.before.before.before.before.before (Complete c.in-Complete.k c.in-Complete.from) c.in-Complete.is).1, (st c.before.before.before.before.before).well_formed) })
     (search rules)
     returns
     returns-2

@@ -2,7 +2,7 @@
 use Rattle.std.proofs.Common.{◌≡◌, drop, sym, ap, ◌∙◌, ap₂, arith, get_or-drop, rules}
 use Rattle.model.specs.declared.Frame.TheVariants.{Data}
 use Rattle.model.specs.FrameDescriptor.{frame_at, flags_at}
-use Rattle.logbuffer.specs.Whole.{whole_length}
+use Rattle.logbuffer.specs.Whole.{whole_length, whole_frame}
 use Rattle.logbuffer.proofs.Whole.{no-data, no_room, whole-as, none-whole, part-whole, is_whole}
 use Rattle.logbuffer.proofs.frame_descriptor.whole_length.Statement.{statement}
 use Rattle.logbuffer.proofs.frame_descriptor.whole_length.Tie as tie
@@ -28,21 +28,21 @@ flags c = let a = c.args in c.byte.ensures.0 ∙ sym (get_or-drop a.at a.log.now
 found : (c : tie.After-byte) → let a = c.args in Data c.in-Data.n ≡ frame_at (drop a.at a.log.now) a.room
 found c = sym c.in-Data.is ∙ c.frame_inside.ensures
 
-returns-4 : tie.Need-returns-then-byte-ne3
-returns-4 c =
-    let q = c in
-    let a = q.args in
-    sym (part-whole q.byte.result (Data q.in-Data.n) (λ e. omega (arith, c.if-byte-ne3.true)))
-    ∙ ap₂ whole_length (flags c.before) (found c.before) ∙ whole-as a.log.now a.at a.room (omega arith)
+-- and its whole length as that of the place
+whole : (c : tie.After-byte) → let a = c.args in whole_length c.byte.result (Data c.in-Data.n) ≡ whole_frame a.log.now a.at a.room
+whole c = let a = c.args in ap₂ whole_length (flags c) (found c) ∙ whole-as a.log.now a.at a.room (omega arith)
 
-returns-5 : tie.Need-returns
-returns-5 c =
-    let q = c in
-    let a = q.args in
-    sym (is_whole q.byte.result (Data q.in-Data.n) (omega (arith, c.if-byte-ne3.false)))
-    ∙ ap₂ whole_length (flags c.before) (found c.before) ∙ whole-as a.log.now a.at a.room (omega arith)
-
+-- The answers at the test of the flags stand in the list, by no name that has the test in it.
 pub whole_length_spec : {M : Type 1} → statement M
 whole_length_spec =
     tie.close
-    (tie.spec returns returns-2 (search rules) (search rules) returns-3 (search rules) (search rules) returns-4 returns-5)
+    (tie.spec
+    returns
+    returns-2
+    (search rules)
+    (search rules)
+    returns-3
+    (search rules)
+    (search rules)
+    (λ c. sym (part-whole c.byte.result (Data c.in-Data.n) (λ e. omega arith)) ∙ whole c.before)
+    (λ c. sym (is_whole c.byte.result (Data c.in-Data.n) (omega arith)) ∙ whole c.before))

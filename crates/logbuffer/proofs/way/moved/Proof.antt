@@ -4,9 +4,6 @@ use Rattle.logbuffer.proofs.Ways.{tail-moves, none_moves, refused-moves}
 use Rattle.logbuffer.proofs.way.moved.Statement.{statement}
 use Rattle.logbuffer.proofs.way.moved.Tie as tie
 
-returns : tie.Need-returns-in-Refuse
-returns c = let a = c.args in refused-moves a.rec a.k a.way a.way.course _ c.in-Refuse.is
-
 returns-2 : tie.Need-returns-then-k-eq0
 returns-2 c = let a = c.args in
     c.with_tails.ensures ∙ tail-moves a.rec a.k 0 a.way a.way.course _ c.in_default.in_default-own.keys2 (omega arith) (to_z-of_z {w = w64} {z = a.way.tail} (search rules))
@@ -25,12 +22,13 @@ returns-5 c =
     let three : length s.args.rec.tails ≡ 3 = s.well_formed.0.1.1.0.1.0.1 in
     none_moves s.args.rec s.args.k s.args.way s.args.way.course (omega arith)
 
+-- The answer at the test of the way stands in the list, by no name that has the test in it.
 pub moved_spec : {M : Type 1} → statement M
 moved_spec =
     tie.close
     (tie.spec
     (search rules)
-    returns
+    (λ c. search (rules, refused-moves))
     (search rules)
     (search rules)
     returns-2

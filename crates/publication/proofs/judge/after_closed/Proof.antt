@@ -31,14 +31,7 @@ back-pressure-requires c κs = let s = c in (s.requires.0, (c.begin_position-beg
 own : (c : tie.Else-id_minus-count) → (let v = c.args.v in id_minus v.id v.initial ≡ v.count)
 own c = sym c.id_minus.ensures ∙ c.if-id_minus-count.false
 
-returns-2 : tie.Need-returns-then-limit-begin
-returns-2 c =
-    let s = c in
-    ap Refuse c.back_pressure.ensures ∙ closed-7 s.args.v s.args.m (own c.before.before.before) (omega (arith, c.begin_position-begin.ensures, c.if-limit-begin.true))
-
-returns-3 : tie.Need-returns
-returns-3 c = let s = c in closed-last s.args.v s.args.m (own c.before.before) (omega (arith, c.begin_position-begin.ensures, c.if-limit-begin.false))
-
+-- The answers at the test of the limit stand in the list, by no name that has the test in it.
 pub after_closed_spec : {M : Type 1} → statement M
 after_closed_spec =
     tie.close
@@ -51,5 +44,5 @@ after_closed_spec =
     begin-position-requires
     add-if2
     back-pressure-requires
-    returns-2
-    returns-3)
+    (λ c. ap Refuse c.back_pressure.ensures ∙ closed-7 c.args.v c.args.m (own c.before.before.before) (omega (arith, c.begin_position-begin.ensures)))
+    (λ c. closed-last c.args.v c.args.m (own c.before.before) (omega (arith, c.begin_position-begin.ensures))))

@@ -26,10 +26,13 @@ sub-payload : tie.Need-overflow_sub-payload
 sub-payload c = omega (arith, so c)
 
 returns-3 : tie.Need-returns-then-closed
-returns-3 c = claim-5 _ _ _ c.if-m-gt2147483647.false (is-so c.before) c.if-closed.true
+returns-3 c = claim-5 _ _ _ c.if-m-gt2147483647.false (sym c.is_sound.ensures ∙ not-false _ c.if-not-is_sound.false-raw) c.if-closed.true
 
+-- it is open, as the test before found: `search` is to find that
 returns-4 : tie.Need-returns-then-m-payload
-returns-4 c = claim-4 _ _ _ c.if-m-gt2147483647.false (is-so c.before.before) c.if-closed.false c.if-m-payload.true
+returns-4 c =
+    let a = c.args in
+    claim-4 a.v a.n a.m c.if-m-gt2147483647.false (sym c.is_sound.ensures ∙ not-false _ c.if-not-is_sound.false-raw) (search rules) c.if-m-payload.true
 
 after-closed-requires : tie.Need-after_closed-rest-requires
 after-closed-requires c κs = (bounds _ _ (so c.before.before), (c.requires, (c.if-m-gt2147483647.false, (so c.before.before).one_bit)))
