@@ -24,7 +24,7 @@ pub record Fits (r : LogRecord) : Type 0 where
   pub page : SFits w32 r.page_size
 
 -- A record that was written, into whatever bytes, is read back as itself, if it is given what it has beside its section (RoundTrips,
--- `Written-Read`).
+-- `written_read`).
 abbrev pub WrittenRead : Type 0
 WrittenRead = (r : LogRecord) (out : List ℕ) → Fits r → write_of r (length out) ≡ Done → read_of (write_bytes r out) (beside_of r) ≡ record { next = r; answer = Done }
 
