@@ -11,17 +11,15 @@ use Rattle.capi.proofs.holdings.told.Tie as tie
 
 returns : tie.Need-returns-in-Holds
 returns c =
-    let n = c.answer-1.given in
-    let p : to_z w64 (of_z w64 n.0.0) ≡ n.0.0 = search rules in
+    let p : to_z w64 (of_z w64 c.in-Holds.end) ≡ c.in-Holds.end = search rules in
     let q : to_z w32 (of_z w32 c.stop_number.result) ≡ c.stop_number.result = search rules in
-    rw (n.1, p, q, c.stop_number.ensures, c.writing_size.ensures)
+    rw (c.in-Holds.is, p, q, c.stop_number.ensures, c.writing_size.ensures)
 
 returns-2 : tie.Need-returns-in-NoCard
 returns-2 c =
-    let n = c.answer-in-NoCard-1.given in
-    let p : to_z w64 (of_z w64 n.0.0) ≡ n.0.0 = search rules in
+    let p : to_z w64 (of_z w64 c.in-NoCard.end) ≡ c.in-NoCard.end = search rules in
     let q : to_z w32 (of_z w32 c.stop_number-in-NoCard.result) ≡ c.stop_number-in-NoCard.result = search rules in
-    rw (n.1, p, q, c.stop_number-in-NoCard.ensures, c.writing_size-in-NoCard.ensures)
+    rw (c.in-NoCard.is, p, q, c.stop_number-in-NoCard.ensures, c.writing_size-in-NoCard.ensures)
 
 returns-3 : tie.Need-returns-in-Refused
 returns-3 c =

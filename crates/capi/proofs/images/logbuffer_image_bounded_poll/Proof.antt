@@ -38,7 +38,7 @@ returns c =
     let k : kp.partition_at-partition.result ≡ shifted (record_in a.rec.now) a.log.now (image_in a.image.now).position =
     of-2 (λ (t p : ℤ). pos (index_by_position (long p) (bits_to_shift (word t)))) kp.partition_at-partition.ensures (promised (ap (λ (x : LogRecord). x.term_length) r) (term_fits c.before.before.before.before.before.before.before.before.before.before)) (promised64 (ap (λ (x : Image). x.position) i) (let h = ki.image_in-i.type_inv in search (rules, h))) in
     let e = c.polled.ensures ∙ ap₂ (λ (x : ℤ) (o : PollReply). poll_reply x o.answer) (promised k (let h = kp.partition_at-partition.type_inv in search (rules, h))) q0 ∙ bounded-in (record_in a.rec.now) a.log.now (state_of (image_in a.image.now)) a.entries.now a.limit_position a.fragment_limit in
-    (e, (kp.image_out.ensures ∙ ap (λ (o : PollReply). image_out a.image.now (state_of o.next-1)) q0, q1))
+    (e, (kp.image_out.ensures ∙ ap (λ (o : PollReply). image_out a.image.now (state_of o.next)) q0, q1))
 
 pub logbuffer_image_bounded_poll_spec : {M : Type 1} → statement M
 logbuffer_image_bounded_poll_spec =

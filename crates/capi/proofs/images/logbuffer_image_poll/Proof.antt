@@ -37,7 +37,7 @@ returns c =
     let k : pos kc.poll_on-o.result.partition ≡ shifted-on (record_in a.rec.now) a.log.now (image_in a.image.now).position =
     ap pos (of-2 (λ (i : Image) (v : Reading). shifted_in v.term (long i.position)) f.1.0.0 i kv.reading_in.ensures) in
     let e = c.polled.ensures ∙ ap₂ (λ (x : ℤ) (o : PollReply). poll_reply x o.answer) (to_z_pos w32 (omega (arith, f.1.0.1)) ∙ k) q0 ∙ poll-in (record_in a.rec.now) a.log.now (state_of (image_in a.image.now)) a.entries.now a.fragment_limit in
-    (e, (c.image_out.ensures ∙ ap (λ (o : PollReply). image_out a.image.now (state_of o.next-1)) q0, q1))
+    (e, (c.image_out.ensures ∙ ap (λ (o : PollReply). image_out a.image.now (state_of o.next)) q0, q1))
 
 pub logbuffer_image_poll_spec : {M : Type 1} → statement M
 logbuffer_image_poll_spec =

@@ -17,8 +17,8 @@ use Rattle.capi.proofs.images.logbuffer_image_set_position.Tie as tie
 returns : tie.Need-returns
 returns c =
     let s = c in
-    let q = of-3 (λ (r : LogRecord) (i : Image) (p : ℤ). image_reply_of (set_position_of r s.args.log.now (state_of i) p)) c.set_position-o.ensures c.record_in.ensures c.image_in-i.ensures (to_z-of_z s.fits.new_position) in
-    (promised (c.outcome_code.ensures ∙ ap (λ (o : ImageReply). outcome_number o.answer) q) (search rules), c.image_out.ensures ∙ ap (λ (o : ImageReply). image_out s.args.image.now (state_of o.next-1)) q)
+    let q = of-3 (λ (r : LogRecord) (i : Image) (p : ℤ). image_reply_of (set_position_of r s.args.log.now (state_of i) p)) c.set_position-o.ensures c.record_in.ensures c.image_in-i.ensures (to_z-of_z s.ranges.new_position) in
+    (promised (c.outcome_code.ensures ∙ ap (λ (o : ImageReply). outcome_number o.answer) q) (search rules), c.image_out.ensures ∙ ap (λ (o : ImageReply). image_out s.args.image.now (state_of o.next)) q)
 
 pub logbuffer_image_set_position_spec : {M : Type 1} → statement M
 logbuffer_image_set_position_spec =

@@ -19,7 +19,7 @@ returns c =
     let a = s.args in
     let f = c.on_fragment-o.ensures in
     let q0 = of-4 (λ (r : LogRecord) (g : FragmentAssembler) (x : ℤ) (y : ℤ). (assemble_of r a.log.now (sessions_of g) a.buffer.now x y).answer) f.0.0 c.record_in.ensures c.assembler_in-one.ensures (to_z-of_z s.ranges.partition) (to_z-of_z s.ranges.offset) in
-    let q1 = of-4 (λ (r : LogRecord) (g : FragmentAssembler) (x : ℤ) (y : ℤ). (assemble_of r a.log.now (sessions_of g) a.buffer.now x y).next-1) f.0.1 c.record_in.ensures c.assembler_in-one.ensures (to_z-of_z s.ranges.partition) (to_z-of_z s.ranges.offset) in
+    let q1 = of-4 (λ (r : LogRecord) (g : FragmentAssembler) (x : ℤ) (y : ℤ). (assemble_of r a.log.now (sessions_of g) a.buffer.now x y).next) f.0.1 c.record_in.ensures c.assembler_in-one.ensures (to_z-of_z s.ranges.partition) (to_z-of_z s.ranges.offset) in
     let q2 = of-4 (λ (r : LogRecord) (g : FragmentAssembler) (x : ℤ) (y : ℤ). (assemble_of r a.log.now (sessions_of g) a.buffer.now x y).buffer) f.1 c.record_in.ensures c.assembler_in-one.ensures (to_z-of_z s.ranges.partition) (to_z-of_z s.ranges.offset) in
     (c.assembled.ensures ∙ ap assembly_reply q0, (c.assembler_out.ensures ∙ ap (assembler_out a.assembler.now) q1, q2))
 

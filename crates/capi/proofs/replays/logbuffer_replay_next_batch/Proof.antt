@@ -16,7 +16,7 @@ returns c =
     let s = c in
     let a = s.args in
     let q = of-2 (λ (r : LogRecord) (p : Replay). batch_of r a.log.now (state_of p a.buffer.now) a.numbers.now) c.next_batch-o.ensures c.record_in.ensures c.replay_in-one.ensures in
-    (c.batched.ensures ∙ ap (λ (b : Batch). batch_reply b.answer) q, (c.replay_out.ensures ∙ ap (λ (b : Batch). replay_out a.replay.now b.next-1) q, (ap (λ (b : Batch). b.next-1.buffer) q, ap (λ (b : Batch). b.numbers) q)))
+    (c.batched.ensures ∙ ap (λ (b : Batch). batch_reply b.answer) q, (c.replay_out.ensures ∙ ap (λ (b : Batch). replay_out a.replay.now b.next) q, (ap (λ (b : Batch). b.next.buffer) q, ap (λ (b : Batch). b.numbers) q)))
 
 pub logbuffer_replay_next_batch_spec : {M : Type 1} → statement M
 logbuffer_replay_next_batch_spec =

@@ -17,7 +17,7 @@ returns c =
     let a = s.args in
     let f = c.next_by_turns-o.ensures in
     let q0 = of-2 (λ (r : LogRecord) (p : Replay). next_of r a.log.now (state_of p a.buffer.now)) (f) c.record_in.ensures c.replay_in-one.ensures in
-    (c.replayed.ensures ∙ ap (λ (n : NextReply). next_reply n.answer) q0, (c.replay_out.ensures ∙ ap (λ (n : NextReply). replay_out a.replay.now n.next-1) q0, ap (λ (n : NextReply). n.next-1.buffer) q0))
+    (c.replayed.ensures ∙ ap (λ (n : NextReply). next_reply n.answer) q0, (c.replay_out.ensures ∙ ap (λ (n : NextReply). replay_out a.replay.now n.next) q0, ap (λ (n : NextReply). n.next.buffer) q0))
 
 pub next_by_all_spec : {M : Type 1} → statement M
 next_by_all_spec =

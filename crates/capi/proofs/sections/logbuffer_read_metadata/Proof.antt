@@ -17,11 +17,11 @@ use Rattle.capi.proofs.sections.logbuffer_read_metadata.Statement.{statement}
 use Rattle.capi.proofs.sections.logbuffer_read_metadata.Tie as tie
 
 -- what an answer, met in an arm, says of the call's reply
-done : (w : List ℤ) (o p : MetadataReply) → o ≡ p → o.answer-1 ≡ Done → (pos 0 ≡ answer_number p.answer-1) × (record_filled w o.next-1 ≡ read_out w p)
-done w o p q e = (ap answer_number (sym e) ∙ ap (λ (x : MetadataReply). answer_number x.answer-1) q, ap (read_by w o.next-1) (sym e) ∙ ap (read_out w) q)
+done : (w : List ℤ) (o p : MetadataReply) → o ≡ p → o.answer ≡ Done → (pos 0 ≡ answer_number p.answer) × (record_filled w o.next ≡ read_out w p)
+done w o p q e = (ap answer_number (sym e) ∙ ap (λ (x : MetadataReply). answer_number x.answer) q, ap (read_by w o.next) (sym e) ∙ ap (read_out w) q)
 
-refused : (w : List ℤ) (o p : MetadataReply) (r : MetadataError) → o ≡ p → o.answer-1 ≡ Refused r → (error_number r ≡ answer_number p.answer-1) × (w ≡ read_out w p)
-refused w o p r q e = (ap answer_number (sym e) ∙ ap (λ (x : MetadataReply). answer_number x.answer-1) q, ap (read_by w o.next-1) (sym e) ∙ ap (read_out w) q)
+refused : (w : List ℤ) (o p : MetadataReply) (r : MetadataError) → o ≡ p → o.answer ≡ Refused r → (error_number r ≡ answer_number p.answer) × (w ≡ read_out w p)
+refused w o p r q e = (ap answer_number (sym e) ∙ ap (λ (x : MetadataReply). answer_number x.answer) q, ap (read_by w o.next) (sym e) ∙ ap (read_out w) q)
 
 returns : tie.Need-returns-in-Done
 returns c =

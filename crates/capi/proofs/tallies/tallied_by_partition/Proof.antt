@@ -11,10 +11,9 @@ use Rattle.capi.proofs.tallies.tallied_by_partition.Tie as tie
 
 returns : tie.Need-returns-in-Tally
 returns c =
-    let n = c.answer-1.given in
-    let p : to_z w64 (of_z w64 n.0.1.1.0) ≡ n.0.1.1.0 = search rules in
+    let p : to_z w64 (of_z w64 c.in-Tally.end) ≡ c.in-Tally.end = search rules in
     let q : to_z w32 (of_z w32 c.stop_number.result) ≡ c.stop_number.result = search rules in
-    rw (n.1, p, q, c.stop_number.ensures, c.writing_size.ensures)
+    rw (c.in-Tally.is, p, q, c.stop_number.ensures, c.writing_size.ensures)
 
 returns-2 : tie.Need-returns-in-Refused
 returns-2 c =

@@ -11,7 +11,7 @@ use borrow.Author.Rules.{rules}
 use Rattle.capi.proofs.words.assembler_out.Statement.{statement}
 use Rattle.capi.proofs.words.assembler_out.Tie as tie
 
-same : (w v u x : List ℤ) (s : Sessions) (n : ℤ) → n ≡ count_out s.count → v ≡ set w 0 n → u ≡ ids_to v 1 s.ids-1 → x ≡ held_to u 9 s.held-1 → x ≡ assembler_out w s
+same : (w v u x : List ℤ) (s : Sessions) (n : ℤ) → n ≡ count_out s.count → v ≡ set w 0 n → u ≡ ids_to v 1 s.ids → x ≡ held_to u 9 s.held → x ≡ assembler_out w s
 same w v u x s n e f g h = cc
 
 returns : tie.Need-returns

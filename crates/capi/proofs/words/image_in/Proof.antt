@@ -1,6 +1,7 @@
 -- The call's promise, of the two words.
 use mathlib.Core.Path.{◌≡◌, ◌∙◌}
 use lib.IntN.{ℤ}
+use mir.Syntax.{w64}
 use mir.Facts.{to_z-of_z}
 use Rattle.capi.specs.Words.{at, image_at}
 use borrow.Author.Rules.{rules}
@@ -13,7 +14,7 @@ same p w x y e f = cc
 returns : tie.Need-returns
 returns c =
     let w = c.args.w.now in
-    c.image_at.ensures ∙ same (at w 0) (at w 1) _ _ (to_z-of_z (search rules)) (to_z-of_z (search rules))
+    c.image_at.ensures ∙ same (at w 0) (at w 1) _ _ (to_z-of_z {w = w64} (search rules)) (to_z-of_z {w = w64} (search rules))
 
 pub image_in_spec : {M : Type 1} → statement M
 image_in_spec =

@@ -4,6 +4,7 @@ use mathlib.Core.Bool.{Bool}
 use mathlib.Core.List.{List, [], ◌∷◌}
 use Prim.Native.Nat.{ℕ, ◌/◌}
 use lib.IntN.{ℤ}
+use mir.Syntax.{w64}
 use mir.Facts.{to_z-of_z}
 use Rattle.model.specs.Bytes.{long}
 use Rattle.model.specs.declared.LogRecord.{LogRecord}
@@ -32,15 +33,15 @@ returns c =
     (low_by (at w 5) c.low-3.ensures (search rules) (search rules))
     (high-by (at w 5) c.high-3.ensures (search rules) (search rules))
     (low_by (at w 6) c.low-4.ensures (search rules) (search rules))
-    (to_z-of_z (search (rules, c.result-4-1.given)))
-    (to_z-of_z (search (rules, c.result-5-1.given)))
+    (to_z-of_z {w = w64} (search (rules, c.result-4-1.given)))
+    (to_z-of_z {w = w64} (search (rules, c.result-5-1.given)))
     (c.flag.ensures ∙ ap flag_of (long-by (at w 9) c.long.ensures.0 (search (rules, c.long-arg-2-1.given))))
-    (to_z-of_z (search (rules, c.result-6-1.given)))
+    (to_z-of_z {w = w64} (search (rules, c.result-6-1.given)))
     (c.bit.ensures ∙ ap bit_of marks)
     (c.bit-2.ensures ∙ ap (λ (n : ℕ). bit_of (n / 2)) marks)
     (c.bit-3.ensures ∙ ap (λ (n : ℕ). bit_of (n / 4)) marks)
     (low_by (at w 12) c.low-5.ensures (search rules) (search rules))
-    (to_z-of_z (search (rules, c.result-7-1.given)))
+    (to_z-of_z {w = w64} (search (rules, c.result-7-1.given)))
     (high-by (at w 12) c.high-4.ensures (search rules) (search rules))
 
 pub record_in_spec : {M : Type 1} → statement M

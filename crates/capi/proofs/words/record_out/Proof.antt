@@ -13,12 +13,12 @@ use Rattle.capi.proofs.Promised.{promised64}
 use Rattle.capi.proofs.words.record_out.Statement.{statement}
 use Rattle.capi.proofs.words.record_out.Tie as tie
 
-tails-same : (w : List ℤ) (r : LogRecord) (a b c d : ℤ) → a ≡ at r.tails-1 0 → b ≡ at r.tails-1 1 → c ≡ at r.tails-1 2 → d ≡ pair_of r.active_term_count r.initial_term_id
+tails-same : (w : List ℤ) (r : LogRecord) (a b c d : ℤ) → a ≡ at r.tails 0 → b ≡ at r.tails 1 → c ≡ at r.tails 2 → d ≡ pair_of r.active_term_count r.initial_term_id
     → set (set (set (set w 0 a) 1 b) 2 c) 3 d ≡ tails_out w r
 tails-same w r a b c d e f g h = cc
 
 same : (w : List ℤ) (r : LogRecord) (v : List ℤ) (a b c d : ℤ) → v ≡ marks_out (set (set (set (set w 0 a) 1 b) 2 c) 3 d) r
-    → a ≡ at r.tails-1 0 → b ≡ at r.tails-1 1 → c ≡ at r.tails-1 2 → d ≡ pair_of r.active_term_count r.initial_term_id → v ≡ record_out w r
+    → a ≡ at r.tails 0 → b ≡ at r.tails 1 → c ≡ at r.tails 2 → d ≡ pair_of r.active_term_count r.initial_term_id → v ≡ record_out w r
 same w r v a b c d q e f g h = q ∙ ap (λ (x : List ℤ). marks_out x r) (tails-same w r a b c d e f g h)
 
 returns : tie.Need-returns

@@ -3,6 +3,7 @@ use mathlib.Core.Path.{◌≡◌, ap, ◌∙◌}
 use mathlib.Core.List.{List}
 use lib.IntN.{ℤ, pos}
 use lib.ListN.{set}
+use mir.Syntax.{w64}
 use mir.Facts.{to_z-of_z}
 use Rattle.logbuffer.specs.Assembler.{sessions_of}
 use Rattle.capi.specs.Words.{assembler_to}
@@ -19,7 +20,7 @@ returns c =
     let s = c.args in
     let i = s.next.image in
     c.sessions_out.ensures ∙ ap (λ (w : List ℤ). assembler_to w 2 (sessions_of s.next.assembler))
-    (same s.w.now i.position _ _ _ (to_z-of_z (search rules)) (pair-by i.session_id (pos 0) c.pair.ensures (search rules) (search rules) (search rules)))
+    (same s.w.now i.position _ _ _ (to_z-of_z {w = w64} (search rules)) (pair-by i.session_id (pos 0) c.pair.ensures (search rules) (search rules) (search rules)))
 
 pub replay_filled_spec : {M : Type 1} → statement M
 replay_filled_spec =

@@ -2,6 +2,7 @@
 use mathlib.Core.Path.{◌≡◌, ap, ◌∙◌}
 use mathlib.Core.List.{List, [], ◌∷◌}
 use lib.IntN.{ℤ}
+use mir.Syntax.{w64}
 use mir.Facts.{to_z-of_z}
 use Rattle.logbuffer.specs.declared.fragment_assembler.FragmentAssembler.{FragmentAssembler}
 use Rattle.image.specs.declared.Image.{Image}
@@ -29,33 +30,33 @@ same w i a e f = cc
 returns : tie.Need-returns
 returns c =
     let w = c.args.w.now in
-    same w _ _ (c.image_at.ensures ∙ same-image (at w 0) (at w 1) _ _ (to_z-of_z (search (rules, c.image_at-arg-1.given))) (to_z-of_z (search (rules, c.image_at-arg-2-1.given))))
+    same w _ _ (c.image_at.ensures ∙ same-image (at w 0) (at w 1) _ _ (to_z-of_z {w = w64} (search (rules, c.image_at-arg-1.given))) (to_z-of_z {w = w64} (search (rules, c.image_at-arg-2-1.given))))
     (c.assembler_in.ensures ∙ ap assembler_in (same-words w _ _ _ _ _ _ _ _ _ _ _ _ _ _ _ _ _ _ _ _ _ _ _ _ _
-    (to_z-of_z (search (rules, c.assembler-1.given)))
-    (to_z-of_z (search (rules, c.assembler-2-1.given)))
-    (to_z-of_z (search (rules, c.assembler-3-1.given)))
-    (to_z-of_z (search (rules, c.assembler-4-1.given)))
-    (to_z-of_z (search (rules, c.assembler-5-1.given)))
-    (to_z-of_z (search (rules, c.assembler-6-1.given)))
-    (to_z-of_z (search (rules, c.assembler-7-1.given)))
-    (to_z-of_z (search (rules, c.assembler-8-1.given)))
-    (to_z-of_z (search (rules, c.assembler-9-1.given)))
-    (to_z-of_z (search (rules, c.assembler-10-1.given)))
-    (to_z-of_z (search (rules, c.assembler-11-1.given)))
-    (to_z-of_z (search (rules, c.assembler-12-1.given)))
-    (to_z-of_z (search (rules, c.assembler-13-1.given)))
-    (to_z-of_z (search (rules, c.assembler-14-1.given)))
-    (to_z-of_z (search (rules, c.assembler-15-1.given)))
-    (to_z-of_z (search (rules, c.assembler-16-1.given)))
-    (to_z-of_z (search (rules, c.assembler-17-1.given)))
-    (to_z-of_z (search (rules, c.assembler-18-1.given)))
-    (to_z-of_z (search (rules, c.assembler-19-1.given)))
-    (to_z-of_z (search (rules, c.assembler-20-1.given)))
-    (to_z-of_z (search (rules, c.assembler-21-1.given)))
-    (to_z-of_z (search (rules, c.assembler-22-1.given)))
-    (to_z-of_z (search (rules, c.assembler-23-1.given)))
-    (to_z-of_z (search (rules, c.assembler-24-1.given)))
-    (to_z-of_z (search (rules, c.assembler-25-1.given)))))
+    (to_z-of_z {w = w64} (search (rules, c.assembler-1.given)))
+    (to_z-of_z {w = w64} (search (rules, c.assembler-2-1.given)))
+    (to_z-of_z {w = w64} (search (rules, c.assembler-3-1.given)))
+    (to_z-of_z {w = w64} (search (rules, c.assembler-4-1.given)))
+    (to_z-of_z {w = w64} (search (rules, c.assembler-5-1.given)))
+    (to_z-of_z {w = w64} (search (rules, c.assembler-6-1.given)))
+    (to_z-of_z {w = w64} (search (rules, c.assembler-7-1.given)))
+    (to_z-of_z {w = w64} (search (rules, c.assembler-8-1.given)))
+    (to_z-of_z {w = w64} (search (rules, c.assembler-9-1.given)))
+    (to_z-of_z {w = w64} (search (rules, c.assembler-10-1.given)))
+    (to_z-of_z {w = w64} (search (rules, c.assembler-11-1.given)))
+    (to_z-of_z {w = w64} (search (rules, c.assembler-12-1.given)))
+    (to_z-of_z {w = w64} (search (rules, c.assembler-13-1.given)))
+    (to_z-of_z {w = w64} (search (rules, c.assembler-14-1.given)))
+    (to_z-of_z {w = w64} (search (rules, c.assembler-15-1.given)))
+    (to_z-of_z {w = w64} (search (rules, c.assembler-16-1.given)))
+    (to_z-of_z {w = w64} (search (rules, c.assembler-17-1.given)))
+    (to_z-of_z {w = w64} (search (rules, c.assembler-18-1.given)))
+    (to_z-of_z {w = w64} (search (rules, c.assembler-19-1.given)))
+    (to_z-of_z {w = w64} (search (rules, c.assembler-20-1.given)))
+    (to_z-of_z {w = w64} (search (rules, c.assembler-21-1.given)))
+    (to_z-of_z {w = w64} (search (rules, c.assembler-22-1.given)))
+    (to_z-of_z {w = w64} (search (rules, c.assembler-23-1.given)))
+    (to_z-of_z {w = w64} (search (rules, c.assembler-24-1.given)))
+    (to_z-of_z {w = w64} (search (rules, c.assembler-25-1.given)))))
 
 pub replay_in_spec : {M : Type 1} → statement M
 replay_in_spec =

@@ -3,6 +3,7 @@ use mathlib.Core.Path.{◌≡◌, ap, ◌∙◌}
 use mathlib.Core.List.{List}
 use lib.IntN.{ℤ}
 use lib.ListN.{set}
+use mir.Syntax.{w64}
 use mir.Facts.{to_z-of_z}
 use Rattle.capi.specs.Words.{at}
 use borrow.Author.Rules.{rules}
@@ -26,31 +27,31 @@ returns c =
     let s = c.args in
     let a = c.assembler_out.new.w in
     same s.w.now a _ _ _ _ _ _ _ _ _ _ _ _ _ _ _ _ _ _ _ _ _ _ _ _ _
-    (to_z-of_z (search (rules, c.w-1.given)))
-    (to_z-of_z (search (rules, c.w-2-1.given)))
-    (to_z-of_z (search (rules, c.w-3-1.given)))
-    (to_z-of_z (search (rules, c.w-4-1.given)))
-    (to_z-of_z (search (rules, c.w-5-1.given)))
-    (to_z-of_z (search (rules, c.w-6-1.given)))
-    (to_z-of_z (search (rules, c.w-7-1.given)))
-    (to_z-of_z (search (rules, c.w-8-1.given)))
-    (to_z-of_z (search (rules, c.w-9-1.given)))
-    (to_z-of_z (search (rules, c.w-10-1.given)))
-    (to_z-of_z (search (rules, c.w-11-1.given)))
-    (to_z-of_z (search (rules, c.w-12-1.given)))
-    (to_z-of_z (search (rules, c.w-13-1.given)))
-    (to_z-of_z (search (rules, c.w-14-1.given)))
-    (to_z-of_z (search (rules, c.w-15-1.given)))
-    (to_z-of_z (search (rules, c.w-16-1.given)))
-    (to_z-of_z (search (rules, c.w-17-1.given)))
-    (to_z-of_z (search (rules, c.w-18-1.given)))
-    (to_z-of_z (search (rules, c.w-19-1.given)))
-    (to_z-of_z (search (rules, c.w-20-1.given)))
-    (to_z-of_z (search (rules, c.w-21-1.given)))
-    (to_z-of_z (search (rules, c.w-22-1.given)))
-    (to_z-of_z (search (rules, c.w-23-1.given)))
-    (to_z-of_z (search (rules, c.w-24-1.given)))
-    (to_z-of_z (search (rules, c.w-25-1.given)))
+    (to_z-of_z {w = w64} (search (rules, c.w-1.given)))
+    (to_z-of_z {w = w64} (search (rules, c.w-2-1.given)))
+    (to_z-of_z {w = w64} (search (rules, c.w-3-1.given)))
+    (to_z-of_z {w = w64} (search (rules, c.w-4-1.given)))
+    (to_z-of_z {w = w64} (search (rules, c.w-5-1.given)))
+    (to_z-of_z {w = w64} (search (rules, c.w-6-1.given)))
+    (to_z-of_z {w = w64} (search (rules, c.w-7-1.given)))
+    (to_z-of_z {w = w64} (search (rules, c.w-8-1.given)))
+    (to_z-of_z {w = w64} (search (rules, c.w-9-1.given)))
+    (to_z-of_z {w = w64} (search (rules, c.w-10-1.given)))
+    (to_z-of_z {w = w64} (search (rules, c.w-11-1.given)))
+    (to_z-of_z {w = w64} (search (rules, c.w-12-1.given)))
+    (to_z-of_z {w = w64} (search (rules, c.w-13-1.given)))
+    (to_z-of_z {w = w64} (search (rules, c.w-14-1.given)))
+    (to_z-of_z {w = w64} (search (rules, c.w-15-1.given)))
+    (to_z-of_z {w = w64} (search (rules, c.w-16-1.given)))
+    (to_z-of_z {w = w64} (search (rules, c.w-17-1.given)))
+    (to_z-of_z {w = w64} (search (rules, c.w-18-1.given)))
+    (to_z-of_z {w = w64} (search (rules, c.w-19-1.given)))
+    (to_z-of_z {w = w64} (search (rules, c.w-20-1.given)))
+    (to_z-of_z {w = w64} (search (rules, c.w-21-1.given)))
+    (to_z-of_z {w = w64} (search (rules, c.w-22-1.given)))
+    (to_z-of_z {w = w64} (search (rules, c.w-23-1.given)))
+    (to_z-of_z {w = w64} (search (rules, c.w-24-1.given)))
+    (to_z-of_z {w = w64} (search (rules, c.w-25-1.given)))
     ∙ ap (copied s.w.now) c.assembler_out.ensures
 
 pub sessions_out_spec : {M : Type 1} → statement M

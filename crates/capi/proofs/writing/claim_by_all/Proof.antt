@@ -19,7 +19,7 @@ returns c =
     let f = c.try_claim-o.ensures in
     let q0 = of-2 (λ (r : LogRecord) (y : ℤ). claim_of r a.log.now y) f.0 c.record_in.ensures (to_z-of_z s.ranges.length) in
     let q1 = of-2 (λ (r : LogRecord) (y : ℤ). claim_bytes r a.log.now y) f.1 c.record_in.ensures (to_z-of_z s.ranges.length) in
-    (c.claimed.ensures ∙ ap (λ (o : ClaimReply). claim_reply o.answer o.rule) q0, (c.record_out.ensures ∙ ap (λ (o : ClaimReply). record_out a.rec.now o.next-1) q0, q1))
+    (c.claimed.ensures ∙ ap (λ (o : ClaimReply). claim_reply o.answer o.rule) q0, (c.record_out.ensures ∙ ap (λ (o : ClaimReply). record_out a.rec.now o.next) q0, q1))
 
 pub claim_by_all_spec : {M : Type 1} → statement M
 claim_by_all_spec =

@@ -19,7 +19,7 @@ returns c =
     let f = c.claim-o.ensures in
     let q0 = of-4 (λ (r : LogRecord) (y : ℤ) (x : ℤ) (z : ℤ). claim_append_reply r a.log.now y x z) f.0 c.record_in.ensures (to_z-of_z s.ranges.partition) (to_z-of_z s.ranges.length) (to_z-of_z s.ranges.term_id) in
     let q1 = of-4 (λ (r : LogRecord) (y : ℤ) (x : ℤ) (z : ℤ). claim_append_bytes r a.log.now y x z) f.1 c.record_in.ensures (to_z-of_z s.ranges.partition) (to_z-of_z s.ranges.length) (to_z-of_z s.ranges.term_id) in
-    (c.appended_claim.ensures ∙ ap (λ (o : AppendClaimReply). append_claim_reply o.answer) q0, (c.record_out.ensures ∙ ap (λ (o : AppendClaimReply). record_out a.rec.now o.next-1) q0, q1))
+    (c.appended_claim.ensures ∙ ap (λ (o : AppendClaimReply). append_claim_reply o.answer) q0, (c.record_out.ensures ∙ ap (λ (o : AppendClaimReply). record_out a.rec.now o.next) q0, q1))
 
 pub logbuffer_append_claim_spec : {M : Type 1} → statement M
 logbuffer_append_claim_spec =

@@ -19,7 +19,7 @@ returns c =
     let f = c.append_unfragmented_message-o.ensures in
     let q0 = of-3 (λ (r : LogRecord) (y : ℤ) (z : ℤ). unfragmented_reply r a.log.now y a.message.now z) f.0 c.record_in.ensures (to_z-of_z s.ranges.partition) (to_z-of_z s.ranges.term_id) in
     let q1 = of-4 (λ (r : LogRecord) (y : ℤ) (x : ℤ) (z : ℤ). unfragmented_bytes r a.log.now y a.message.now x z) f.1 c.record_in.ensures (to_z-of_z s.ranges.partition) (to_z-of_z s.ranges.reserved_value) (to_z-of_z s.ranges.term_id) in
-    (c.appended.ensures ∙ ap (λ (o : AppendReply). append_reply o.answer) q0, (c.record_out.ensures ∙ ap (λ (o : AppendReply). record_out a.rec.now o.next-1) q0, q1))
+    (c.appended.ensures ∙ ap (λ (o : AppendReply). append_reply o.answer) q0, (c.record_out.ensures ∙ ap (λ (o : AppendReply). record_out a.rec.now o.next) q0, q1))
 
 pub logbuffer_append_unfragmented_message_spec : {M : Type 1} → statement M
 logbuffer_append_unfragmented_message_spec =

@@ -22,7 +22,7 @@ returns c =
     let q = of-2 (λ (x : LogRecord) (y : ℤ). clear_of x a.log.now y) f.0 r k in (
       promised (c.outcome_code.ensures ∙ ap (λ (o : RecordReply). outcome_number o.answer) q) (search rules),
       (
-        c.marks_out.ensures ∙ ap (λ (o : RecordReply). marks_out a.rec.now o.next-1) q,
+        c.marks_out.ensures ∙ ap (λ (o : RecordReply). marks_out a.rec.now o.next) q,
         of-2 (λ (x : LogRecord) (y : ℤ). clear_bytes x a.log.now y) f.1 r k,
       ),
     )

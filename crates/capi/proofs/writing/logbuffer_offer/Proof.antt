@@ -38,7 +38,7 @@ module _ (c : tie.After-offer_fit-fitted) where
   tail-fits = search rules
 
   left : c.offer_fit-fitted.new.log ≡ offer_fit_bytes c.reading_in-v.result s.args.log.now s.args.message.now (long s.args.reserved_value)
-  left = c.offer_fit-fitted.ensures.1 ∙ ap (λ (z : ℤ). offer_fit_bytes c.reading_in-v.result s.args.log.now s.args.message.now (long z)) (to_z-of_z s.fits.reserved_value)
+  left = c.offer_fit-fitted.ensures.1 ∙ ap (λ (z : ℤ). offer_fit_bytes c.reading_in-v.result s.args.log.now s.args.message.now (long z)) (to_z-of_z s.ranges.reserved_value)
 
 returns-2 : tie.Need-returns-then-position-eq0
 returns-2 c =

@@ -16,13 +16,13 @@ use Rattle.capi.proofs.writing.logbuffer_open.Statement.{statement}
 use Rattle.capi.proofs.writing.logbuffer_open.Tie as tie
 
 -- what an answer, met in an arm, says of the call's reply
-done : (w : List ℤ) (o p : RecordReply) → o ≡ p → o.answer-1 ≡ Done → (pos 0 ≡ outcome_number p.answer-1) × (record_filled w o.next-1 ≡ opened_out w p)
+done : (w : List ℤ) (o p : RecordReply) → o ≡ p → o.answer ≡ Done → (pos 0 ≡ outcome_number p.answer) × (record_filled w o.next ≡ opened_out w p)
 done w o p q e =
-    (ap outcome_number (sym e) ∙ ap (λ (x : RecordReply). outcome_number x.answer-1) q, ap (opened_by w o.next-1) (sym e) ∙ ap (opened_out w) q)
+    (ap outcome_number (sym e) ∙ ap (λ (x : RecordReply). outcome_number x.answer) q, ap (opened_by w o.next) (sym e) ∙ ap (opened_out w) q)
 
-refused : (w : List ℤ) (o p : RecordReply) (r : Error) → o ≡ p → o.answer-1 ≡ Refused r → (number_of r ≡ outcome_number p.answer-1) × (w ≡ opened_out w p)
+refused : (w : List ℤ) (o p : RecordReply) (r : Error) → o ≡ p → o.answer ≡ Refused r → (number_of r ≡ outcome_number p.answer) × (w ≡ opened_out w p)
 refused w o p r q e =
-    (ap outcome_number (sym e) ∙ ap (λ (x : RecordReply). outcome_number x.answer-1) q, ap (opened_by w o.next-1) (sym e) ∙ ap (opened_out w) q)
+    (ap outcome_number (sym e) ∙ ap (λ (x : RecordReply). outcome_number x.answer) q, ap (opened_by w o.next) (sym e) ∙ ap (opened_out w) q)
 
 returns : tie.Need-returns-in-Done
 returns c =

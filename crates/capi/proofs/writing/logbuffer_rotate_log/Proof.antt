@@ -14,7 +14,7 @@ returns : tie.Need-returns
 returns c =
     let s = c in
     let q = of-3 rotate_log_of c.rotate_log-o.ensures c.record_in.ensures (to_z-of_z s.ranges.count) (to_z-of_z s.ranges.term_id) in
-    (promised (c.outcome_code.ensures ∙ ap (λ (o : RecordReply). outcome_number o.answer) q) (search rules), c.record_out.ensures ∙ ap (λ (o : RecordReply). record_out s.args.rec.now o.next-1) q)
+    (promised (c.outcome_code.ensures ∙ ap (λ (o : RecordReply). outcome_number o.answer) q) (search rules), c.record_out.ensures ∙ ap (λ (o : RecordReply). record_out s.args.rec.now o.next) q)
 
 pub logbuffer_rotate_log_spec : {M : Type 1} → statement M
 logbuffer_rotate_log_spec =

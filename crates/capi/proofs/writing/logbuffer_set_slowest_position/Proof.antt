@@ -14,7 +14,7 @@ returns : tie.Need-returns
 returns c =
     let s = c in
     let q = of-2 raise_of c.set_slowest_position-o.ensures c.record_in.ensures (to_z-of_z s.ranges.position) in
-    (promised (c.outcome_code.ensures ∙ ap (λ (o : RecordReply). outcome_number o.answer) q) (search rules), c.slowest_out.ensures ∙ ap (λ (o : RecordReply). slowest_out s.args.rec.now o.next-1) q)
+    (promised (c.outcome_code.ensures ∙ ap (λ (o : RecordReply). outcome_number o.answer) q) (search rules), c.slowest_out.ensures ∙ ap (λ (o : RecordReply). slowest_out s.args.rec.now o.next) q)
 
 pub logbuffer_set_slowest_position_spec : {M : Type 1} → statement M
 logbuffer_set_slowest_position_spec =

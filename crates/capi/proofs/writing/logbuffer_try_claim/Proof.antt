@@ -41,7 +41,7 @@ module _ (c : tie.After-claim_fit-fitted) where
   tail-fits = search rules
 
   n-is : c.word.result ≡ word s.args.length
-  n-is = word-by _ c.word.ensures.0 s.fits.length
+  n-is = word-by _ c.word.ensures.0 s.ranges.length
 
 returns-2 : tie.Need-returns-then-position-eq0
 returns-2 c =

@@ -19,7 +19,7 @@ returns c =
     let f = c.offer-o.ensures in
     let q0 = of-1 (λ (r : LogRecord). offer_of r a.log.now a.message.now) f.0 c.record_in.ensures in
     let q1 = of-2 (λ (r : LogRecord) (y : ℤ). offer_bytes r a.log.now a.message.now y) f.1 c.record_in.ensures (to_z-of_z s.ranges.reserved_value) in
-    (c.offered.ensures ∙ ap (λ (o : OfferReply). offer_reply o.answer o.rule) q0, (c.record_out.ensures ∙ ap (λ (o : OfferReply). record_out a.rec.now o.next-1) q0, q1))
+    (c.offered.ensures ∙ ap (λ (o : OfferReply). offer_reply o.answer o.rule) q0, (c.record_out.ensures ∙ ap (λ (o : OfferReply). record_out a.rec.now o.next) q0, q1))
 
 pub offer_by_all_spec : {M : Type 1} → statement M
 offer_by_all_spec =

@@ -31,7 +31,7 @@ module _ (c : tie.After-offer_fragmented_fit-fitted) where
   tail-fits = search rules
 
   left : c.offer_fragmented_fit-fitted.new.log ≡ fragmented_fit_bytes c.reading_in-v.result s.args.log.now s.args.message.now (long s.args.reserved_value)
-  left = c.offer_fragmented_fit-fitted.ensures.1 ∙ ap (λ (z : ℤ). fragmented_fit_bytes c.reading_in-v.result s.args.log.now s.args.message.now (long z)) (to_z-of_z s.fits.reserved_value)
+  left = c.offer_fragmented_fit-fitted.ensures.1 ∙ ap (λ (z : ℤ). fragmented_fit_bytes c.reading_in-v.result s.args.log.now s.args.message.now (long z)) (to_z-of_z s.ranges.reserved_value)
 
 returns : tie.Need-returns-then-position-eq0
 returns c =
