@@ -1,5 +1,6 @@
 -- A number and its bytes say the same; so do numbers one behind the other. The worked cases are named first, so that the checker takes
 -- them before every law: a wrong definition is refused by a fact about it and not by a proof that no longer fits.
+use Rattle.card.proofs.Cases as Cases
 use mathlib.Core.Path.{◌≡◌, refl, sym, ap, ap₂, ◌∙◌, subst}
 use mathlib.Core.List.{List, [], ◌∷◌, ◌++◌}
 use Prim.Native.Nat.{ℕ, zero, suc, ◌+◌, ◌-◌, ◌*◌, ◌/◌, ◌%◌, ◌^◌, ◌≤◌, ◌<◌}

@@ -32,6 +32,7 @@ use Rattle.model.specs.Image.{Image, refuse_if, readable, reachable, end_offset,
 use Rattle.model.specs.FragmentAssembler.{good_assembly, assemble_by, assemble_verdict, assemble_of}
 use Rattle.model.specs.Replay.{ReplayState, NextReply, giving, given_by, turn_by, poll_one, assemble_one, next_from, next_of, is_over}
 use Rattle.model.specs.BadFrames.{Reads, frames, read, scan, gap, availability, poll, bounded_poll, controlled_poll, peek, block_poll, assemble, answer_now, base_met, place_met, Before, passed, shut, seventeen, refused_by, row17, rows_before, readable_before, reachable_before, unsound_met, poll_before, before, as_verdict, answer_by, saying, in_place_of17, BadFrames, ReplaysPassOn}
+use Rattle.model.proofs.Anchors as Anchors
 use Rattle.model.proofs.Choice.{le_yes}
 
 -- the old verdict, with a refusal in the place of 17

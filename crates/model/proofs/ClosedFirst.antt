@@ -19,6 +19,7 @@ use Rattle.model.specs.LogBufferDescriptor.{active, reading, payload_limit, soun
 use Rattle.model.specs.TermAppender.{claimed}
 use Rattle.model.specs.Publication.{refuse_if, after_closed, tail_room, next_by, log_by, claimed_by, claim_verdict, claim_of, claim_bytes}
 use Rattle.model.specs.ClosedFirst.{claim_verdict_before, claim_before, claim_bytes_before, closed_and_long, FiveForFour, AsBefore, ClosedFirst}
+use Rattle.model.proofs.Anchors as Anchors
 
 -- the two ladders, over what their four tests say: rows 1 and 2, closed, too long
 abbrev closed_rung : Bool → Bool → Bool → Bool → Verdict → Verdict

@@ -16,6 +16,7 @@ use Rattle.model.specs.Errors.{number_of}
 use Rattle.model.specs.FrameDescriptor.{space}
 use Rattle.model.specs.LogBufferDescriptor.{id_minus, payload_limit, message_limit, greatest, sound, last_term}
 use Rattle.model.specs.Rule.{rule_number, rule_place, moves, is_trip, message, claim, holds, order, first_of, decided}
+use Rattle.model.proofs.Anchors as Anchors
 use Rattle.model.specs.Publication.{refuse_if, place, pressed, after_closed, fits, on_trip, need_of, before_append, offer_verdict, claim_verdict}
 
 -- The rule of a refusal that comes before the append: 6 is the count there, and 7 the limit. The refusals that no offer and no claim gives stand with 1.
