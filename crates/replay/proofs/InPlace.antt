@@ -54,7 +54,7 @@ use Rattle.model.proofs.WalkLaws.{walk_turn, walk-full}
 use Rattle.model.proofs.Sound.{sound-true, term-32, id-small, initial-small}
 use Rattle.image.proofs.Rungs.{position-by, in-range, poll-by}
 use Rattle.image.proofs.Places.{at_place}
-use Rattle.replay.specs.InPlace.{TermsOf, stop_at, index_at, data_at, whole_at, open_term, whole_of, whole_with, over_by, kept_as, replied_by, is_refused}
+use Rattle.replay.specs.InPlace.{TermOrNone, TermsOf, stop_at, index_at, data_at, whole_at, open_term, whole_of, whole_with, over_by, kept_as, replied_by, is_refused}
 use Rattle.replay.specs.declared.frames.Whole.{Whole}
 use Rattle.replay.proofs.Turns.{next-stops, next-from, refused-keeps}
 use Rattle.replay.proofs.Again.{assembled-long}
@@ -468,6 +468,9 @@ open-terms i v n lent =
     (λ t. let k = sound-true v n (and-true (not i.closed) (sound v n) (and-true (leb lent 2147483647) _ t).1).1 in
     record { fits = record { high = k.term-high; one_bit = λ _. k.one_bit }; term-32 = term-32 v n k; three = λ _. omega (arith, k.three) })
     (λ t. record { fits = record { high = omega arith; one_bit = λ h. absurd (omega arith) }; term-32 = refl; three = λ h. absurd (omega arith) })
+
+pub open-fits : (i : Image) (v : Reading) (n lent : ℕ) → TermOrNone (open_term i v n lent)
+open-fits i v n lent = (open-terms i v n lent).fits
 
 -- ---- by the tests of the code
 
