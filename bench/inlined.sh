@@ -13,10 +13,10 @@ for name in publication::fit::offer_fit publication::fit::claim_fit publication:
     logbuffer::buffer_claim::commit_fit logbuffer::buffer_claim::read_all logbuffer::log_buffer_descriptor::is_sound logbuffer::log_buffer_descriptor::read_with \
     image::Image::poll_on image::frames::poll_term logbuffer::term_reader::read_on logbuffer::term_reader::walk_term \
     logbuffer::frame_descriptor::frame_at logbuffer::frame_descriptor::frame_inside logbuffer::frame_descriptor::whole_length \
-    replay::frames::next_whole replay::frames::whole_from replay::frames::base_at replay::frames::gather replay::frames::data_at replay::frames::give replay::frames::reach_of \
+    replay::frames::next_whole replay::frames::whole_from replay::frames::base_at replay::frames::give replay::frames::reach_of \
     replay::gathering::gather replay::gathering::take replay::gathering::turn_to replay::gathering::settle replay::gathering::enter replay::gathering::data_at \
     logbuffer::fragment_assembler::fragment_at logbuffer::fragment_assembler::lay_fragment logbuffer::fragment_assembler::place_of \
-    tally::step::meet_at tally::step::meet tally::step::met_by capi::words::reading_in capi::words::record_in capi::words::tail_out capi::words::record_numbers capi::words::position_out capi::words::numbers; do
+    tally::step::Stream::meet_at tally::step::Stream::meet tally::step::met_by capi::words::reading_in capi::words::record_in capi::words::tail_out capi::words::record_numbers capi::words::position_out capi::words::numbers; do
     if echo "$names" | grep -qxF "$name"; then
         echo "inlined.sh: $name stands in the archive, and should be in its caller"
         exit 1

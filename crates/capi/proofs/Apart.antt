@@ -1,4 +1,6 @@
 -- What a scan for availability counts is no more than its maximum, so its two numbers do not run into one another: `AvailabilityApart` of specs/Theorems.antt.
+use Rattle.std.specs.Prelude.{Result, Ok, ⊤}
+use Rattle.model.specs.declared.Error.{Error}
 use mathlib.Core.Path.{◌≡◌, refl, ap, ◌∙◌}
 use mathlib.Core.Bool.{Bool, true, false, cond, ◌&&◌}
 use Prim.Native.Nat.{ℕ, zero, suc, ◌+◌, ◌-◌, ◌*◌, ◌/◌, ◌%◌, ◌≤◌, ◌<◌, min}
@@ -10,8 +12,6 @@ use lib.IntN.{ℤ, pos}
 use lib.ListN.{length, drop}
 use Rattle.model.specs.declared.Frame.{Frame}
 use Rattle.model.specs.declared.Frame.TheVariants.{Absent, Unsound, Padding, Data}
-use Rattle.model.specs.declared.Verdict.{Verdict}
-use Rattle.model.specs.declared.Verdict.TheVariants.{Pass, Refuse}
 use Rattle.model.specs.declared.LogRecord.{LogRecord}
 use Rattle.model.specs.FrameDescriptor.{align, frame_at, is_unsound, unsound_frame_at}
 use Rattle.model.specs.LogBufferDescriptor.{reading, sound, good_partition, good_offset, first_rows, frame_row}
@@ -56,12 +56,12 @@ at_most (suc fuel) log base term at most cap available padding a m =
 
 -- ---- a scan that passes has a sound record
 
-passes : (good is-sound : Bool) (rest : Verdict) → first_rows good is-sound rest ≡ Pass → is-sound ≡ true
+passes : (good is-sound : Bool) (rest : Result ⊤ Error) → first_rows good is-sound rest ≡ Ok tt → is-sound ≡ true
 passes true true rest h = refl
 passes true false rest h = absurd (let z : ◌≡◌ {A = ℕ} 0 1 = cc in omega arith)
 passes false is-sound rest h = absurd (let z : ◌≡◌ {A = ℕ} 0 1 = cc in omega arith)
 
-sound-by : (r : LogRecord) (log : List ℕ) (k at : ℕ) → availability_judge r log k at ≡ Pass → sound (reading r) (length log) ≡ true
+sound-by : (r : LogRecord) (log : List ℕ) (k at : ℕ) → availability_judge r log k at ≡ Ok tt → sound (reading r) (length log) ≡ true
 unfolding availability_judge scan_verdict
 sound-by r log k at h =
     passes (good_partition k && good_offset at (reading r)) (sound (reading r) (length log))
@@ -70,7 +70,7 @@ sound-by r log k at h =
 -- ---- quotient and remainder
 
 parts : (w : Available) → w.available < 4294967296
-    → availability_reply (availability_by w Pass) ≡ record { code = pos 0; padding = w.padding; available = w.available }
+    → availability_reply (availability_by w (Ok tt)) ≡ record { code = pos 0; padding = w.padding; available = w.available }
 parts w h =
     let p : (w.padding * 4294967296 + w.available) / 4294967296 ≡ w.padding = omega arith in
     let a : (w.padding * 4294967296 + w.available) % 4294967296 ≡ w.available = omega arith in
@@ -82,4 +82,4 @@ availability-apart r log partition offset maximum h =
     let s = sound-true (reading r) (length log) (sound-by r log _ _ h) in
     let w = counted_from r log partition offset maximum in
     let m : w.available ≤ (reading r).term = at_most (reading r).term log _ (reading r).term _ _ (reading r).term 0 0 (omega arith) (omega arith) in
-    ap (λ (v : Verdict). availability_reply (availability_by w v)) h ∙ parts w (omega (arith, m, s.term-high))
+    ap (λ (v : Result ⊤ Error). availability_reply (availability_by w v)) h ∙ parts w (omega (arith, m, s.term-high))

@@ -1,5 +1,6 @@
 -- The partition beside an answer. A record that a read is answered of is sound, and of its term length the shift by the trailing zeros is the quotient; a
 -- refusal tells no partition.
+use Rattle.std.specs.Prelude.{Result, Err}
 use mathlib.Core.Path.{◌≡◌, refl, ap}
 use mathlib.Core.Bool.{Bool, true, false, cond, ◌&&◌, not}
 use mathlib.Core.List.{List, []}
@@ -11,7 +12,6 @@ use Rattle.model.specs.declared.LogRecord.{LogRecord}
 use Rattle.model.specs.declared.Error.{Error}
 use Rattle.model.specs.declared.Error.TheVariants.{IllegalArgument, IllegalRecord}
 use Rattle.model.specs.declared.ReadVerdict.{ReadVerdict}
-use Rattle.model.specs.declared.ReadVerdict.TheVariants.{Refuse}
 use Rattle.model.specs.Bytes.{word, long}
 use Rattle.model.specs.LogBufferDescriptor.{reading, reading_of, sound, index_by_position, bits_to_shift}
 use Rattle.model.specs.TermReader.{natural, good_entries, good_actions, good_control}
@@ -26,12 +26,12 @@ use Rattle.capi.specs.declared.replies.BlockReply.{BlockReply}
 use Rattle.capi.specs.Replies.{partition_at, poll_reply, peek_reply, block_reply}
 
 -- the first two rows of a reader's ladder, and what may come behind them
-abbrev rows : Bool → Bool → ReadVerdict → ReadVerdict
+abbrev rows : Bool → Bool → Result ReadVerdict Error → Result ReadVerdict Error
 rows good is-sound rest = refuse_if (not good) IllegalArgument (refuse_if (not is-sound) IllegalRecord rest)
 
 -- where a refusal looks at no partition, two partitions that a sound record has in common give one reply
-module _ {A : Type 0} (reply : ReadVerdict → ℤ → A) (k l : ℤ) (none : (e : Error) → reply (Refuse e) k ≡ reply (Refuse e) l) where
-  one-reply : (good is-sound : Bool) (rest : ReadVerdict) → (is-sound ≡ true → k ≡ l) → reply (rows good is-sound rest) k ≡ reply (rows good is-sound rest) l
+module _ {A : Type 0} (reply : Result ReadVerdict Error → ℤ → A) (k l : ℤ) (none : (e : Error) → reply (Err e) k ≡ reply (Err e) l) where
+  one-reply : (good is-sound : Bool) (rest : Result ReadVerdict Error) → (is-sound ≡ true → k ≡ l) → reply (rows good is-sound rest) k ≡ reply (rows good is-sound rest) l
   one-reply false is-sound rest h = none IllegalArgument
   one-reply true false rest h = none IllegalRecord
   one-reply true true rest h = ap (reply rest) (h refl)

@@ -1,4 +1,5 @@
 -- What a call leaves in the words is read again as the next record or image that it gives: the theorems of specs/Theorems.antt on calls in a row.
+use Rattle.std.specs.Prelude.{Result, Ok, Err, ⊤}
 use mathlib.Core.Path.{◌≡◌, refl, sym, ap, ap₂, ◌∙◌, subst}
 use mathlib.Core.Bool.{Bool, true, false, cond, not}
 use Prim.Native.Nat.{ℕ, zero, suc, ◌+◌, ◌*◌, ◌/◌, ◌%◌, ◌≤◌, ◌<◌}
@@ -16,14 +17,11 @@ use Rattle.model.specs.Bytes.{word, long}
 use Rattle.model.specs.declared.Claim.{Claim}
 use Rattle.model.specs.declared.LogRecord.{LogRecord}
 use Rattle.model.specs.declared.Reading.{Reading}
-use Rattle.model.specs.declared.Verdict.{Verdict}
-use Rattle.model.specs.declared.Verdict.TheVariants.{Pass, Refuse}
 use Rattle.model.specs.FrameDescriptor.{space}
 use Rattle.model.specs.LogBufferDescriptor.{id_plus, active, reading, reading_of, sound_record, sound, raw_of, changed, with_tail, with_count, with_limit, with_closed, noted, with_slowest, with_mark, due, is_ready, id_of, tail_of, next_tail, rotated, greatest, last_term, payload_limit}
 use Rattle.model.specs.Publication.{refuse_if, change_of, place, after_closed, too_long, fits, on_trip, trip_next, append_next, need_of, tail_room, before_append, offer_verdict, next_by, offer_of, claim_verdict, claim_of, reply_by, clear_verdict, clear_of, raise_verdict, raise_of}
 use Rattle.model.specs.declared.Error.{Error}
 use Rattle.model.specs.declared.Error.TheVariants.{IllegalArgument, IllegalRecord, PublicationClosed, ExceedsMaxPayloadLength, ExceedsMaxMessageLength}
-use Rattle.model.specs.declared.Outcome.TheVariants.{Done, Refused}
 use Rattle.model.specs.declared.RecordReply.{RecordReply}
 use Rattle.model.specs.Image.{moved_to}
 use Rattle.model.specs.History.{Call, offer, claim, fill, commit, abort, set_limit, close, clear, raise, World, step}
@@ -227,7 +225,7 @@ append-moved w needed h =
     pick (fits v needed) m (pick (ltb (greatest v) (place v + v.offset)) m (pick (last_term v.count) m (pick (is_ready (record_in w)) (rotated-moved v.count v.id b m) m)))
 
 -- what passed the ladder has passed row 2
-passed-rung : (b : Bool) (e : Error) (rest : Verdict) → refuse_if b e rest ≡ Pass → (b ≡ false) × (rest ≡ Pass)
+passed-rung : (b : Bool) (e : Error) (rest : Result ⊤ Error) → refuse_if b e rest ≡ Ok tt → (b ≡ false) × (rest ≡ Ok tt)
 passed-rung true e rest h = absurd (let z : ◌≡◌ {A = ℕ} 0 1 = cc in omega arith)
 passed-rung false e rest h = (refl, h)
 
@@ -236,26 +234,26 @@ not-not true h = refl
 not-not false h = absurd (let z : ◌≡◌ {A = ℕ} 0 1 = cc in omega arith)
 
 -- rows 1 and 2, with which both ladders begin
-second-rung : (v : Reading) (n m : ℕ) (rest : Verdict) → refuse_if (ltb 2147483647 m) IllegalArgument (refuse_if (not (sound v n)) IllegalRecord rest) ≡ Pass → v.count ≤ 2147483647
+second-rung : (v : Reading) (n m : ℕ) (rest : Result ⊤ Error) → refuse_if (ltb 2147483647 m) IllegalArgument (refuse_if (not (sound v n)) IllegalRecord rest) ≡ Ok tt → v.count ≤ 2147483647
 second-rung v n m rest h =
     let p = passed-rung (ltb 2147483647 m) IllegalArgument (refuse_if (not (sound v n)) IllegalRecord rest) h in
     let q = passed-rung (not (sound v n)) IllegalRecord rest p.1 in
     (sound-true v n (not-not (sound v n) q.0)).count-high
 
-offer-count : (v : Reading) (n m : ℕ) (rest : Verdict) → before_append v n m rest ≡ Pass → v.count ≤ 2147483647
+offer-count : (v : Reading) (n m : ℕ) (rest : Result ⊤ Error) → before_append v n m rest ≡ Ok tt → v.count ≤ 2147483647
 unfolding before_append
 offer-count v n m rest h =
     second-rung v n m (refuse_if v.closed PublicationClosed (after_closed v m (refuse_if (too_long v m) ExceedsMaxMessageLength rest))) h
 
-claim-count : (v : Reading) (n m : ℕ) → claim_verdict v n m ≡ Pass → v.count ≤ 2147483647
+claim-count : (v : Reading) (n m : ℕ) → claim_verdict v n m ≡ Ok tt → v.count ≤ 2147483647
 unfolding claim_verdict
 claim-count v n m h =
     second-rung v n m (refuse_if v.closed PublicationClosed (refuse_if (ltb (payload_limit v) m) ExceedsMaxPayloadLength (after_closed v m (tail_room v (space m))))) h
 
-next-moved : (w : List ℤ) (needed : ℕ) (x : Verdict) → (x ≡ Pass → (reading (record_in w)).count ≤ 2147483647)
+next-moved : (w : List ℤ) (needed : ℕ) (x : Result ⊤ Error) → (x ≡ Ok tt → (reading (record_in w)).count ≤ 2147483647)
     → Moved (record_in w) (next_by (record_in w) (reading (record_in w)) needed x)
-next-moved w needed (Refuse e) h = words-moved w
-next-moved w needed Pass h = append-moved w needed (h refl)
+next-moved w needed (Err e) h = words-moved w
+next-moved w needed (Ok _) h = append-moved w needed (h refl)
 
 offer-moved : (w : List ℤ) (log m : List ℕ) → Moved (record_in w) (offer_of (record_in w) log m).next
 unfolding offer_of
@@ -329,10 +327,10 @@ unfolding with_mark
 mark-at w k h g = marks-at w (set (record_in w).is_cleared k true) h (length-set (record_in w).is_cleared k true) g
 
 -- one that a verdict lets through, or the old one
-reply-back : (w : List ℤ) (next : LogRecord) (x : Verdict) (out : List ℤ → LogRecord → List ℤ) → record_in (out w next) ≡ next → record_in (out w (record_in w)) ≡ record_in w
+reply-back : (w : List ℤ) (next : LogRecord) (x : Result ⊤ Error) (out : List ℤ → LogRecord → List ℤ) → record_in (out w next) ≡ next → record_in (out w (record_in w)) ≡ record_in w
     → record_in (out w (reply_by (record_in w) next x).next) ≡ (reply_by (record_in w) next x).next
-reply-back w next Pass out new old = new
-reply-back w next (Refuse e) out new old = old
+reply-back w next (Ok _) out new old = new
+reply-back w next (Err e) out new old = old
 
 -- the new record, or the old one
 change-back : (w : List ℤ) (next : LogRecord) (out : List ℤ → LogRecord → List ℤ) → record_in (out w next) ≡ next → record_in (out w (record_in w)) ≡ record_in w
@@ -341,8 +339,8 @@ unfolding change_of
 change-back w next out new old = go (sound_record (reading next))
   where
     go : (b : Bool)
-        → record_in (out w (cond {A = RecordReply} b (record { next = next; answer = Done }) (record { next = record_in w; answer = Refused IllegalRecord })).next)
-        ≡ (cond {A = RecordReply} b (record { next = next; answer = Done }) (record { next = record_in w; answer = Refused IllegalRecord })).next
+        → record_in (out w (cond {A = RecordReply} b (record { next = next; answer = Ok tt }) (record { next = record_in w; answer = Err IllegalRecord })).next)
+        ≡ (cond {A = RecordReply} b (record { next = next; answer = Ok tt }) (record { next = record_in w; answer = Err IllegalRecord })).next
     go true = new
     go false = old
 

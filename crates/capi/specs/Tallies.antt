@@ -1,6 +1,7 @@
 -- A tally as it crosses to C: its values by their order (`tally_told`, `partition_told`), 0 where there are none. The position where the walk ended comes
 -- first, and where a frame is refused its place stands there.
-use Rattle.std.specs.Prelude.{ℕ, ◌+◌}
+use Rattle.std.specs.Prelude.{ℕ, ◌+◌, Result}
+use Rattle.model.specs.declared.Error.{Error}
 use Rattle.tally.specs.Tally.{tally_told}
 use Rattle.tally.specs.Partitions.{partition_told}
 use Rattle.tally.specs.declared.Sums.{Sums}
@@ -16,7 +17,7 @@ use Rattle.capi.specs.declared.tallies.PartitionTallyReply.{PartitionTallyReply}
 abbrev pub sums_at : ℕ → Told → Sums
 sums_at i t = record { body = size i t; headers = size (i + 1) t; slack = size (i + 2) t; padding = size (i + 3) t }
 
-abbrev pub tally_reply : Tallied → TallyReply
+abbrev pub tally_reply : Result Tallied Error → TallyReply
 tally_reply a =
     record {
       code = (tally_told a).number;
@@ -30,7 +31,7 @@ tally_reply a =
 abbrev pub partitions_at : Told → Partitions
 partitions_at t = record { p0 = sums_at 7 t; p1 = sums_at 11 t; p2 = sums_at 15 t }
 
-abbrev pub partition_tally_reply : PartitionTallied → PartitionTallyReply
+abbrev pub partition_tally_reply : Result PartitionTallied Error → PartitionTallyReply
 partition_tally_reply a =
     record {
       code = (partition_told a).number;

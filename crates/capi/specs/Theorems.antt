@@ -1,10 +1,9 @@
 -- What is proved of the words, as statements. proofs/ has a proof of each, under the name that is said with it.
-use Rattle.std.specs.Prelude.{◌≡◌, ℕ, ◌-◌, ◌*◌, ◌≤◌, min, Bool, List, ℤ, pos, length}
+use Rattle.std.specs.Prelude.{◌≡◌, ℕ, ◌-◌, ◌*◌, ◌≤◌, min, Bool, List, ℤ, pos, length, Ok}
 use Rattle.std.specs.Int.{w32, w64}
 use Rattle.std.proofs.Common.{SFits}
 use Rattle.model.specs.declared.LogRecord.{LogRecord}
 use Rattle.model.specs.declared.Error.{Error}
-use Rattle.model.specs.declared.Verdict.TheVariants.{Pass}
 use Rattle.model.specs.Bytes.{word}
 use Rattle.model.specs.LogBufferDescriptor.{changed, noted, reading}
 use Rattle.model.specs.TermReader.{natural, walk}
@@ -104,6 +103,6 @@ counted_from r log partition offset maximum =
 
 -- Of a scan that is not refused, the reply's numbers are those two: neither runs into the other (Apart, `availability-apart`).
 abbrev pub AvailabilityApart : Type 0
-AvailabilityApart = (r : LogRecord) (log : List ℕ) (partition offset maximum : ℤ) → availability_judge r log (word partition) (word offset) ≡ Pass
+AvailabilityApart = (r : LogRecord) (log : List ℕ) (partition offset maximum : ℤ) → availability_judge r log (word partition) (word offset) ≡ Ok tt
     → availability_reply (availability_of r log partition offset maximum)
     ≡ record { code = pos 0; padding = (counted_from r log partition offset maximum).padding; available = (counted_from r log partition offset maximum).available }

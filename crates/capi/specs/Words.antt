@@ -19,15 +19,14 @@
 --
 -- `low | high` are the halves. The C header declares the structs; tests/c/layout.c and the Rust crate's layout.rs hold size and offsets to this.
 -- Read Theorems next: what is packed is unpacked again, and a refusal leaves every byte.
-use Rattle.std.specs.Prelude.{ℕ, ◌+◌, ◌*◌, ◌/◌, ◌%◌, Bool, true, false, cond, not, List, [], ◌∷◌, eqb, ℤ, pos, get_or, set}
+use Rattle.std.specs.Prelude.{ℕ, ◌+◌, ◌*◌, ◌/◌, ◌%◌, Bool, true, false, cond, not, List, [], ◌∷◌, eqb, ℤ, pos, get_or, set, Result, Ok, Err, ⊤}
+use Rattle.model.specs.declared.Error.{Error}
 use Rattle.std.specs.Int.{w64}
 use Rattle.std.proofs.Common.{to_z}
 use Rattle.model.specs.Bytes.{word, long}
 use Rattle.model.specs.LogBufferDescriptor.{term_id_of, changed}
 use Rattle.model.specs.declared.LogRecord.{LogRecord}
 use Rattle.model.specs.declared.Claim.{Claim}
-use Rattle.model.specs.declared.Outcome.{Outcome}
-use Rattle.model.specs.declared.Outcome.TheVariants.{Done, Refused}
 use Rattle.model.specs.declared.RecordReply.{RecordReply}
 use Rattle.model.specs.Image.{Image as ImageState}
 use Rattle.model.specs.FragmentAssembler.{Sessions}
@@ -140,9 +139,9 @@ record_filled w r =
     12 (pair_of r.active_transport_count r.page_size))
     13 r.correlation_id
 
-abbrev pub opened_by : List ℤ → LogRecord → Outcome → List ℤ
-opened_by w r Done = record_filled w r
-opened_by w r (Refused e) = w
+abbrev pub opened_by : List ℤ → LogRecord → Result ⊤ Error → List ℤ
+opened_by w r (Ok _) = record_filled w r
+opened_by w r (Err e) = w
 
 abbrev pub opened_out : List ℤ → RecordReply → List ℤ
 opened_out w o = opened_by w o.next o.answer

@@ -4,7 +4,7 @@ ghost use Rattle.std.specs.Prelude.{◌≡◌};
 ghost use Rattle.card.specs.Card.{write_of, write_bytes, read_of};
 ghost use Rattle.capi.specs.Cards.{no_card, card_write_reply, card_read_reply};
 
-use card::{Card, CardRead, CardWritten};
+use card::{Card, CardError, CardRead};
 
 #[repr(C)]
 #[derive(Clone, Copy)]
@@ -22,12 +22,12 @@ pub struct CardReadReply {
     pub note_length: usize,
 }
 
-fn card_written(answer: CardWritten) -> CardWriteReply
+fn card_written(answer: Result<usize, CardError>) -> CardWriteReply
     ensures { result ≡ card_write_reply answer }
 {
     match answer {
-        CardWritten::Length(n) => CardWriteReply { code: 0, length: n },
-        CardWritten::Refused(e) => CardWriteReply {
+        Ok(n) => CardWriteReply { code: 0, length: n },
+        Err(e) => CardWriteReply {
             code: card::error_number(e),
             length: 0,
         },
@@ -48,17 +48,17 @@ fn no_card() -> Card
     }
 }
 
-fn card_read(answer: CardRead) -> CardReadReply
+fn card_read(answer: Result<CardRead, CardError>) -> CardReadReply
     ensures { result ≡ card_read_reply answer }
 {
     match answer {
-        CardRead::Found(card, from, n) => CardReadReply {
+        Ok(found) => CardReadReply {
             code: 0,
-            card: card,
-            note_start: from,
-            note_length: n,
+            card: found.card,
+            note_start: found.note_start,
+            note_length: found.note_length,
         },
-        CardRead::Refused(e) => CardReadReply {
+        Err(e) => CardReadReply {
             code: card::error_number(e),
             card: no_card(),
             note_start: 0,

@@ -10,6 +10,7 @@ use card::Card;
 use holding::laying::Ends;
 use holding::{Answer, Holding};
 use logbuffer::errors;
+use model::Error;
 
 #[repr(C)]
 #[derive(Clone, Copy)]
@@ -33,23 +34,23 @@ struct Numbers {
     writing: usize,
 }
 
-fn told(answer: Answer) -> Numbers
+fn told(answer: Result<Answer, Error>) -> Numbers
     ensures { result ≡ numbers_at (answer_told answer) }
 {
     match answer {
-        Answer::Holds(end, stop) => Numbers {
+        Ok(Answer::Holds(end, stop)) => Numbers {
             code: 0,
             stop: tallies::stop_number(stop),
             position: end,
             writing: tallies::writing_size(stop),
         },
-        Answer::NoCard(end, stop) => Numbers {
+        Ok(Answer::NoCard(end, stop)) => Numbers {
             code: 24,
             stop: tallies::stop_number(stop),
             position: end,
             writing: tallies::writing_size(stop),
         },
-        Answer::Refused(e) => Numbers {
+        Err(e) => Numbers {
             code: errors::number(e),
             stop: 0,
             position: errors::place(e) as i64,

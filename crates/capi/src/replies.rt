@@ -2,20 +2,18 @@
 // cross, so each family of answers has its structs here, and a function for each number in them. A reply refused 22 or 23 has the place of the frame in
 // 01's first value, which a refusal leaves free; the assembler's and a replay's has it in `start`. A reply of 16 bytes comes back in two registers, so a
 // number that 32 bits hold stands beside the code. A claim is two words, stored as wide as they are handed back.
-ghost use Rattle.std.specs.Prelude.{◌≡◌, ◌-◌, []};
+ghost use Rattle.std.specs.Prelude.{◌≡◌, ◌-◌, [], Ok};
 ghost use Rattle.model.specs.Answers.{answered};
-ghost use Rattle.model.specs.declared.FrameLengthRead.TheVariants.{Length};
 ghost use Rattle.capi.specs.Replies.{outcome_number, cut32, position_reply, offer_reply, claim_reply, span_reply, append_reply, append_claim_reply, fields_at, header_reply, frame_length_reply, read_reply, scan_reply, gap_reply, availability_reply, poll_reply, peek_reply, block_reply, end_of_stream_reply, assembly_reply, next_reply, batch_reply, count_reply};
 
 use crate::words;
 use logbuffer::{cast, errors};
 use model::{
-    Appended, AppendedClaim, Assembled, AvailabilityScanned, BlockPolled, Claimed, EndOfStream,
-    FrameLength, FrameLengthRead, GapScanned, HeaderFields, HeaderRead, Located, Offered, Outcome,
-    Peeked, Polled, Positioned, Replayed, Rule, Scanned, TermRead,
+    Appended, AppendedClaim, Assembled, Block, Claimed, Error, FrameLength, GapScanned,
+    HeaderFields, Peeked, Polled, Replayed, Rule, Span, TermRead,
 };
 use publication::rule;
-use replay::{Batched, Counted};
+use replay::Counted;
 
 #[repr(C)]
 #[derive(Clone, Copy)]
@@ -193,41 +191,41 @@ fn narrow(n: usize) -> u32
 }
 
 // What was done, by number alone.
-pub fn outcome_code(answer: Outcome) -> i32
+pub fn outcome_code(answer: Result<(), Error>) -> i32
     ensures { result ≡ outcome_number answer }
 {
     match answer {
-        Outcome::Done => 0,
-        Outcome::Refused(e) => errors::number(e),
+        Ok(()) => 0,
+        Err(e) => errors::number(e),
     }
 }
 
-pub fn positioned(answer: Positioned) -> PositionReply
+pub fn positioned(answer: Result<i64, Error>) -> PositionReply
     ensures { result ≡ position_reply answer }
 {
     match answer {
-        Positioned::Position(p) => PositionReply {
+        Ok(p) => PositionReply {
             code: 0,
             position: p,
         },
-        Positioned::Refused(e) => PositionReply {
+        Err(e) => PositionReply {
             code: errors::number(e),
             position: 0,
         },
     }
 }
 
-pub fn offered(answer: Offered, rule: Rule) -> OfferReply
+pub fn offered(answer: Result<i64, Error>, rule: Rule) -> OfferReply
     ensures { result ≡ offer_reply answer rule }
 {
     let place = rule::place(rule);
     match answer {
-        Offered::Position(p) => OfferReply {
+        Ok(p) => OfferReply {
             code: 0,
             rule: place,
             position: p,
         },
-        Offered::Refused(e) => OfferReply {
+        Err(e) => OfferReply {
             code: errors::number(e),
             rule: place,
             position: 0,
@@ -235,18 +233,18 @@ pub fn offered(answer: Offered, rule: Rule) -> OfferReply
     }
 }
 
-pub fn claimed(answer: Claimed, rule: Rule) -> ClaimReply
+pub fn claimed(answer: Result<Claimed, Error>, rule: Rule) -> ClaimReply
     ensures { result ≡ claim_reply answer rule }
 {
     let place = rule::place(rule);
     match answer {
-        Claimed::Position(p, claim) => ClaimReply {
+        Ok(claimed) => ClaimReply {
             code: 0,
             rule: place,
-            position: p,
-            claim: words::claim_words(claim),
+            position: claimed.position,
+            claim: words::claim_words(claimed.claim),
         },
-        Claimed::Refused(e) => ClaimReply {
+        Err(e) => ClaimReply {
             code: errors::number(e),
             rule: place,
             position: 0,
@@ -266,16 +264,16 @@ fn difference(to: usize, from: usize) -> usize
 }
 
 // A part of the log, by its first index and its length.
-pub fn located(answer: Located) -> SpanReply
+pub fn located(answer: Result<Span, Error>) -> SpanReply
     ensures { result ≡ span_reply answer }
 {
     match answer {
-        Located::Span(from, to) => SpanReply {
+        Ok(span) => SpanReply {
             code: 0,
-            start: from,
-            length: difference(to, from),
+            start: span.start,
+            length: difference(span.end, span.start),
         },
-        Located::Refused(e) => SpanReply {
+        Err(e) => SpanReply {
             code: errors::number(e),
             start: 0,
             length: 0,
@@ -348,15 +346,15 @@ fn no_fields() -> HeaderFields
     }
 }
 
-pub fn header_read(answer: HeaderRead) -> HeaderReply
+pub fn header_read(answer: Result<HeaderFields, Error>) -> HeaderReply
     ensures { result ≡ header_reply answer }
 {
     match answer {
-        HeaderRead::Fields(fields) => HeaderReply {
+        Ok(fields) => HeaderReply {
             code: 0,
             fields: fields,
         },
-        HeaderRead::Refused(e) => HeaderReply {
+        Err(e) => HeaderReply {
             code: errors::number(e),
             fields: no_fields(),
         },
@@ -364,7 +362,7 @@ pub fn header_read(answer: HeaderRead) -> HeaderReply
 }
 
 fn frame_length(length: FrameLength) -> FrameLengthReply
-    ensures { result ≡ frame_length_reply (Length length) }
+    ensures { result ≡ frame_length_reply (Ok length) }
 {
     match length {
         FrameLength::Free => FrameLengthReply {
@@ -385,12 +383,12 @@ fn frame_length(length: FrameLength) -> FrameLengthReply
     }
 }
 
-pub fn frame_length_read(answer: FrameLengthRead) -> FrameLengthReply
+pub fn frame_length_read(answer: Result<FrameLength, Error>) -> FrameLengthReply
     ensures { result ≡ frame_length_reply answer }
 {
     match answer {
-        FrameLengthRead::Length(length) => frame_length(length),
-        FrameLengthRead::Refused(e) => FrameLengthReply {
+        Ok(length) => frame_length(length),
+        Err(e) => FrameLengthReply {
             code: errors::number(e),
             state: 0,
             length: 0,
@@ -398,16 +396,16 @@ pub fn frame_length_read(answer: FrameLengthRead) -> FrameLengthReply
     }
 }
 
-pub fn term_read(answer: TermRead) -> ReadReply
+pub fn term_read(answer: Result<TermRead, Error>) -> ReadReply
     ensures { result ≡ read_reply answer }
 {
     match answer {
-        TermRead::Outcome(offset, fragments) => ReadReply {
+        Ok(read) => ReadReply {
             code: 0,
-            offset: offset,
-            fragments: narrow(fragments),
+            offset: read.offset,
+            fragments: narrow(read.fragments),
         },
-        TermRead::Refused(e) => ReadReply {
+        Err(e) => ReadReply {
             code: errors::number(e),
             offset: errors::place(e) as usize,
             fragments: 0,
@@ -415,15 +413,15 @@ pub fn term_read(answer: TermRead) -> ReadReply
     }
 }
 
-pub fn scanned(answer: Scanned) -> ScanReply
+pub fn scanned(answer: Result<usize, Error>) -> ScanReply
     ensures { result ≡ scan_reply answer }
 {
     match answer {
-        Scanned::Offset(offset) => ScanReply {
+        Ok(offset) => ScanReply {
             code: 0,
             offset: offset,
         },
-        Scanned::Refused(e) => ScanReply {
+        Err(e) => ScanReply {
             code: errors::number(e),
             offset: errors::place(e) as usize,
         },
@@ -431,11 +429,11 @@ pub fn scanned(answer: Scanned) -> ScanReply
 }
 
 // Without a gap the offset is where the walk came to.
-pub fn gap_scanned(answer: GapScanned) -> GapReply
+pub fn gap_scanned(answer: Result<GapScanned, Error>) -> GapReply
     ensures { result ≡ gap_reply answer }
 {
     match answer {
-        GapScanned::Gap(term_id, offset, length, written) => GapReply {
+        Ok(GapScanned::Gap(term_id, offset, length, written)) => GapReply {
             code: 0,
             is_gap: true,
             is_being_written: written,
@@ -443,7 +441,7 @@ pub fn gap_scanned(answer: GapScanned) -> GapReply
             offset: offset,
             length: length,
         },
-        GapScanned::NoGap(offset) => GapReply {
+        Ok(GapScanned::NoGap(offset)) => GapReply {
             code: 0,
             is_gap: false,
             is_being_written: false,
@@ -451,7 +449,7 @@ pub fn gap_scanned(answer: GapScanned) -> GapReply
             offset: offset,
             length: 0,
         },
-        GapScanned::Refused(e) => GapReply {
+        Err(e) => GapReply {
             code: errors::number(e),
             is_gap: false,
             is_being_written: false,
@@ -463,11 +461,11 @@ pub fn gap_scanned(answer: GapScanned) -> GapReply
 }
 
 // The two numbers apart: the upper 32 bits, and the lower.
-pub fn availability_scanned(answer: AvailabilityScanned) -> AvailabilityReply
+pub fn availability_scanned(answer: Result<i64, Error>) -> AvailabilityReply
     ensures { result ≡ availability_reply answer }
 {
     match answer {
-        AvailabilityScanned::Outcome(outcome) => {
+        Ok(outcome) => {
             let bits = cast::long(outcome);
             AvailabilityReply {
                 code: 0,
@@ -475,7 +473,7 @@ pub fn availability_scanned(answer: AvailabilityScanned) -> AvailabilityReply
                 available: bits % 4294967296,
             }
         }
-        AvailabilityScanned::Refused(e) => AvailabilityReply {
+        Err(e) => AvailabilityReply {
             code: errors::number(e),
             padding: 0,
             available: errors::place(e) as usize,
@@ -483,17 +481,17 @@ pub fn availability_scanned(answer: AvailabilityScanned) -> AvailabilityReply
     }
 }
 
-pub fn polled(answer: Polled, partition: i32) -> PollReply
+pub fn polled(answer: Result<Polled, Error>, partition: i32) -> PollReply
     ensures { result ≡ poll_reply partition answer }
 {
     match answer {
-        Polled::Fragments(fragments, entries) => PollReply {
+        Ok(polled) => PollReply {
             code: 0,
-            fragments: narrow(fragments),
-            entries: narrow(entries),
+            fragments: narrow(polled.fragments),
+            entries: narrow(polled.entries),
             partition: partition,
         },
-        Polled::Refused(e) => PollReply {
+        Err(e) => PollReply {
             code: errors::number(e),
             fragments: narrow(errors::place(e) as usize),
             entries: 0,
@@ -502,17 +500,17 @@ pub fn polled(answer: Polled, partition: i32) -> PollReply
     }
 }
 
-pub fn peeked(answer: Peeked, partition: i32) -> PeekReply
+pub fn peeked(answer: Result<Peeked, Error>, partition: i32) -> PeekReply
     ensures { result ≡ peek_reply partition answer }
 {
     match answer {
-        Peeked::Position(p, entries) => PeekReply {
+        Ok(peeked) => PeekReply {
             code: 0,
-            entries: narrow(entries),
-            position: p,
+            entries: narrow(peeked.entries),
+            position: peeked.position,
             partition: partition,
         },
-        Peeked::Refused(e) => PeekReply {
+        Err(e) => PeekReply {
             code: errors::number(e),
             entries: 0,
             position: errors::place(e) as i64,
@@ -521,19 +519,19 @@ pub fn peeked(answer: Peeked, partition: i32) -> PeekReply
     }
 }
 
-pub fn block_polled(answer: BlockPolled, partition: i32) -> BlockReply
+pub fn block_polled(answer: Result<Block, Error>, partition: i32) -> BlockReply
     ensures { result ≡ block_reply partition answer }
 {
     match answer {
-        BlockPolled::Block(offset, length, session_id, term_id) => BlockReply {
+        Ok(block) => BlockReply {
             code: 0,
             partition: partition,
-            offset: offset,
-            length: length,
-            session_id: session_id,
-            term_id: term_id,
+            offset: block.offset,
+            length: block.length,
+            session_id: block.session_id,
+            term_id: block.term_id,
         },
-        BlockPolled::Refused(e) => BlockReply {
+        Err(e) => BlockReply {
             code: errors::number(e),
             partition: 0,
             offset: errors::place(e) as usize,
@@ -544,12 +542,12 @@ pub fn block_polled(answer: BlockPolled, partition: i32) -> BlockReply
     }
 }
 
-pub fn end_of_stream(answer: EndOfStream) -> EndOfStreamReply
+pub fn end_of_stream(answer: Result<bool, Error>) -> EndOfStreamReply
     ensures { result ≡ end_of_stream_reply answer }
 {
     match answer {
-        EndOfStream::Is(b) => EndOfStreamReply { code: 0, is_eos: b },
-        EndOfStream::Refused(e) => EndOfStreamReply {
+        Ok(b) => EndOfStreamReply { code: 0, is_eos: b },
+        Err(e) => EndOfStreamReply {
             code: errors::number(e),
             is_eos: false,
         },
@@ -557,29 +555,29 @@ pub fn end_of_stream(answer: EndOfStream) -> EndOfStreamReply
 }
 
 // Where a message lies: 0 there is none, 1 in the log, 2 in the lent buffer.
-pub fn assembled(answer: Assembled) -> AssemblyReply
+pub fn assembled(answer: Result<Assembled, Error>) -> AssemblyReply
     ensures { result ≡ assembly_reply answer }
 {
     match answer {
-        Assembled::Nothing => AssemblyReply {
+        Ok(Assembled::Nothing) => AssemblyReply {
             code: 0,
             place: 0,
             start: 0,
             length: 0,
         },
-        Assembled::Fragment(at, n) => AssemblyReply {
+        Ok(Assembled::Fragment(at, n)) => AssemblyReply {
             code: 0,
             place: 1,
             start: at,
             length: n,
         },
-        Assembled::Message(at, n) => AssemblyReply {
+        Ok(Assembled::Message(at, n)) => AssemblyReply {
             code: 0,
             place: 2,
             start: at,
             length: n,
         },
-        Assembled::Refused(e) => AssemblyReply {
+        Err(e) => AssemblyReply {
             code: errors::number(e),
             place: 0,
             start: errors::place(e) as usize,
@@ -588,29 +586,29 @@ pub fn assembled(answer: Assembled) -> AssemblyReply
     }
 }
 
-pub fn replayed(answer: Replayed) -> NextReply
+pub fn replayed(answer: Result<Replayed, Error>) -> NextReply
     ensures { result ≡ next_reply answer }
 {
     match answer {
-        Replayed::End => NextReply {
+        Ok(Replayed::End) => NextReply {
             code: 0,
             place: 0,
             start: 0,
             length: 0,
         },
-        Replayed::InLog(at, n) => NextReply {
+        Ok(Replayed::InLog(at, n)) => NextReply {
             code: 0,
             place: 1,
             start: at,
             length: n,
         },
-        Replayed::InBuffer(at, n) => NextReply {
+        Ok(Replayed::InBuffer(at, n)) => NextReply {
             code: 0,
             place: 2,
             start: at,
             length: n,
         },
-        Replayed::Refused(e) => NextReply {
+        Err(e) => NextReply {
             code: errors::number(e),
             place: 0,
             start: errors::place(e) as usize,
@@ -619,31 +617,31 @@ pub fn replayed(answer: Replayed) -> NextReply
     }
 }
 
-pub fn batched(answer: Batched) -> BatchReply
+pub fn batched(answer: Result<usize, Error>) -> BatchReply
     ensures { result ≡ batch_reply answer }
 {
     match answer {
-        Batched::Laid(messages) => BatchReply {
+        Ok(messages) => BatchReply {
             code: 0,
             messages: messages,
         },
-        Batched::Refused(e) => BatchReply {
+        Err(e) => BatchReply {
             code: errors::number(e),
             messages: errors::place(e) as usize,
         },
     }
 }
 
-pub fn counted(answer: Counted) -> CountReply
+pub fn counted(answer: Result<Counted, Error>) -> CountReply
     ensures { result ≡ count_reply answer }
 {
     match answer {
-        Counted::Counts(messages, bytes) => CountReply {
+        Ok(counted) => CountReply {
             code: 0,
-            messages: messages,
-            bytes: bytes,
+            messages: counted.messages,
+            bytes: counted.bytes,
         },
-        Counted::Refused(e) => CountReply {
+        Err(e) => CountReply {
             code: errors::number(e),
             messages: errors::place(e) as usize,
             bytes: 0,

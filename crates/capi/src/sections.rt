@@ -7,7 +7,7 @@ ghost use Rattle.capi.specs.Words.{record_in};
 ghost use Rattle.capi.specs.Sections.{read_out};
 
 use crate::words;
-use metadata::{Beside, MetadataAnswer};
+use metadata::{Beside, MetadataError};
 use model::LogRecord;
 
 fn beside_of(rec: LogRecord) -> Beside
@@ -24,12 +24,12 @@ fn beside_of(rec: LogRecord) -> Beside
     }
 }
 
-fn answer_code(answer: MetadataAnswer) -> i32
+fn answer_code(answer: Result<(), MetadataError>) -> i32
     ensures { result ≡ answer_number answer }
 {
     match answer {
-        MetadataAnswer::Done => 0,
-        MetadataAnswer::Refused(e) => metadata::error_number(e),
+        Ok(()) => 0,
+        Err(e) => metadata::error_number(e),
     }
 }
 
@@ -51,10 +51,10 @@ pub extern "C" fn logbuffer_read_metadata(rec: &mut [i64; 14], bytes: &[u8]) -> 
     let next = o.next;
     let answer = o.answer;
     match answer {
-        MetadataAnswer::Done => {
+        Ok(()) => {
             words::record_filled(rec, next);
             0
         }
-        MetadataAnswer::Refused(e) => metadata::error_number(e),
+        Err(e) => metadata::error_number(e),
     }
 }

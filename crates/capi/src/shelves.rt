@@ -4,14 +4,14 @@ ghost use Rattle.shelf.specs.Calls.{shelved_number, shelve_of, shelve_bytes, uns
 ghost use Rattle.capi.specs.Words.{record_in};
 
 use crate::words;
-use shelf::Shelved;
+use shelf::ShelfError;
 
-fn shelved_code(answer: Shelved) -> i32
+fn shelved_code(answer: Result<(), ShelfError>) -> i32
     ensures { result ≡ shelved_number answer }
 {
     match answer {
-        Shelved::Done => 0,
-        Shelved::Refused(e) => shelf::error_number(e),
+        Ok(()) => 0,
+        Err(e) => shelf::error_number(e),
     }
 }
 

@@ -9,6 +9,7 @@ ghost use Rattle.capi.specs.Words.{record_in};
 
 use crate::words;
 use logbuffer::errors;
+use model::Error;
 use tally::step::Stop;
 use tally::{PartitionTallied, Partitions, Sums, Tallied};
 
@@ -72,18 +73,18 @@ fn no_sums() -> Sums
     }
 }
 
-fn tallied(answer: Tallied) -> TallyReply
+fn tallied(answer: Result<Tallied, Error>) -> TallyReply
     ensures { result ≡ tally_reply answer }
 {
     match answer {
-        Tallied::Tally(sums, end, stop) => TallyReply {
+        Ok(tally) => TallyReply {
             code: 0,
-            stop: stop_number(stop),
-            position: end,
-            writing: writing_size(stop),
-            sums: sums,
+            stop: stop_number(tally.stop),
+            position: tally.end,
+            writing: writing_size(tally.stop),
+            sums: tally.sums,
         },
-        Tallied::Refused(e) => TallyReply {
+        Err(e) => TallyReply {
             code: errors::number(e),
             stop: 0,
             position: errors::place(e) as i64,
@@ -103,19 +104,19 @@ fn no_partitions() -> Partitions
     }
 }
 
-fn tallied_by_partition(answer: PartitionTallied) -> PartitionTallyReply
+fn tallied_by_partition(answer: Result<PartitionTallied, Error>) -> PartitionTallyReply
     ensures { result ≡ partition_tally_reply answer }
 {
     match answer {
-        PartitionTallied::Tally(partitions, sums, end, stop) => PartitionTallyReply {
+        Ok(tally) => PartitionTallyReply {
             code: 0,
-            stop: stop_number(stop),
-            position: end,
-            writing: writing_size(stop),
-            sums: sums,
-            partitions: partitions,
+            stop: stop_number(tally.stop),
+            position: tally.end,
+            writing: writing_size(tally.stop),
+            sums: tally.sums,
+            partitions: tally.partitions,
         },
-        PartitionTallied::Refused(e) => PartitionTallyReply {
+        Err(e) => PartitionTallyReply {
             code: errors::number(e),
             stop: 0,
             position: errors::place(e) as i64,

@@ -14,7 +14,7 @@ use crate::replies::{
 };
 use crate::{replies, words};
 use logbuffer::{buffer_claim, cast, errors, log_buffer_descriptor, term_appender};
-use model::{Claim, Outcome};
+use model::Claim;
 use publication::{clearing, fit, opening, positions};
 
 // Refused, it leaves record and log as they were.
@@ -43,11 +43,11 @@ pub extern "C" fn logbuffer_open(
     let next = o.next;
     let answer = o.answer;
     match answer {
-        Outcome::Done => {
+        Ok(()) => {
             words::record_filled(rec, next);
             0
         }
-        Outcome::Refused(e) => errors::number(e),
+        Err(e) => errors::number(e),
     }
 }
 
@@ -168,16 +168,14 @@ fn offer_fragmented(
     ensures log_after { log.new ≡ offer_bytes (record_in rec.old) log.old message.now reserved_value }
 {
     let v = words::reading_in(rec);
-    let fitted = fit::offer_fragmented_fit(v, log, message, reserved_value);
-    let position = fitted.position;
-    if position == 0 {
+    let Some(fitted) = fit::offer_fragmented_fit(v, log, message, reserved_value) else {
         return offer_by_all(rec, log, message, reserved_value);
-    }
+    };
     words::tail_out(rec, v.count % 3, fitted.tail);
     OfferReply {
         code: 0,
         rule: 16,
-        position: position,
+        position: fitted.position,
     }
 }
 
@@ -198,16 +196,14 @@ pub extern "C" fn logbuffer_offer(
         return offer_fragmented(rec, log, message, reserved_value);
     }
     let v = words::reading_in(rec);
-    let fitted = fit::offer_fit(v, log, message, reserved_value);
-    let position = fitted.position;
-    if position == 0 {
+    let Some(fitted) = fit::offer_fit(v, log, message, reserved_value) else {
         return offer_fragmented(rec, log, message, reserved_value);
-    }
+    };
     words::tail_out(rec, v.count % 3, fitted.tail);
     OfferReply {
         code: 0,
         rule: 15,
-        position: position,
+        position: fitted.position,
     }
 }
 
@@ -244,19 +240,16 @@ pub extern "C" fn logbuffer_try_claim(
         let all = claim_by_all(rec, length, log);
         return all;
     }
-    let fitted = fit::claim_fit(v, log, cast::word(length));
-    let position = fitted.position;
-    if position == 0 {
+    let Some(fitted) = fit::claim_fit(v, log, cast::word(length)) else {
         let all = claim_by_all(rec, length, log);
         return all;
-    }
-    words::tail_out(rec, v.count % 3, fitted.tail);
-    let claim = fitted.claim;
+    };
+    words::tail_out(rec, v.count % 3, fitted.after.tail);
     ClaimReply {
         code: 0,
         rule: 17,
-        position: position,
-        claim: words::claim_words(claim),
+        position: fitted.after.position,
+        claim: words::claim_words(fitted.claim),
     }
 }
 

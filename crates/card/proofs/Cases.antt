@@ -1,13 +1,12 @@
 -- Worked cases, by computation.
+use Rattle.std.specs.Prelude.{Ok, Err}
 use mathlib.Core.Path.{◌≡◌, refl}
 use mathlib.Core.List.{List, [], ◌∷◌}
 use Prim.Native.Nat.{ℕ}
 use Rattle.card.specs.declared.Card.{Card}
 use Rattle.card.specs.declared.CardError.TheVariants.{IllegalArgument, BrokenCard}
-use Rattle.card.specs.declared.CardWritten.TheVariants.{Length, Refused}
-use Rattle.card.specs.declared.CardRead.TheVariants.{Found, Refused as ReadRefused}
 use Rattle.card.specs.Bytes.{le, number, joined, numbers, sum, splice}
-use Rattle.card.specs.Card.{widths, within, sound_card, held, encode, size_of, card, broken, shown, decode, write_of, write_bytes, read_of, note_of}
+use Rattle.card.specs.Card.{widths, within, sound_card, held, encode, size_of, card, broken, shown, decode, write_of, write_bytes, read_of, note_of, card_at}
 
 -- find 67305985 (4, 3, 2, 1 from the top), context 258 (1, 2), note "hi"
 abbrev some : Card
@@ -73,7 +72,7 @@ empty-note = refl
 
 -- ---- the calls: what lies behind the card stays, an output a byte too short is 1, a broken card is 21 even where there is no output
 
-written : write_of some note (9 ∷ 9 ∷ 9 ∷ 9 ∷ 9 ∷ 9 ∷ 9 ∷ 9 ∷ 9 ∷ 9 ∷ 7 ∷ 8 ∷ []) ≡ Length 10
+written : write_of some note (9 ∷ 9 ∷ 9 ∷ 9 ∷ 9 ∷ 9 ∷ 9 ∷ 9 ∷ 9 ∷ 9 ∷ 7 ∷ 8 ∷ []) ≡ Ok 10
 unfolding write_of size_of widths sum sound_card within held
 written = refl
 
@@ -81,15 +80,15 @@ left : write_bytes some note (9 ∷ 9 ∷ 9 ∷ 9 ∷ 9 ∷ 9 ∷ 9 ∷ 9 ∷ 9 
 unfolding write_bytes write_of encode joined le splice size_of widths sum sound_card within held
 left = refl
 
-too_short : write_of some note (9 ∷ 9 ∷ 9 ∷ 9 ∷ 9 ∷ 9 ∷ 9 ∷ 9 ∷ 9 ∷ []) ≡ Refused IllegalArgument
+too_short : write_of some note (9 ∷ 9 ∷ 9 ∷ 9 ∷ 9 ∷ 9 ∷ 9 ∷ 9 ∷ 9 ∷ []) ≡ Err IllegalArgument
 unfolding write_of size_of widths sum sound_card within held
 too_short = refl
 
-broken-first : write_of some [] [] ≡ Refused BrokenCard
+broken-first : write_of some [] [] ≡ Err BrokenCard
 unfolding write_of sound_card within
 broken-first = refl
 
-found : read_of bytes ≡ Found some 8 2
+found : read_of bytes ≡ card_at some 8 2
 unfolding read_of decode shown widths numbers number sum sound_card within
 found = refl
 
@@ -97,6 +96,6 @@ found-note : note_of bytes ≡ note
 unfolding note_of decode shown widths numbers number sum sound_card within
 found-note = refl
 
-refused : read_of [] ≡ ReadRefused BrokenCard
+refused : read_of [] ≡ Err BrokenCard
 unfolding read_of decode shown widths numbers number sum sound_card within
 refused = refl

@@ -5,10 +5,10 @@ use mathlib.Core.Path.{◌≡◌, refl, sym, ap, ap₂, ◌∙◌, subst}
 use mathlib.Core.List.{List, [], ◌∷◌, ◌++◌}
 use Prim.Native.Nat.{ℕ, zero, suc, ◌+◌, ◌-◌, ◌*◌, ◌/◌, ◌%◌, ◌^◌, ◌≤◌, ◌<◌}
 use native.Mathlib.Nat.{pow-succ', pow-le-pow_right, add-zero}
-use native.Mathlib.Numerals.{add-one}
 use native.Mathlib.Omega.{arith}
 use lib.ListN.{length, take, drop, get_or, length-append, take-append-drop, length-drop}
-use lib.Seq.{get_or-drop, drop-drop, take_at, drop_at, drop-cons, take-nil}
+use lib.Seq.{get_or-drop, drop-drop, take_at, drop_at, take-nil}
+use Rattle.std.proofs.lemmas.List.{at_drop_more}
 use Rattle.card.specs.Bytes.{le, number, joined, numbers, sum, Bytes}
 use Rattle.card.specs.Sole.{Fit, none, one}
 
@@ -18,6 +18,22 @@ pub length-le : (w n : ℕ) → length (le w n) ≡ w
 unfolding le
 length-le zero n = refl
 length-le (suc w) n = ap suc (length-le w (n / 256))
+
+second : (n : ℕ) → n / 65536 ≡ n / 256 / 256
+second n = omega arith
+
+third : (n : ℕ) → n / 16777216 ≡ n / 256 / 256 / 256
+third n = omega arith
+
+-- the four bytes of a number, as far as the width
+pub le-four : (w n : ℕ) → w ≤ 4 → take w (n % 256 ∷ n / 256 % 256 ∷ n / 65536 % 256 ∷ n / 16777216 % 256 ∷ []) ≡ le w n
+unfolding le
+le-four zero n h = refl
+le-four (suc zero) n h = refl
+le-four (suc (suc zero)) n h = refl
+le-four (suc (suc (suc zero))) n h = rw (second n) refl
+le-four (suc (suc (suc (suc zero)))) n h = rw (second n, third n) refl
+le-four (suc (suc (suc (suc (suc w))))) n h = absurd (omega arith)
 
 pub number-le : (w n : ℕ) → n < 256 ^ w → number (le w n) ≡ n
 unfolding le number
@@ -54,15 +70,6 @@ number-one b = omega (arith, number_more b 0 0)
 
 -- ---- a turn of a loop
 
-pub le-turn : (w i n : ℕ) → i < w → le (w - i) n ≡ n % 256 ∷ le (w - (i + 1)) (n / 256)
-unfolding le
-le-turn w i n h = let e : w - i ≡ suc (w - (i + 1)) = omega arith in ap (λ (k : ℕ). le k n) e
-
-pub take-turn : (s : List ℕ) (n i : ℕ) → i < n → n ≤ length s → take (n - i) (drop i s) ≡ get_or s i 0 ∷ take (n - (i + 1)) (drop (i + 1) s)
-take-turn s n i h l =
-    let e : n - i ≡ suc (n - (i + 1)) = omega arith in
-    ap₂ (λ (k : ℕ) (t : List ℕ). take k t) e (drop-cons s i 0 (omega arith)) ∙ ap (λ (k : ℕ). get_or s i 0 ∷ take (n - (i + 1)) (drop k s)) (sym (add-one i))
-
 pub number-turn : (b : List ℕ) (at w i : ℕ) → 0 < i → i ≤ w
     → get_or b (at + (i - 1)) 0 + 256 * number (take (w - i) (drop (at + i) b)) ≡ number (take (w - (i - 1)) (drop (at + (i - 1)) b))
 number-turn b at w i h l =
@@ -85,22 +92,10 @@ unfolding numbers
 length-numbers [] b at = refl
 length-numbers (w ∷ ws) b at = ap suc (length-numbers ws b (at + w))
 
-next : (s : List ℕ) (k : ℕ) → k < length s → drop k s ≡ get_or s k 0 ∷ drop (k + 1) s
-next s k h = rw (add-one, drop-cons s k 0)
-
 pub numbers-turn : (ws b : List ℕ) (at k : ℕ) → k < length ws
     → numbers (drop k ws) b at ≡ number (take (get_or ws k 0) (drop at b)) ∷ numbers (drop (k + 1) ws) b (at + get_or ws k 0)
 unfolding numbers
-numbers-turn ws b at k h = ap (λ (s : List ℕ). numbers s b at) (next ws k h)
-
-pub joined-turn : (ws ns r : List ℕ) (k : ℕ) → k < length ws → k < length ns
-    → joined (drop k ws) (drop k ns) r ≡ le (get_or ws k 0) (get_or ns k 0) ++ joined (drop (k + 1) ws) (drop (k + 1) ns) r
-unfolding joined
-joined-turn ws ns r k h l = ap₂ (λ (s t : List ℕ). joined s t r) (next ws k h) (next ns k l)
-
-pub sum-turn : (ws : List ℕ) (k : ℕ) → k < length ws → sum (drop k ws) ≡ get_or ws k 0 + sum (drop (k + 1) ws)
-unfolding sum
-sum-turn ws k h = ap sum (next ws k h)
+numbers-turn ws b at k h = at_drop_more (λ (s : List ℕ). numbers s b at) ws k 0 h
 
 pub bytes_drop : (at : ℕ) (b : List ℕ) → Bytes b → Bytes (drop at b)
 bytes_drop at b h i = subst (λ (x : ℕ). x < 256) (sym (get_or-drop at b i 0)) (h (at + i))

@@ -1,22 +1,21 @@
 -- Bytes are read as a card exactly if they are that card's encoding: what numbers one behind the other show and say (Fields), with the
 -- first byte's bits for the widths and the last number for the note's length.
+use Rattle.std.specs.Prelude.{Ok}
 use mathlib.Core.Path.{◌≡◌, refl, sym, ap, ap₂, ◌∙◌, subst}
 use mathlib.Core.Bool.{Bool, true, cond, ◌&&◌}
 use mathlib.Core.List.{List, [], ◌∷◌, ◌++◌}
 use Prim.Native.Nat.{ℕ, zero, suc, ◌+◌, ◌-◌, ◌*◌, ◌/◌, ◌%◌, ◌^◌, ◌≤◌, ◌<◌}
 use native.Mathlib.Nat.{mul-zero, mul-one}
 use native.Mathlib.Omega.{arith}
-use borrow.Author.Tests.{leb-true, eq-eqb, eqb-true}
-use lib.Dec.{eqb, leb, ltb}
+use borrow.Author.Tests.{eq-eqb}
 use lib.ListN.{length, take, drop, get_or, length-drop}
 use lib.Seq.{take_at, take-length, length-take-le}
+use Rattle.std.proofs.lemmas.Bool.Decides.{nat_tests}
 use Rattle.card.specs.declared.Card.{Card}
-use Rattle.card.specs.declared.CardRead.TheVariants.{Found}
-use Rattle.card.specs.declared.CardWritten.TheVariants.{Length}
 use Rattle.card.specs.Bytes.{le, joined, numbers, sum, splice, Bytes}
-use Rattle.card.specs.Card.{widths, numbers_of, card_of, sound_card, within, held, note_held, encode, size_of, Decoded, card, broken, shown, decode, write_bytes, read_of, note_of}
+use Rattle.card.specs.Card.{widths, numbers_of, card_of, sound_card, within, held, note_held, encode, size_of, Decoded, card, broken, shown, decode, write_bytes, read_of, note_of, card_at}
 use Rattle.card.specs.Sole.{Fit, none, one, Typed, kept, Canonical, Sole, SoleRead, ReadBack, WrittenRead, ReadWritten, Sized, InBounds}
-use Rattle.card.proofs.Calls.{both, write_done, passed, decoded, accepted, behind, found-decoded, decoded-found}
+use Rattle.card.proofs.Calls.{write_done, passed, decoded, accepted, behind, found-decoded, decoded-found}
 use Rattle.card.proofs.Fields.{number-one, fits, length-joined, numbers-joined, joined_numbers, fit-numbers, bytes_drop, bytes_take}
 
 -- the last of seven numbers that fit: nothing where bit 5 is off
@@ -183,7 +182,7 @@ sole-read b bytes c note = (
 within-fits : (x n : ℕ) → within (x % 2) 255 n ≡ true → held (x % 2) n < 256 ^ (x % 2)
 unfolding within held
 within-fits x n =
-    bit (λ (m : ℕ). within m 255 n ≡ true → held m n < 256 ^ m) x (λ h. omega arith) (λ h. omega (arith, leb-true n 255 (both (leb 1 n) (leb n 255) h).1))
+    bit (λ (m : ℕ). within m 255 n ≡ true → held m n < 256 ^ m) x (λ h. omega arith) (λ h. grind (arith, nat_tests))
 
 held-twice : (x n : ℕ) → held (x % 2) (held (x % 2) n) ≡ held (x % 2) n
 unfolding held
@@ -199,21 +198,16 @@ pub in_bounds : InBounds
 unfolding sound_card size_of widths sum
 in_bounds c n s =
     let b = c.bits in
-    let u = within (b / 8 % 2) 9 c.material in
-    let v = within (b / 32 % 2) 255 n in
-    let r = both (eqb (b % 2) 1) (ltb b 64 && (u && v)) s in
-    let w : v ≡ true = (both u v (both (ltb b 64) (u && v) r.1).1).1 in
+    let w : within (b / 32 % 2) 255 n ≡ true = grind (arith, nat_tests) in
     let h : held (b / 32 % 2) n < 256 = fits 1 (within-fits (b / 32) n w) (omega arith) in
-    let e = eqb-true (b % 2) 1 r.0 in
+    let e : b % 2 ≡ 1 = grind (arith, nat_tests) in
     (omega arith, omega arith)
 
 kept-canonical : (c : Card) (note : List ℕ) → Typed c → Bytes note → sound_card c (length note) ≡ true → Canonical (kept c) (note_held c.bits note)
 unfolding sound_card widths
 kept-canonical c note t bytes s =
     let b = c.bits in
-    let u = within (b / 8 % 2) 9 c.material in
-    let v = within (b / 32 % 2) 255 (length note) in
-    let w : v ≡ true = (both u v (both (ltb b 64) (u && v) (both (eqb (b % 2) 1) (ltb b 64 && (u && v)) s).1).1).1 in
+    let w : within (b / 32 % 2) 255 (length note) ≡ true = grind (arith, nat_tests) in
     let l : length (note_held b note) < 256 ^ (b / 32 % 2) = rw (length-held b note) (within-fits (b / 32) (length note) w) in record {
       sound = rw (length-held b note, within_held (b / 8), within_held (b / 32)) s;
       fit =
@@ -244,7 +238,7 @@ written_read c note out n t bytes e =
     let l : length (encode c note) ≡ n = sized c note ∙ w.size in
     let b : encode c note ≡ take n (write_bytes c note out) = sym (ap (take n) w.left ∙ written-alone out (encode c note) n l) in
     let f = decoded-found (encode c note) (kept c) h (omega (arith, l, w.room, w.small)) (read_back c note t bytes w.sound) in
-    let g : read_of (encode c note) ≡ Found (kept c) (n - length h) (length h) = f.0 ∙ ap (λ (k : ℕ). Found (kept c) (k - length h) (length h)) l in
+    let g : read_of (encode c note) ≡ card_at (kept c) (n - length h) (length h) = f.0 ∙ ap (λ (k : ℕ). card_at (kept c) (k - length h) (length h)) l in
     (ap read_of (sym b) ∙ g, ap note_of (sym b) ∙ f.1)
 
 pub read-written : ReadWritten
@@ -256,4 +250,4 @@ read-written b out bytes c from n e room small =
     let l : length b ≡ size_of c (length note) = ap length k.1 ∙ sized c note in
     let z : 0 + length b ≡ length b = omega arith in
     let w = write_done c note out (omega (arith, (behind b c note d).0)) small k.0.sound (omega arith) in
-    (sym w.0 ∙ ap Length (sym l), sym w.1 ∙ ap (λ (s : List ℕ). splice out 0 s) (sym k.1) ∙ ap (λ (m : ℕ). b ++ drop m out) z)
+    (sym w.0 ∙ ap Ok (sym l), sym w.1 ∙ ap (λ (s : List ℕ). splice out 0 s) (sym k.1) ∙ ap (λ (m : ℕ). b ++ drop m out) z)

@@ -10,14 +10,11 @@
 --
 -- Only the fields whose bit is on have bytes. Bit 0 is always on, bits 6 and 7 never are. So the shortest card has 5 bytes, the longest
 -- 270. A field whose bit is off is taken here as a number of width 0, which reads as 0: the layout does not ask whether a field is there.
-use Rattle.std.specs.Prelude.{ℕ, ◌+◌, ◌-◌, ◌*◌, ◌/◌, ◌%◌, Bool, true, cond, ◌&&◌, List, [], ◌∷◌, eqb, leb, ltb, ℤ, pos, length, take, drop, get_or}
+use Rattle.std.specs.Prelude.{ℕ, ◌+◌, ◌-◌, ◌*◌, ◌/◌, ◌%◌, Bool, true, cond, ◌&&◌, List, [], ◌∷◌, eqb, leb, ltb, ℤ, pos, length, take, drop, get_or, Result, Ok, Err}
 use Rattle.card.specs.declared.Card.{Card}
 use Rattle.card.specs.declared.CardError.{CardError}
 use Rattle.card.specs.declared.CardError.TheVariants.{IllegalArgument, BrokenCard}
-use Rattle.card.specs.declared.CardWritten.{CardWritten}
-use Rattle.card.specs.declared.CardWritten.TheVariants.{Length, Refused}
 use Rattle.card.specs.declared.CardRead.{CardRead}
-use Rattle.card.specs.declared.CardRead.TheVariants.{Found, Refused as ReadRefused}
 use Rattle.card.specs.Bytes.{joined, numbers, sum, splice}
 
 -- ---- the format
@@ -92,30 +89,34 @@ error_number BrokenCard = pos 21
 abbrev pub short : List ℕ → Bool
 short s = leb (length s) 2147483647
 
-unfoldable pub write_of : Card → List ℕ → List ℕ → CardWritten
+unfoldable pub write_of : Card → List ℕ → List ℕ → Result ℕ CardError
 write_of c note out =
     cond (short note && short out)
     (cond (sound_card c (length note))
-    (cond (leb (size_of c (length note)) (length out)) (Length (size_of c (length note))) (Refused IllegalArgument))
-    (Refused BrokenCard))
-    (Refused IllegalArgument)
+    (cond (leb (size_of c (length note)) (length out)) (Ok (size_of c (length note))) (Err IllegalArgument))
+    (Err BrokenCard))
+    (Err IllegalArgument)
 
-abbrev pub left_by : List ℕ → List ℕ → CardWritten → List ℕ
-left_by out new (Length n) = splice out 0 new
-left_by out new (Refused e) = out
+abbrev pub left_by : List ℕ → List ℕ → Result ℕ CardError → List ℕ
+left_by out new (Ok n) = splice out 0 new
+left_by out new (Err e) = out
 
 unfoldable pub write_bytes : Card → List ℕ → List ℕ → List ℕ
 write_bytes c note out = left_by out (encode c note) (write_of c note out)
 
 -- ---- reading: 1, 21
 
--- the note is the end of the n bytes
-abbrev pub located : ℕ → Decoded → CardRead
-located n (card c note) = Found c (n - length note) (length note)
-located n broken = ReadRefused BrokenCard
+-- the answer that is a card, with where its note starts and how long it is
+abbrev pub card_at : Card → ℕ → ℕ → Result CardRead CardError
+card_at c from n = Ok (record { card = c; note_start = from; note_length = n })
 
-unfoldable pub read_of : List ℕ → CardRead
-read_of b = cond (short b) (located (length b) (decode b)) (ReadRefused IllegalArgument)
+-- the note is the end of the n bytes
+abbrev pub located : ℕ → Decoded → Result CardRead CardError
+located n (card c note) = card_at c (n - length note) (length note)
+located n broken = Err BrokenCard
+
+unfoldable pub read_of : List ℕ → Result CardRead CardError
+read_of b = cond (short b) (located (length b) (decode b)) (Err IllegalArgument)
 
 abbrev pub note_in : Decoded → List ℕ
 note_in (card c note) = note
@@ -125,6 +126,6 @@ unfoldable pub note_of : List ℕ → List ℕ
 note_of b = cond (short b) (note_in (decode b)) []
 
 -- where the note lies: for a refusal at the start
-abbrev pub start_of_note : CardRead → ℕ
-start_of_note (Found c from n) = from
-start_of_note (ReadRefused e) = 0
+abbrev pub start_of_note : Result CardRead CardError → ℕ
+start_of_note (Ok found) = found.note_start
+start_of_note (Err e) = 0

@@ -1,10 +1,8 @@
 -- The theorems, as statements: a card has one encoding, and just that is read as the card. proofs/Sole.antt proves them.
-use Rattle.std.specs.Prelude.{ℕ, ◌-◌, ◌/◌, ◌%◌, ◌^◌, ◌≤◌, ◌<◌, true, List, [], ◌∷◌, ◌++◌, ◌↔◌, ◌≡◌, length, take, drop}
+use Rattle.std.specs.Prelude.{ℕ, ◌-◌, ◌/◌, ◌%◌, ◌^◌, ◌≤◌, ◌<◌, true, List, [], ◌∷◌, ◌++◌, ◌↔◌, ◌≡◌, length, take, drop, Ok}
 use Rattle.card.specs.declared.Card.{Card}
-use Rattle.card.specs.declared.CardRead.TheVariants.{Found}
-use Rattle.card.specs.declared.CardWritten.TheVariants.{Length}
 use Rattle.card.specs.Bytes.{Bytes}
-use Rattle.card.specs.Card.{card, widths, numbers_of, sound_card, held, note_held, encode, size_of, decode, write_of, write_bytes, read_of, note_of}
+use Rattle.card.specs.Card.{card, widths, numbers_of, sound_card, held, note_held, encode, size_of, decode, write_of, write_bytes, read_of, note_of, card_at}
 
 -- each number has no more than its width: one of width 0 is 0
 pub data Fit : List ℕ → List ℕ → Type 0 where
@@ -45,7 +43,7 @@ Sole = (b : List ℕ) → Bytes b → (c : Card) (note : List ℕ) → (decode b
 abbrev pub SoleRead : Type 0
 SoleRead =
     (b : List ℕ) → Bytes b → (c : Card) (note : List ℕ)
-    → ((read_of b ≡ Found c (length b - length note) (length note)) × (note_of b ≡ note)) ↔ (Canonical c note × (b ≡ encode c note))
+    → ((read_of b ≡ card_at c (length b - length note) (length note)) × (note_of b ≡ note)) ↔ (Canonical c note × (b ≡ encode c note))
 
 -- what is written of any sound card is read back: all that its bits say
 abbrev pub ReadBack : Type 0
@@ -54,16 +52,16 @@ ReadBack = (c : Card) (note : List ℕ) → Typed c → Bytes note → sound_car
 -- the same of the calls: the bytes that `write` wrote are read, and give the card and its note
 abbrev pub WrittenRead : Type 0
 WrittenRead =
-    (c : Card) (note out : List ℕ) (n : ℕ) → Typed c → Bytes note → write_of c note out ≡ Length n
+    (c : Card) (note out : List ℕ) (n : ℕ) → Typed c → Bytes note → write_of c note out ≡ Ok n
     → let b = take n (write_bytes c note out) in
     let held = note_held c.bits note in
-    (read_of b ≡ Found (kept c) (n - length held) (length held)) × (note_of b ≡ held)
+    (read_of b ≡ card_at (kept c) (n - length held) (length held)) × (note_of b ≡ held)
 
 -- and bytes that `read` accepts are what `write` makes of the card and its note, in every output that has room
 abbrev pub ReadWritten : Type 0
 ReadWritten =
-    (b out : List ℕ) → Bytes b → (c : Card) (from n : ℕ) → read_of b ≡ Found c from n → length b ≤ length out → length out ≤ 2147483647
-    → (write_of c (note_of b) out ≡ Length (length b)) × (write_bytes c (note_of b) out ≡ b ++ drop (length b) out)
+    (b out : List ℕ) → Bytes b → (c : Card) (from n : ℕ) → read_of b ≡ card_at c from n → length b ≤ length out → length out ≤ 2147483647
+    → (write_of c (note_of b) out ≡ Ok (length b)) × (write_bytes c (note_of b) out ≡ b ++ drop (length b) out)
 
 -- an encoding is as long as the writer answers
 abbrev pub Sized : Type 0

@@ -3,9 +3,9 @@
 // stored output was worked out from document 02.
 #![tactic(auto)]
 
-mod print;
-
-use card::{Card, CardRead, CardWritten};
+use card::{Card, CardError};
+use std::io;
+use std::io::Write;
 
 // The bytes of its numbers are 1 to 12, one after another, but for the material.
 fn card_of(bits: u8, material: u8) -> Card {
@@ -19,132 +19,192 @@ fn card_of(bits: u8, material: u8) -> Card {
     }
 }
 
-// As far as there are so many bytes.
-fn first(bytes: &[u8], n: usize) -> &[u8] {
-    if n > bytes.len() {
-        return &bytes[0..0];
-    }
-    &bytes[0..n]
+fn print_card(rt: &impl Print, card: Card, note_start: usize, note: &[u8]) -> io::Result<()> {
+    let Card {
+        bits,
+        find,
+        trench,
+        context,
+        material,
+        weight,
+    } = card;
+    print!(rt;
+        ": card {bits} {find} {trench} {context} {material} {weight}, note at {note_start}: \""
+    )?;
+    io::writer(rt).write_all(note)?;
+    println!(rt; "\"")
 }
 
-fn read(name: &[u8], bytes: &[u8]) {
-    print::text(name);
+fn read(rt: &impl Print, name: &str, bytes: &[u8]) -> io::Result<()> {
+    print!(rt; "{name}")?;
     match card::read(bytes) {
-        CardRead::Found(card, from, _) => print::card(card, from, card::note(bytes)),
-        CardRead::Refused(e) => print::refused(e),
+        Ok(found) => print_card(rt, found.card, found.note_start, card::note(bytes)),
+        Err(refusal) => println!(rt; ": {refusal}"),
     }
+}
+
+// The first n bytes, as far as there are so many.
+fn first(bytes: &[u8], n: usize) -> &[u8] {
+    bytes.get(..n).unwrap_or(&[])
 }
 
 // Written into bytes of 255, all shown, and read back.
-fn there_and_back(name: &[u8], card: Card, note: &[u8]) {
+fn there_and_back(rt: &impl Print, name: &str, card: Card, note: &[u8]) -> io::Result<()> {
     let mut out = [255u8; 20];
-    print::text(name);
+    print!(rt; "{name}: ")?;
     match card::write(card, note, &mut out) {
-        CardWritten::Length(n) => {
-            print::length(n);
-            print::bytes(&out);
-            read(b"  read back", first(&out, n));
+        Ok(n) => {
+            print!(rt; "length {n}, bytes")?;
+            for byte in &out {
+                print!(rt; " {byte}")?;
+            }
+            println!(rt)?;
+            read(rt, "  read back", first(&out, n))
         }
-        CardWritten::Refused(e) => print::refused(e),
+        Err(refusal) => println!(rt; "{refusal}"),
     }
+}
+
+// A refusal, and whether the output is as it was, all 255.
+fn print_refused(rt: &impl Print, refusal: CardError, out: &[u8]) -> io::Result<()> {
+    let left = if out.iter().all(|byte| *byte == 255) {
+        "all as it was"
+    } else {
+        "written to"
+    };
+    println!(rt; "{refusal}, {left}")
 }
 
 // Written into the first `room` bytes, which are 255.
-fn write(name: &[u8], card: Card, note: &[u8], out: &mut [u8], room: usize) {
-    if room > out.len() {
-        return;
-    }
-    print::text(name);
-    match card::write(card, note, &mut out[0..room]) {
-        CardWritten::Length(n) => {
-            print::length(n);
-            print::text(b"\n");
-        }
-        CardWritten::Refused(e) => print::left(e, out),
+fn write(
+    rt: &impl Print,
+    name: &str,
+    card: Card,
+    note: &[u8],
+    out: &mut [u8],
+    room: usize,
+) -> io::Result<()> {
+    let Some(part) = out.get_mut(..room) else {
+        return Ok(());
+    };
+    print!(rt; "{name}: ")?;
+    match card::write(card, note, part) {
+        Ok(n) => println!(rt; "length {n}"),
+        Err(refusal) => print_refused(rt, refusal, out),
     }
 }
 
-fn fields() {
-    there_and_back(b"find alone, the shortest", card_of(1, 0), b"");
-    there_and_back(b"trench", card_of(3, 0), b"");
-    there_and_back(b"context", card_of(5, 0), b"");
-    there_and_back(b"material", card_of(9, 9), b"");
-    there_and_back(b"weight", card_of(17, 0), b"");
-    there_and_back(b"note", card_of(33, 0), b"hi");
-    there_and_back(b"context and note", card_of(37, 0), b"hi");
-    there_and_back(b"all six", card_of(63, 9), b"hi");
+fn fields(rt: &impl Print) -> io::Result<()> {
+    let cases: [(&str, u8, u8, &[u8]); 8] = [
+        ("find alone, the shortest", 1, 0, b""),
+        ("trench", 3, 0, b""),
+        ("context", 5, 0, b""),
+        ("material", 9, 9, b""),
+        ("weight", 17, 0, b""),
+        ("note", 33, 0, b"hi"),
+        ("context and note", 37, 0, b"hi"),
+        ("all six", 63, 9, b"hi"),
+    ];
+    for (name, bits, material, note) in cases {
+        there_and_back(rt, name, card_of(bits, material), note)?;
+    }
+    Ok(())
 }
 
-fn longest() {
+fn longest(rt: &impl Print) -> io::Result<()> {
     let note = [b'7'; 255];
     let mut out = [255u8; 271];
     let mut short = [255u8; 269];
-    write(b"longest", card_of(63, 1), &note, &mut out, 271);
-    read(b"  read back", first(&out, 270));
-    write(b"  in 269 bytes", card_of(63, 1), &note, &mut short, 269);
-    read(b"  and a byte more", &out);
+    write(rt, "longest", card_of(63, 1), &note, &mut out, 271)?;
+    read(rt, "  read back", first(&out, 270))?;
+    write(rt, "  in 269 bytes", card_of(63, 1), &note, &mut short, 269)?;
+    read(rt, "  and a byte more", &out)
 }
 
 // Into a fresh output each time, so that a refusal shows it as it was.
-fn judged(name: &[u8], bits: u8, material: u8, note: &[u8], room: usize) {
+fn judged(rt: &impl Print, name: &str, card: Card, note: &[u8], room: usize) -> io::Result<()> {
     let mut out = [255u8; 20];
-    write(name, card_of(bits, material), note, &mut out, room);
+    write(rt, name, card, note, &mut out, room)
 }
 
-fn broken_cards() {
-    judged(b"bits 0", 0, 1, b"", 20);
-    judged(b"bit 0 off", 2, 1, b"", 20);
-    judged(b"bit 6 on", 65, 1, b"", 20);
-    judged(b"bit 7 on", 129, 1, b"", 20);
-    judged(b"material 0", 9, 0, b"", 20);
-    judged(b"material 1", 9, 1, b"", 20);
-    judged(b"material 9", 9, 9, b"", 20);
-    judged(b"material 10", 9, 10, b"", 20);
+fn broken_cards(rt: &impl Print) -> io::Result<()> {
+    let cases = [
+        ("bits 0", 0, 1),
+        ("bit 0 off", 2, 1),
+        ("bit 6 on", 65, 1),
+        ("bit 7 on", 129, 1),
+        ("material 0", 9, 0),
+        ("material 1", 9, 1),
+        ("material 9", 9, 9),
+        ("material 10", 9, 10),
+    ];
+    for (name, bits, material) in cases {
+        judged(rt, name, card_of(bits, material), b"", 20)?;
+    }
+    Ok(())
 }
 
-fn broken_notes() {
+fn broken_notes(rt: &impl Print) -> io::Result<()> {
     let long = [b'7'; 256];
-    judged(b"a note of 0 bytes", 33, 0, b"", 20);
-    judged(b"a note of 1", 33, 0, b"7", 20);
-    judged(b"a note of 256", 33, 0, &long, 20);
-    judged(b"bits off, material 10 and a note of 256", 1, 10, &long, 20);
-    judged(b"room for 4 of 5 bytes", 1, 0, b"", 4);
-    judged(b"room for 5", 1, 0, b"", 5);
-    judged(b"broken, and no room", 0, 0, b"", 0);
+    let cases: [(&str, u8, u8, &[u8], usize); 7] = [
+        ("a note of 0 bytes", 33, 0, b"", 20),
+        ("a note of 1", 33, 0, b"7", 20),
+        ("a note of 256", 33, 0, &long, 20),
+        ("bits off, material 10 and a note of 256", 1, 10, &long, 20),
+        ("room for 4 of 5 bytes", 1, 0, b"", 4),
+        ("room for 5", 1, 0, b"", 5),
+        ("broken, and no room", 0, 0, b"", 0),
+    ];
+    for (name, bits, material, note, room) in cases {
+        judged(rt, name, card_of(bits, material), note, room)?;
+    }
+    Ok(())
 }
 
-fn broken_bytes() {
-    read(b"no bytes", b"");
-    read(b"bits alone", &[1]);
-    read(b"four bytes", &[1, 1, 0, 0]);
-    read(b"five bytes", &[1, 1, 0, 0, 0]);
-    read(b"six bytes", &[1, 1, 0, 0, 0, 0]);
-    read(b"bit 0 off", &[0, 1, 0, 0, 0]);
-    read(b"bit 0 off, a trench", &[2, 1, 0]);
-    read(b"bit 6 on", &[65, 1, 0, 0, 0]);
-    read(b"bit 7 on", &[129, 1, 0, 0, 0]);
+fn broken_bytes(rt: &impl Print) -> io::Result<()> {
+    let cases: [(&str, &[u8]); 9] = [
+        ("no bytes", b""),
+        ("bits alone", &[1]),
+        ("four bytes", &[1, 1, 0, 0]),
+        ("five bytes", &[1, 1, 0, 0, 0]),
+        ("six bytes", &[1, 1, 0, 0, 0, 0]),
+        ("bit 0 off", &[0, 1, 0, 0, 0]),
+        ("bit 0 off, a trench", &[2, 1, 0]),
+        ("bit 6 on", &[65, 1, 0, 0, 0]),
+        ("bit 7 on", &[129, 1, 0, 0, 0]),
+    ];
+    for (name, bytes) in cases {
+        read(rt, name, bytes)?;
+    }
+    Ok(())
 }
 
-fn broken_fields() {
-    read(b"the greatest find", &[1, 255, 255, 255, 255]);
-    read(b"a trench cut short", &[3, 1, 0, 0, 0, 1]);
-    read(b"a weight cut short", &[17, 1, 0, 0, 0, 1, 0, 0]);
-    read(b"material 0", &[9, 1, 0, 0, 0, 0]);
-    read(b"material 1", &[9, 1, 0, 0, 0, 1]);
-    read(b"material 9", &[9, 1, 0, 0, 0, 9]);
-    read(b"material 10", &[9, 1, 0, 0, 0, 10]);
-    read(b"no length of a note", &[33, 1, 0, 0, 0]);
-    read(b"a note of 0 bytes", &[33, 1, 0, 0, 0, 0]);
-    read(b"a note of 1", &[33, 1, 0, 0, 0, 1, 104]);
-    read(b"a note cut short", &[33, 1, 0, 0, 0, 2, 104]);
-    read(b"a byte behind a note", &[33, 1, 0, 0, 0, 1, 104, 105]);
+fn broken_fields(rt: &impl Print) -> io::Result<()> {
+    let cases: [(&str, &[u8]); 12] = [
+        ("the greatest find", &[1, 255, 255, 255, 255]),
+        ("a trench cut short", &[3, 1, 0, 0, 0, 1]),
+        ("a weight cut short", &[17, 1, 0, 0, 0, 1, 0, 0]),
+        ("material 0", &[9, 1, 0, 0, 0, 0]),
+        ("material 1", &[9, 1, 0, 0, 0, 1]),
+        ("material 9", &[9, 1, 0, 0, 0, 9]),
+        ("material 10", &[9, 1, 0, 0, 0, 10]),
+        ("no length of a note", &[33, 1, 0, 0, 0]),
+        ("a note of 0 bytes", &[33, 1, 0, 0, 0, 0]),
+        ("a note of 1", &[33, 1, 0, 0, 0, 1, 104]),
+        ("a note cut short", &[33, 1, 0, 0, 0, 2, 104]),
+        ("a byte behind a note", &[33, 1, 0, 0, 0, 1, 104, 105]),
+    ];
+    for (name, bytes) in cases {
+        read(rt, name, bytes)?;
+    }
+    Ok(())
 }
 
-fn main() {
-    fields();
-    longest();
-    broken_cards();
-    broken_notes();
-    broken_bytes();
-    broken_fields();
+fn main(rt: HostRuntime) -> io::Result<()> {
+    fields(&rt)?;
+    longest(&rt)?;
+    broken_cards(&rt)?;
+    broken_notes(&rt)?;
+    broken_bytes(&rt)?;
+    broken_fields(&rt)
 }

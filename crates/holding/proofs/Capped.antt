@@ -1,17 +1,13 @@
 -- A run of more than 270 bytes is no card, so that it may be dropped as soon as it has them.
 use mathlib.Core.Path.{◌≡◌, refl, sym, ap, ◌∙◌}
 use mathlib.Core.Bool.{Bool, true, false, ◌&&◌}
-use mathlib.Core.List.{List, [], ◌∷◌, ◌++◌}
+use mathlib.Core.List.{List, ◌++◌}
 use Prim.Native.Nat.{ℕ, ◌+◌, ◌-◌, ◌/◌, ◌%◌, ◌≤◌, ◌<◌}
 use native.Mathlib.Omega.{arith}
-use borrow.Author.Tests.{leb-true, leb-false, le-leb, lt-leb, eqb-true, eqb-false}
+use borrow.Author.Tests.{leb-true, leb-false, lt-leb, eqb-true, eqb-false}
 use lib.Dec.{eqb, leb, ltb}
-use lib.ListN.{length, take, drop, get_or, length-append, length-take, length-drop}
+use lib.ListN.{length, take, drop, get_or, length-append, length-drop}
 use lib.Seq.{drop-drop}
-use mathlib.Core.Logic.{⊎_elim}
-use types.Run.{OneOf}
-use denote.Enum.Declared.{tag_of}
-use Rattle.model.specs.contracts.Frame.{the_type}
 use Rattle.model.specs.declared.Frame.{Frame}
 use Rattle.model.specs.declared.Frame.TheVariants.{Absent, Unsound, Padding, Data}
 use Rattle.model.specs.FrameDescriptor.{flags_at, begins}
@@ -23,7 +19,6 @@ use Rattle.card.proofs.Fields.{number-one}
 use Rattle.card.proofs.Calls.{accepted}
 use Rattle.holding.specs.Messages.{Run, idle, running, joined, grown}
 use Rattle.holding.specs.Within.{capped, Laid, laid_run}
-use Rattle.holding.proofs.Anchors as Anchors
 
 -- ---- a card has at most 270 bytes
 
@@ -55,6 +50,12 @@ pub card-small : (b : List ℕ) (c : Card) (note : List ℕ) → decode b ≡ ca
 card-small b c note e =
     let a = accepted b c note e in
     omega (arith, a.even, head_small (get_or b 0 0), note-small b a.sound)
+
+-- and its note at most 255
+pub note-short : (b : List ℕ) (c : Card) (note : List ℕ) → decode b ≡ card c note → length note ≤ 255
+note-short b c note e =
+    let a = accepted b c note e in
+    omega (arith, a.even, note-small b a.sound, ap length (sym a.same-note), length-drop (sum (widths (get_or b 0 0))) b)
 
 too_long : (b : List ℕ) → 270 < length b → decode b ≡ broken
 too_long b h = go (decode b) refl
@@ -89,23 +90,6 @@ laid-capped find end (running b) l =
 
 -- ---- the bytes of a frame, where the code takes them from
 
-pub capped-long : (b : List ℕ) → 270 < length b → idle ≡ capped (running b)
-capped-long b h = rw (lt-leb (length b) 270 h)
-
-pub capped-short : (b : List ℕ) → length b ≤ 270 → running b ≡ capped (running b)
-capped-short b h = rw (le-leb (length b) 270 h)
-
-pub joined_length : (buffer log : List ℕ) (held from n : ℕ) → held ≤ length buffer → from + n ≤ length log → length (take held buffer ++ take n (drop from log)) ≡ held + n
-joined_length buffer log held from n h k =
-    omega (arith, length-append (take held buffer) (take n (drop from log)), length-take held buffer, length-take n (drop from log), length-drop from log)
-
--- padding is no data frame, and breaks a run
-pub broken-by : (bytes : List ℕ) (r : Run) (x : Frame) → OneOf (0 ∷ 1 ∷ 2 ∷ []) (tag_of the_type x) → idle ≡ capped (grown bytes x r)
-broken-by bytes r Absent h = refl
-broken-by bytes r (Unsound n) h = refl
-broken-by bytes r (Padding n) h = refl
-broken-by bytes r (Data n) h = absurd (⊎_elim (λ e. omega arith) (⊎_elim (λ e. omega arith) (λ e. omega arith)) h)
-
 module _ (log : List ℕ) (index n : ℕ) (x : Frame) (r : Run) (e : x ≡ Data n) where
   abbrev body : List ℕ
   body = take (n - 32) (drop (index + 32) log)
@@ -120,6 +104,3 @@ module _ (log : List ℕ) (index n : ℕ) (x : Frame) (r : Run) (e : x ≡ Data 
 
   pub gone-on : begins (flags_at (drop index log)) ≡ false → (b : List ℕ) → r ≡ running b → capped (running (b ++ body)) ≡ capped (grown (drop index log) x r)
   gone-on h b f = ap (λ (y : Run). capped (joined false body y)) (sym f) ∙ ap capped (by_flag false h)
-
-  pub passed_over : begins (flags_at (drop index log)) ≡ false → r ≡ idle → idle ≡ capped (grown (drop index log) x r)
-  passed_over h f = ap (λ (y : Run). capped (joined false body y)) (sym f) ∙ ap capped (by_flag false h)

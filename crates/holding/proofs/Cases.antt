@@ -1,4 +1,5 @@
 -- Worked cases: two calls on a log of the least size. Those on cards and on a stream of short terms are in Anchors.
+use Rattle.std.specs.Prelude.{Ok}
 use mathlib.Core.Path.{◌≡◌, refl}
 use mathlib.Core.Bool.{false}
 use mathlib.Core.List.{List, [], ◌∷◌, ◌++◌}
@@ -33,7 +34,7 @@ log = frame 64 36 128 1 7 (17 ∷ 7 ∷ 0 ∷ 0 ∷ []) ++ frame 196544 37 64 1 
 
 weighs : holding_of rec log 7 (pos 0) (pos 65536)
     ≡ record {
-      answer = Holds (pos 128) Free;
+      answer = Ok (Holds (pos 128) Free);
       card = record { bits = 17; find = 7; trench = 0; context = 0; material = 0; weight = 100 };
       ends = record { find = 128; trench = 0; context = 0; material = 0; weight = 128; note = 0 };
       note_length = 0;
@@ -42,6 +43,6 @@ weighs : holding_of rec log 7 (pos 0) (pos 65536)
 unfolding holding_of tally_verdict stream_of span_rows good_span first_frame reading_of sound_record sound ones ones_in met frame_in own_id frame_at frame_length_of u16 u32 le4 walked end_of why messages cards decode shown numbers number sum widths sound_card within held_of latest padded
 weighs = refl
 
-no-card : holding_of rec log 8 (pos 0) (pos 65536) ≡ holding_with (NoCard (pos 128) Free) (held_of []) (padded [])
+no-card : holding_of rec log 8 (pos 0) (pos 65536) ≡ holding_with (Ok (NoCard (pos 128) Free)) (held_of []) (padded [])
 unfolding holding_of tally_verdict stream_of span_rows good_span first_frame reading_of sound_record sound ones ones_in met frame_in own_id frame_at frame_length_of u16 u32 le4 walked end_of why messages cards decode shown numbers number sum widths sound_card within held_of latest padded
 no-card = refl

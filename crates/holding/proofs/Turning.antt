@@ -13,9 +13,7 @@ use Rattle.tally.proofs.Steps.{stepped, stops, goes}
 use Rattle.tally.proofs.Adding.{end_none, end_more}
 use Rattle.holding.specs.Messages.{Message, Run, idle, running, grown, told, messages}
 use Rattle.holding.specs.Holding.{Found, of_find, cards, cards_in}
-use Rattle.holding.specs.declared.runs.Run.{Run as RunKept}
-use Rattle.holding.specs.declared.runs.Run.TheVariants.{Idle}
-use Rattle.holding.specs.Within.{run_in, kept, capped, Laid, laid_run}
+use Rattle.holding.specs.Within.{capped, Laid, laid_run}
 use Rattle.holding.proofs.Capped.{grown-capped, laid-capped}
 use Rattle.holding.proofs.Latest.{all_held, laid_more}
 
@@ -131,15 +129,6 @@ module _ (s : Stream) (find from to : ℕ) where
     pub turned_by : (closed : Bool) (bytes : List ℕ) (frame : Frame) (m : ℕ) (g : Run) (l' : Laid) (r' : Run) → bytes ≡ bytes_at s p → frame ≡ met s to p → m ≡ size (met s to p)
         → closed ≡ ends (flags_at bytes) → g ≡ capped (grown bytes frame r) → l' ≡ cond closed (laid_run find (p + m) g l) l → r' ≡ cond closed idle g → Turning l' r' (p + m)
     turned_by closed bytes frame m g l' r' eb ef em ec eg el er = rw (el, er, ec, eg, eb, ef, em) turned
-
--- what is left of a run, in the buffer
-pub left_in : (closed : Bool) (r : RunKept) (buffer : List ℕ) → run_in (cond closed Idle r) buffer ≡ cond closed idle (run_in r buffer)
-left_in true r buffer = refl
-left_in false r buffer = refl
-
-pub left-small : (closed : Bool) (r : RunKept) → kept r ≤ 270 → kept (cond closed Idle r) ≤ 270
-left-small true r h = omega arith
-left-small false r h = h
 
 -- a frame that is passed lies in the log
 pub place_inside : (t p n m len : ℕ) → p % t + n ≤ t → m ≤ n → 3 * t ≤ len → place_at t p + m ≤ len

@@ -1,8 +1,7 @@
 -- The messages of a log that calls made, clearings among them (R-9 of document 02, with R-4's season): from 0 or an answered position up to another, neither of a term
 -- that is cleared, they are the history's between the two, before the first claim that is still open, each with the position where its extent ends.
 -- `history-messages` (proofs/Histories.antt) proves `HistoryMessages`, and `placed-bodies` proves `PlacedBodies`.
-use Rattle.std.specs.Prelude.{◌≡◌, List, [], ◌∷◌, ℕ, ◌+◌, ◌≤◌, ℤ}
-use Rattle.model.specs.declared.Outcome.TheVariants.{Done}
+use Rattle.std.specs.Prelude.{◌≡◌, List, [], ◌∷◌, ℕ, ◌+◌, ◌≤◌, ℤ, Ok}
 use Rattle.model.specs.Publication.{open_of}
 use Rattle.model.specs.History.{Call, left, Shape, open·, committed, aborted, Extent, message, claimed·, padding, size_of, no_terms, AllGiven}
 use Rattle.model.specs.History.{messages as messages_of}
@@ -42,7 +41,7 @@ pub record SameMessages (c : Shape) (s : Stream) (h : List Extent) (from to : �
 -- with the season's premises
 abbrev pub HistoryMessages : Type 0
 HistoryMessages =
-    (log : List ℕ) (term mtu initial session stream : ℤ) → (open_of log term mtu initial session stream).answer ≡ Done
+    (log : List ℕ) (term mtu initial session stream : ℤ) → (open_of log term mtu initial session stream).answer ≡ Ok tt
     → (calls : List Call)
     → let w = opened log term mtu initial session stream in let end = left w calls in
     AllGiven (shape w) [] no_terms w calls

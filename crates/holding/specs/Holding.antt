@@ -1,9 +1,8 @@
 -- Of the messages between two positions, those that are cards of one find, and for each field the last of them that has it.
 -- In order: 1, 2, 3, 22 or 23 as the tally refuses, then 24. Read Theorems next.
-use Rattle.std.specs.Prelude.{ℕ, ◌+◌, ◌*◌, ◌/◌, ◌%◌, ◌^◌, Bool, true, false, cond, List, [], ◌∷◌, ◌++◌, eqb, ℤ, pos, length, take, replicate}
+use Rattle.std.specs.Prelude.{ℕ, ◌+◌, ◌*◌, ◌/◌, ◌%◌, ◌^◌, Bool, true, false, cond, List, [], ◌∷◌, ◌++◌, eqb, ℤ, pos, length, take, replicate, Result, Ok, Err, ⊤}
+use Rattle.model.specs.declared.Error.{Error}
 use Rattle.model.specs.declared.LogRecord.{LogRecord}
-use Rattle.model.specs.declared.Verdict.{Verdict}
-use Rattle.model.specs.declared.Verdict.TheVariants.{Pass, Refuse}
 use Rattle.model.specs.Answers.{Told, answered, refused}
 use Rattle.model.specs.Bytes.{long}
 use Rattle.card.specs.declared.Card.{Card}
@@ -14,7 +13,7 @@ use Rattle.tally.specs.Tally.{tally_verdict, stop_number, writing_size}
 use Rattle.holding.specs.declared.laying.Ends.{Ends}
 use Rattle.holding.specs.declared.laying.Held.{Held}
 use Rattle.holding.specs.declared.Answer.{Answer}
-use Rattle.holding.specs.declared.Answer.TheVariants.{Holds, NoCard, Refused}
+use Rattle.holding.specs.declared.Answer.TheVariants.{Holds, NoCard}
 use Rattle.holding.specs.declared.Holding.{Holding}
 use Rattle.holding.specs.Messages.{Message, idle, messages}
 
@@ -91,19 +90,19 @@ note_held fs = padded (holder fs 5).note
 
 -- ---- the call: record, log, find number, two positions
 
-abbrev pub holding_with : Answer → Held → List ℕ → Holding
+abbrev pub holding_with : Result Answer Error → Held → List ℕ → Holding
 holding_with a h note = record { answer = a; card = h.card; ends = h.ends; note_length = h.note_length; note = note }
 
 -- 24, with where the walk ended, if there is no card of the find
-abbrev pub answer_of : Bool → ℕ → Stop → Answer
-answer_of found end stop = cond found (Holds (pos end) stop) (NoCard (pos end) stop)
+abbrev pub answer_of : Bool → ℕ → Stop → Result Answer Error
+answer_of found end stop = cond found (Ok (Holds (pos end) stop)) (Ok (NoCard (pos end) stop))
 
-abbrev pub holding_by : Stream → ℕ → ℕ → ℕ → Verdict → Holding
-holding_by s find from to Pass =
+abbrev pub holding_by : Stream → ℕ → ℕ → ℕ → Result ⊤ Error → Holding
+holding_by s find from to (Ok _) =
     let end = end_of from (between s from to) in
     let fs = cards_in s find from to in
     holding_with (answer_of (some fs) end (why s to end)) (held_of fs) (note_held fs)
-holding_by s find from to (Refuse e) = holding_with (Refused e) (held_of []) (padded [])
+holding_by s find from to (Err e) = holding_with (Err e) (held_of []) (padded [])
 
 unfoldable pub holding_of : LogRecord → List ℕ → ℕ → ℤ → ℤ → Holding
 holding_of r log find from to = holding_by (stream_of r log) find (long from) (long to) (tally_verdict r log from to)
@@ -113,7 +112,7 @@ holding_of r log find from to = holding_by (stream_of r log) find (long from) (l
 abbrev pub end_told : ℤ → Stop → List ℤ
 end_told end stop = end ∷ pos (stop_number stop) ∷ pos (writing_size stop) ∷ []
 
-abbrev pub answer_told : Answer → Told
-answer_told (Holds end stop) = answered (end_told end stop)
-answer_told (NoCard end stop) = record { number = pos 24; values = end_told end stop; place = 0 }
-answer_told (Refused e) = refused e
+abbrev pub answer_told : Result Answer Error → Told
+answer_told (Ok (Holds end stop)) = answered (end_told end stop)
+answer_told (Ok (NoCard end stop)) = record { number = pos 24; values = end_told end stop; place = 0 }
+answer_told (Err e) = refused e

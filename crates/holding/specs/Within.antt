@@ -1,24 +1,22 @@
 -- What the functions inside this crate answer each other.
-use Rattle.std.specs.Prelude.{ℕ, ◌+◌, ◌*◌, ◌/◌, ◌%◌, true, cond, List, eqb, leb, length, take}
+use Rattle.std.specs.Prelude.{ℕ, ◌+◌, ◌*◌, ◌/◌, ◌%◌, true, cond, List, eqb, leb, length, take, Option, None, Some}
 use Rattle.card.specs.declared.Card.{Card}
 use Rattle.card.specs.Card.{Decoded, card, broken, decode}
 use Rattle.tally.specs.Walk.{Stream, between, end_of}
 use Rattle.holding.specs.declared.laying.Held.{Held}
-use Rattle.holding.specs.declared.runs.Run.{Run as RunKept}
-use Rattle.holding.specs.declared.runs.Run.TheVariants.{Idle, Running}
 use Rattle.holding.specs.declared.walk.Walked.{Walked}
 use Rattle.holding.specs.Messages.{Run, idle, running}
 use Rattle.holding.specs.Holding.{padded, cards_in, held_of, note_held}
 
--- ---- a run in a buffer of 270 bytes, the length of the longest card
+-- ---- a run in a buffer of 270 bytes, the length of the longest card: so many bytes since a begin frame, or none to go on from
 
-abbrev pub run_in : RunKept → List ℕ → Run
-run_in Idle buffer = idle
-run_in (Running n) buffer = running (take n buffer)
+abbrev pub run_in : Option ℕ → List ℕ → Run
+run_in None buffer = idle
+run_in (Some n) buffer = running (take n buffer)
 
-abbrev pub kept : RunKept → ℕ
-kept Idle = 0
-kept (Running n) = n
+abbrev pub kept : Option ℕ → ℕ
+kept None = 0
+kept (Some n) = n
 
 -- one that is longer is dropped, since it is no card
 abbrev pub capped : Run → Run
@@ -27,8 +25,8 @@ capped (running b) = cond (leb (length b) 270) (running b) idle
 
 -- ---- a card laid over what is held so far
 
--- a number of a field whose bit is given: the new card's if it has the field
-abbrev pub newer : ℕ → ℕ → ℕ → ℕ
+-- of a field whose bit is given: the new one if the bit is on
+abbrev pub newer : {A : Type 0} → ℕ → A → A → A
 newer b new old = cond (eqb b 1) new old
 
 unfoldable pub bits_with : ℕ → ℕ → ℕ

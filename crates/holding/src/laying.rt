@@ -1,13 +1,10 @@
 // A card laid over what is held so far: each field that it has replaces the one before. Read walk next.
-ghost use Rattle.std.specs.Prelude.{◌≡◌, cond, eqb, [], ◌+◌, ◌≤◌, ◌<◌, length, take, drop, get_or};
+ghost use Rattle.std.specs.Prelude.{◌≡◌, cond, eqb, [], ◌+◌, ◌≤◌, ◌<◌, length, take, drop};
 ghost use Rattle.card.specs.Card.{decode};
 ghost use Rattle.holding.specs.Holding.{held_of, padded};
 ghost use Rattle.holding.specs.Within.{newer as newer_of, bits_with, card_with, held_with, Laid, laid_card, laid_run, run_in, kept};
 
-use crate::runs::Run;
-use card::{Card, CardRead};
-
-pub(crate) const NOTE_LENGTH: usize = 255;
+use card::Card;
 
 // For each field the position where its message ends, 0 where it is absent.
 #[repr(C)]
@@ -55,52 +52,18 @@ pub fn nothing() -> Held
     }
 }
 
-// The new number where the bit is on, at the widths that are needed.
-fn newer(bit: usize, new: usize, old: usize) -> usize
+// The new one where the bit is on.
+fn newer<T: Copy>(bit: usize, new: T, old: T) -> T
     ensures { result ≡ newer_of bit new old }
 {
     if bit == 1 { new } else { old }
-}
-
-fn newer32(bit: usize, new: u32, old: u32) -> u32
-    ensures { result ≡ newer_of bit new old }
-{
-    if bit == 1 { new } else { old }
-}
-
-fn newer16(bit: usize, new: u16, old: u16) -> u16
-    ensures { result ≡ newer_of bit new old }
-{
-    if bit == 1 { new } else { old }
-}
-
-fn newer8(bit: usize, new: u8, old: u8) -> u8
-    ensures { result ≡ newer_of bit new old }
-{
-    if bit == 1 { new } else { old }
-}
-
-// One bit of two, 0 or 1.
-fn either(new: usize, old: usize) -> usize
-    requires { old < 2 }
-    ensures { (result ≡ newer_of new 1 old) × (result < 2) }
-{
-    if new == 1 { 1 } else { old }
 }
 
 // The bits of either.
 fn bits_with(old: u8, new: u8) -> u8
     ensures { result ≡ bits_with old new }
 {
-    let a = old as usize;
-    let b = new as usize;
-    let sum = either(b % 2, a % 2)
-        + 2 * either(b / 2 % 2, a / 2 % 2)
-        + 4 * either(b / 4 % 2, a / 4 % 2)
-        + 8 * either(b / 8 % 2, a / 8 % 2)
-        + 16 * either(b / 16 % 2, a / 16 % 2)
-        + 32 * either(b / 32 % 2, a / 32 % 2);
-    sum as u8
+    (old | new) & 0x3f
 }
 
 // The fields of a card laid over another's.
@@ -110,11 +73,11 @@ fn card_with(old: Card, card: Card) -> Card
     let b = card.bits as usize;
     Card {
         bits: bits_with(old.bits, card.bits),
-        find: newer32(b % 2, card.find, old.find),
-        trench: newer16(b / 2 % 2, card.trench, old.trench),
-        context: newer16(b / 4 % 2, card.context, old.context),
-        material: newer8(b / 8 % 2, card.material, old.material),
-        weight: newer32(b / 16 % 2, card.weight, old.weight),
+        find: newer(b % 2, card.find, old.find),
+        trench: newer(b / 2 % 2, card.trench, old.trench),
+        context: newer(b / 4 % 2, card.context, old.context),
+        material: newer(b / 8 % 2, card.material, old.material),
+        weight: newer(b / 16 % 2, card.weight, old.weight),
     }
 }
 
@@ -139,32 +102,18 @@ fn held_with(held: Held, card: Card, n: usize, end: usize) -> Held
     }
 }
 
-// Byte i of a part of the bytes, and 0 behind it.
-fn byte_of(bytes: &[u8], from: usize, n: usize, i: usize) -> u8
-    requires { from + n ≤ length bytes.now }
-    ensures { result ≡ get_or (take n (drop from bytes.now)) i 0 }
-{
-    if i >= n {
-        return 0;
-    }
-    bytes[from + i]
-}
-
 // The part as the note, with 0 behind it.
 fn put_note(note: &mut [u8], bytes: &[u8], from: usize, n: usize)
-    requires { (length note.old ≡ 255) × (from + n ≤ length bytes.now) }
+    requires { (length note.old ≡ 255) × ((n ≤ 255) × (from + n ≤ length bytes.now)) }
     ensures { note.new ≡ padded (take n (drop from bytes.now)) }
 {
-    let mut i = 0;
-    while i < NOTE_LENGTH {
-        note[i] = byte_of(bytes, from, n, i);
-        i += 1;
-    }
+    note.fill(0);
+    note[..n].copy_from_slice(&bytes[from..from + n]);
 }
 
 // The note of a card that has one.
 fn note_with(note: &mut [u8], bit: usize, bytes: &[u8], from: usize, n: usize)
-    requires { (length note.old ≡ 255) × (from + n ≤ length bytes.now) }
+    requires { (length note.old ≡ 255) × ((n ≤ 255) × (from + n ≤ length bytes.now)) }
     ensures { note.new ≡ cond (eqb bit 1) (padded (take n (drop from bytes.now))) note.old }
 {
     if bit == 1 {
@@ -177,16 +126,16 @@ fn lay(held: Held, note: &mut [u8], find: u32, bytes: &[u8], end: usize) -> Held
     requires { (length note.old ≡ 255) × (length bytes.now ≤ 2147483647) }
     ensures { record { held = result; note = note.new } ≡ laid_card find end (decode bytes.now) (record { held = held; note = note.old }) }
 {
-    match card::read(bytes) {
-        CardRead::Refused(_) => held,
-        CardRead::Found(card, from, n) => {
-            if card.find != find {
-                return held;
-            }
-            note_with(note, card.bits as usize / 32 % 2, bytes, from, n);
-            held_with(held, card, n, end)
-        }
+    let Ok(read) = card::read(bytes) else {
+        return held;
+    };
+    let card = read.card;
+    if card.find != find {
+        return held;
     }
+    let n = read.note_length;
+    note_with(note, card.bits as usize / 32 % 2, bytes, read.note_start, n);
+    held_with(held, card, n, end)
 }
 
 // A closed run laid over what is held.
@@ -194,19 +143,15 @@ pub(crate) fn lay_run(
     held: Held,
     note: &mut [u8],
     find: u32,
-    run: Run,
+    run: Option<usize>,
     buffer: &[u8],
-    closed: bool,
     end: usize,
 ) -> Held
     requires { (length note.old ≡ 255) × ((length buffer.now ≡ 270) × (kept run ≤ 270)) }
-    ensures { record { held = result; note = note.new } ≡ cond closed (laid_run find end (run_in run buffer.now) (record { held = held; note = note.old })) (record { held = held; note = note.old }) }
+    ensures { record { held = result; note = note.new } ≡ laid_run find end (run_in run buffer.now) (record { held = held; note = note.old }) }
 {
-    if !closed {
-        return held;
-    }
     match run {
-        Run::Idle => held,
-        Run::Running(n) => lay(held, note, find, &buffer[0..n], end),
+        None => held,
+        Some(n) => lay(held, note, find, &buffer[..n], end),
     }
 }

@@ -5,9 +5,9 @@ ghost use Rattle.tally.specs.Walk.{stream_by};
 ghost use Rattle.holding.specs.Within.{walk_of};
 
 use crate::laying::Held;
-use crate::runs::Run;
+use crate::runs::LONGEST;
 use crate::{laying, runs};
-use tally::step;
+use tally::step::Stream;
 
 // What a walk found, the bytes of the note, and where it ended.
 #[derive(Clone, Copy)]
@@ -17,40 +17,29 @@ pub(crate) struct Walked {
     pub end: usize,
 }
 
-pub(crate) fn between(
-    bits: u32,
-    initial: i32,
-    log: &[u8],
-    find: u32,
-    from: usize,
-    to: usize,
-) -> Walked
-    requires { 3 * 2 ^ min bits 30 ≤ length log.now }
-    ensures { result ≡ walk_of find (stream_by bits (word initial) log.now) from to }
+// From one position up to another: the card laid together so far, and where the walk ended.
+pub(crate) fn between(stream: Stream<'_>, find: u32, from: usize, to: usize) -> Walked
+    requires { 3 * 2 ^ min stream.bits 30 ≤ length stream.log.now }
+    ensures { result ≡ walk_of find (stream_by stream.entry.bits (word stream.entry.initial) stream.entry.log.now) from to }
 {
     let mut held = laying::nothing();
     let mut note = [0u8; 255];
-    let mut run = Run::Idle;
-    let mut buffer = [0u8; 270];
+    let mut run = None;
+    let mut buffer = [0u8; LONGEST];
     let mut p = from;
     loop {
-        let met = step::meet(bits, initial, log, to, p);
+        let met = stream.meet(to, p);
         let n = met.size;
         if n == 0 {
             break;
         }
-        let at = step::locate(bits, p);
-        let index = at.index;
-        let frame = met.frame;
-        run = runs::grow(run, &mut buffer, log, index, frame);
-        let closed = runs::closes(log, index);
+        let index = stream.locate(p).index;
+        run = runs::grow(run, &mut buffer, stream.log, index, met.frame);
         p += n;
-        held = laying::lay_run(held, &mut note, find, run, &buffer, closed, p);
-        run = runs::left(run, closed);
+        if runs::closes(stream.log, index) {
+            held = laying::lay_run(held, &mut note, find, run, &buffer, p);
+            run = None;
+        }
     }
-    Walked {
-        held: held,
-        note: note,
-        end: p,
-    }
+    Walked { held, note, end: p }
 }

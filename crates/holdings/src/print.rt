@@ -1,71 +1,74 @@
-// The lines of the program.
+// The parts of a line: a refusal, where a walk ended, and the card that holds.
 use card::Card;
+use holding::Holding;
 use holding::laying::Ends;
-use logbuffer::{cast, errors};
+use logbuffer::errors;
 use model::Error;
+use std::{fmt, io};
 use tally::step::Stop;
 
-pub fn text(t: &[u8]) {
-    io::write_all(1, t);
-}
+// A refusal by its number, and the place of a frame that is refused.
+#[derive(Clone, Copy)]
+pub struct Refusal(pub Error);
 
-fn decimal(n: usize) {
-    text(b" ");
-    io::print_decimal(1, n as u64);
-}
-
-pub fn position(p: i64) {
-    decimal(cast::long(p));
-}
-
-// Its number, and the place of a frame.
-pub fn refused(e: Error) {
-    let number = errors::number(e);
-    decimal(cast::word(number));
-    if number >= 22 {
-        decimal(errors::place(e) as usize);
+impl fmt::Display for Refusal {
+    fn fmt<W: fmt::Write>(&self, f: &mut fmt::Formatter<W>) -> fmt::Result {
+        let number = errors::number(self.0);
+        match self.0 {
+            Error::FrameTooShort(place) | Error::FramePastTerm(place) => {
+                write!(f, "{number} {place}")
+            }
+            _ => write!(f, "{number}"),
+        }
     }
 }
 
 // Where the walk ended, and why there.
-pub fn end(at: i64, stop: Stop) {
-    text(b" at");
-    position(at);
-    match stop {
-        Stop::Reached => text(b", the second position"),
-        Stop::Writing(n) => {
-            text(b", a frame being written of");
-            decimal(n);
+#[derive(Clone, Copy)]
+pub struct End(pub i64, pub Stop);
+
+impl fmt::Display for End {
+    fn fmt<W: fmt::Write>(&self, f: &mut fmt::Formatter<W>) -> fmt::Result {
+        write!(f, "at {}, ", self.0)?;
+        match self.1 {
+            Stop::Reached => write!(f, "the second position"),
+            Stop::Writing(n) => write!(f, "a frame being written of {n}"),
+            Stop::Free => write!(f, "a free place"),
+            Stop::OtherTerm => write!(f, "a frame of another term"),
+            Stop::PastSecond => write!(f, "a frame that would pass the second position"),
+            Stop::UnsoundFrame => write!(f, "an unsound frame"),
         }
-        Stop::Free => text(b", a free place"),
-        Stop::OtherTerm => text(b", a frame of another term"),
-        Stop::PastSecond => text(b", a frame that would pass the second position"),
-        Stop::UnsoundFrame => text(b", an unsound frame"),
     }
 }
 
-pub fn card(card: Card) {
-    text(b" | card");
-    decimal(card.bits as usize);
-    decimal(card.find as usize);
-    decimal(card.trench as usize);
-    decimal(card.context as usize);
-    decimal(card.material as usize);
-    decimal(card.weight as usize);
+fn card(rt: &impl Print, card: Card) -> io::Result<()> {
+    let Card {
+        bits,
+        find,
+        trench,
+        context,
+        material,
+        weight,
+    } = card;
+    print!(rt; " | card {bits} {find} {trench} {context} {material} {weight}")
 }
 
-pub fn ends(ends: Ends) {
-    text(b" | ends");
-    decimal(ends.find);
-    decimal(ends.trench);
-    decimal(ends.context);
-    decimal(ends.material);
-    decimal(ends.weight);
-    decimal(ends.note);
+fn ends(rt: &impl Print, ends: Ends) -> io::Result<()> {
+    let Ends {
+        find,
+        trench,
+        context,
+        material,
+        weight,
+        note,
+    } = ends;
+    print!(rt; " | ends {find} {trench} {context} {material} {weight} {note}")
 }
 
-pub fn note(note: [u8; 255], n: usize) {
-    text(b" | note \"");
-    text(support::part(&note, 0, n));
-    text(b"\"");
+// The card that holds, where its fields' messages end, and its note.
+pub fn held(rt: &impl Print, holding: &Holding) -> io::Result<()> {
+    let note = support::part(&holding.note, 0, holding.note_length);
+    card(rt, holding.card)?;
+    ends(rt, holding.ends)?;
+    println!(rt; " | note \"{}\"", note.escape_ascii())
 }

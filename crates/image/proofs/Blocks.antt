@@ -1,4 +1,5 @@
 -- A block at a position: the leaf library's scan and header, asked there with signed numbers, and what they say of the block.
+use Rattle.std.specs.Prelude.{Result, Ok, Err}
 use mathlib.Core.Path.{◌≡◌, refl, sym, ap, ap₂, ◌∙◌}
 use mathlib.Core.Bool.{Bool, true, false, cond, ◌&&◌}
 use mathlib.Core.List.{List}
@@ -15,23 +16,18 @@ use Rattle.model.specs.declared.LogRecord.{LogRecord}
 use Rattle.model.specs.declared.Reading.{Reading}
 use Rattle.model.specs.declared.Place.{Place}
 use Rattle.model.specs.declared.Error.{Error}
-use Rattle.model.specs.declared.Verdict.TheVariants.{Pass, Refuse}
 use Rattle.model.specs.declared.ReadVerdict.{ReadVerdict}
 use Rattle.model.specs.declared.ReadVerdict.TheVariants.{Read}
 use Rattle.model.specs.declared.Frame.{Frame}
 use Rattle.model.specs.declared.Frame.TheVariants.{Absent, Unsound, Padding, Data}
 use Rattle.model.specs.declared.HeaderFields.{HeaderFields}
-use Rattle.model.specs.declared.HeaderRead.TheVariants.{Fields, Refused as HeaderRefused}
-use Rattle.model.specs.declared.Scanned.{Scanned}
-use Rattle.model.specs.declared.Scanned.TheVariants.{Offset, Refused}
-use Rattle.model.specs.declared.BlockPolled.{BlockPolled}
-use Rattle.model.specs.declared.BlockPolled.TheVariants.{Block}
+use Rattle.model.specs.declared.Block.{Block}
 use Rattle.model.specs.Bytes.{word, long}
 use Rattle.model.specs.DataFrameHeader.{header_at}
 use Rattle.model.specs.FrameDescriptor.{align, frame_at}
 use Rattle.model.specs.LogBufferDescriptor.{reading, sound, partition_of, good_partition, good_offset, within_term, place_of}
 use Rattle.model.specs.TermReader.{natural, fields_of, header_by, header_call}
-use Rattle.model.specs.TermScan.{scan_over, scan_from, scan_by, scan_refusal, scan_of}
+use Rattle.model.specs.TermScan.{scan_over, scan_from, scan_by, scan_of}
 use Rattle.model.specs.Image.{Image as State, moved_to, refuse_if, readable, unsound_at, unsound_frame_of, poll_verdict, block_end, block_length, block_by, block_poll_of}
 use Rattle.model.proofs.FrameLaws.{Lies, lies}
 use Rattle.model.proofs.HeaderRows.{header-by}
@@ -116,7 +112,7 @@ module _ (r : LogRecord) (log : List ℕ) (v : Reading) (p : ℕ) (ev : v ≡ re
       cc
 
   pub scan-is : (end : ℕ) → end ≤ v.term
-      → scan_by (scan_from v.term log (partition_of p v.term * v.term) v.term end true (p % v.term)) (cond (unsound_at v log p end 1) (Refuse (unsound_frame_of v log p)) Pass)
+      → scan_by (scan_from v.term log (partition_of p v.term * v.term) v.term end true (p % v.term)) (cond (unsound_at v log p end 1) (Err (unsound_frame_of v log p)) (Ok tt))
       ≡ scan_of r log (signed (p / v.term % 3)) (signed (p % v.term)) (signed end)
   scan-is end e =
       let s : end < 2147483648 = omega (arith, place.term-high) in
@@ -124,7 +120,7 @@ module _ (r : LogRecord) (log : List ℕ) (v : Reading) (p : ℕ) (ev : v ≡ re
       let g : (good_partition (p / v.term % 3) && (good_offset (p % v.term) v && within_term end v)) ≡ true = rw (partition-good, offset-good) (within end e) in
       scan-goes r log (signed (p / v.term % 3)) (signed (p % v.term)) named named-is (signed end) end n (sym (no_row _ _ g h))
 
-  header_is : Fields (fields_of v (p % v.term) (header_at (drop (partition_of p v.term * v.term + p % v.term) log)))
+  header_is : Ok (fields_of v (p % v.term) (header_at (drop (partition_of p v.term * v.term + p % v.term) log)))
       ≡ header_call r log (signed (p / v.term % 3)) (signed (p % v.term))
   header_is =
       let g : (good_partition (p / v.term % 3) && good_offset (p % v.term) v) ≡ true = rw partition-good offset-good in
@@ -136,48 +132,48 @@ module _ (r : LogRecord) (log : List ℕ) (v : Reading) (p : ℕ) (ev : v ≡ re
   unfolding fields_of
   id-field = refl
 
-  pub term-id-is : (f : HeaderFields) → header_call r log (signed (p / v.term % 3)) (signed (p % v.term)) ≡ Fields f
+  pub term-id-is : (f : HeaderFields) → header_call r log (signed (p / v.term % 3)) (signed (p % v.term)) ≡ Ok f
       → f.term_id ≡ to_z w32 (header_at (drop (partition_of p v.term * v.term + p % v.term) log)).id
   term-id-is f q =
-      let e : Fields (fields_of v (p % v.term) (header_at (drop (partition_of p v.term * v.term + p % v.term) log))) ≡ Fields f = header_is ∙ q in
+      let e : Ok (fields_of v (p % v.term) (header_at (drop (partition_of p v.term * v.term + p % v.term) log))) ≡ Ok f = header_is ∙ q in
       let s : fields_of v (p % v.term) (header_at (drop (partition_of p v.term * v.term + p % v.term) log)) ≡ f = cc in
       ap (λ (x : HeaderFields). x.term_id) (sym s) ∙ id-field
 
-  pub not-refused : (e : Error) → header_call r log (signed (p / v.term % 3)) (signed (p % v.term)) ≡ HeaderRefused e → ⊥
+  pub not-refused : (e : Error) → header_call r log (signed (p / v.term % 3)) (signed (p % v.term)) ≡ Err e → ⊥
   not-refused e q = let t = header_is ∙ q in let z : ◌≡◌ {A = ℕ} 0 1 = cc in omega arith
 
 -- ---- what the scan's answer says
 
-first-of : (b : Bool) (n : ℕ) (u e : Error) → scan_by n (cond b (Refuse u) Pass) ≡ Refused e → (b ≡ true) × (e ≡ u)
+first-of : (b : Bool) (n : ℕ) (u e : Error) → scan_by n (cond b (Err u) (Ok tt)) ≡ Err e → (b ≡ true) × (e ≡ u)
 first-of true n u e h = (refl, cc)
 first-of false n u e h = absurd (let z : ◌≡◌ {A = ℕ} 0 1 = cc in omega arith)
 
-offset-of : (b : Bool) (u : Error) (n m : ℕ) → scan_by n (cond b (Refuse u) Pass) ≡ Offset m → (b ≡ false) × (n ≡ m)
+offset-of : (b : Bool) (u : Error) (n m : ℕ) → scan_by n (cond b (Err u) (Ok tt)) ≡ Ok m → (b ≡ false) × (n ≡ m)
 offset-of true u n m h = absurd (let z : ◌≡◌ {A = ℕ} 0 1 = cc in omega arith)
 offset-of false u n m h = (refl, cc)
 
-module _ (v : Reading) (log : List ℕ) (limit p q end : ℕ) (ep : p ≡ q) (ee : end ≡ min v.term (p % v.term + (p + limit - p))) (S : Scanned)
-    (answer : S ≡ scan_by (scan_from v.term log (partition_of p v.term * v.term) v.term end true (p % v.term)) (cond (unsound_at v log p end 1) (Refuse (unsound_frame_of v log p)) Pass)) where
+module _ (v : Reading) (log : List ℕ) (limit p q end : ℕ) (ep : p ≡ q) (ee : end ≡ min v.term (p % v.term + (p + limit - p))) (S : Result ℕ Error)
+    (answer : S ≡ scan_by (scan_from v.term log (partition_of p v.term * v.term) v.term end true (p % v.term)) (cond (unsound_at v log p end 1) (Err (unsound_frame_of v log p)) (Ok tt))) where
   abbrev stops : ℕ → ℕ → ℕ
   stops x e = scan_from v.term log (partition_of x v.term * v.term) v.term e true (x % v.term)
 
   end_is : end ≡ block_end v q limit
   end_is = let d : p + limit - p ≡ limit = omega arith in ee ∙ ap (λ (x : ℕ). min v.term (p % v.term + x)) d ∙ ap (λ (x : ℕ). block_end v x limit) ep
 
-  pub block-unsound : (e : Error) → S ≡ Refused e → (unsound_at v log q (block_end v q limit) 1 ≡ true) × (scan_refusal S ≡ unsound_frame_of v log q)
+  pub block-unsound : (e : Error) → S ≡ Err e → (unsound_at v log q (block_end v q limit) 1 ≡ true) × (e ≡ unsound_frame_of v log q)
   block-unsound e h =
       let u = first-of (unsound_at v log p end 1) (stops p end) (unsound_frame_of v log p) e (sym answer ∙ h) in
-      (ap₂ (λ (x y : ℕ). unsound_at v log x y 1) (sym ep) (sym end_is) ∙ u.0, ap scan_refusal h ∙ u.1 ∙ ap (unsound_frame_of v log) ep)
+      (ap₂ (λ (x y : ℕ). unsound_at v log x y 1) (sym ep) (sym end_is) ∙ u.0, u.1 ∙ ap (unsound_frame_of v log) ep)
 
-  pub block-sound : (m : ℕ) → S ≡ Offset m → unsound_at v log q (block_end v q limit) 1 ≡ false
+  pub block-sound : (m : ℕ) → S ≡ Ok m → unsound_at v log q (block_end v q limit) 1 ≡ false
   block-sound m h = ap₂ (λ (x y : ℕ). unsound_at v log x y 1) (sym ep) (sym end_is) ∙ (offset-of (unsound_at v log p end 1) (unsound_frame_of v log p) (stops p end) m (sym answer ∙ h)).0
 
-  pub block_size : (m : ℕ) → S ≡ Offset m → m - p % v.term ≡ block_length v log q limit
+  pub block_size : (m : ℕ) → S ≡ Ok m → m - p % v.term ≡ block_length v log q limit
   block_size m h =
       ap (λ (x : ℕ). x - p % v.term) (sym (offset-of (unsound_at v log p end 1) (unsound_frame_of v log p) (stops p end) m (sym answer ∙ h)).1)
       ∙ ap₂ (λ (x y : ℕ). stops x y - x % v.term) ep end_is
 
-  pub block_in : (m : ℕ) → p % v.term ≤ v.term → S ≡ Offset m → (p % v.term ≤ m) × (m ≤ v.term)
+  pub block_in : (m : ℕ) → p % v.term ≤ v.term → S ≡ Ok m → (p % v.term ≤ m) × (m ≤ v.term)
   block_in m l h =
       let e = (offset-of (unsound_at v log p end 1) (unsound_frame_of v log p) (stops p end) m (sym answer ∙ h)).1 in
       let k = scan-in v.term log (partition_of p v.term * v.term) v.term end true (p % v.term) l in
@@ -186,25 +182,25 @@ module _ (v : Reading) (log : List ℕ) (limit p q end : ℕ) (ep : p ≡ q) (ee
 -- ---- the block that is answered
 
 module _ (v : Reading) (log : List ℕ) (i : State) (limit n : ℕ) (en : n ≡ block_length v log (long i.position) limit) where
-  pub block-empty : n ≡ 0 → Block 0 0 (pos 0) (pos 0) ≡ block_by v log i (block_length v log (long i.position) limit) Read
+  pub block-empty : n ≡ 0 → Ok (record { offset = 0; length = 0; session_id = pos 0; term_id = pos 0 }) ≡ block_by v log i (block_length v log (long i.position) limit) (Ok Read)
   block-empty h =
-      let made : ℕ → BlockPolled = λ (x : ℕ). block_by v log i x Read in
+      let made : ℕ → (Result Block Error) = λ (x : ℕ). block_by v log i x (Ok Read) in
       sym (ap made (sym en ∙ h))
 
   pub block-some : (p : ℕ) (id : ℤ) → (n ≡ 0 → ⊥) → p ≡ long i.position → id ≡ to_z w32 (header_at (drop (partition_of p v.term * v.term + p % v.term) log)).id
-      → Block (p % v.term) n i.session id ≡ block_by v log i (block_length v log (long i.position) limit) Read
+      → Ok (record { offset = p % v.term; length = n; session_id = i.session; term_id = id }) ≡ block_by v log i (block_length v log (long i.position) limit) (Ok Read)
   block-some p id h ep ei =
-      let some : Bool → ℕ → ℕ → BlockPolled = λ (b : Bool) (x m : ℕ). cond b (Block 0 0 (pos 0) (pos 0))
-      (Block (x % v.term) m i.session (to_z w32 (header_at (drop (partition_of x v.term * v.term + x % v.term) log)).id)) in
-      ap (λ (z : ℤ). Block (p % v.term) n i.session z) ei ∙ sym (ap (λ (b : Bool). some b p n) (ne_eqb n 0 h)) ∙ ap₂ (λ (x m : ℕ). some (eqb m 0) x m) ep en
+      let some : Bool → ℕ → ℕ → (Result Block Error) = λ (b : Bool) (x m : ℕ). cond b (Ok (record { offset = 0; length = 0; session_id = pos 0; term_id = pos 0 }))
+      (Ok (record { offset = x % v.term; length = m; session_id = i.session; term_id = to_z w32 (header_at (drop (partition_of x v.term * v.term + x % v.term) log)).id })) in
+      ap (λ (z : ℤ). Ok (record { offset = p % v.term; length = n; session_id = i.session; term_id = z })) ei ∙ sym (ap (λ (b : Bool). some b p n) (ne_eqb n 0 h)) ∙ ap₂ (λ (x m : ℕ). some (eqb m 0) x m) ep en
 
 pub block-kept : (v : Reading) (log : List ℕ) (i : State) (limit : ℕ) → moved_to i (block_read v log i limit).next.position ≡ (block_read v log i limit).next
-block-kept v log i limit = only-moved i (block_length v log (long i.position) limit) (refuse_if (unsound_at v log (long i.position) (block_end v (long i.position) limit) 1) (unsound_frame_of v log (long i.position)) Read)
+block-kept v log i limit = only-moved i (block_length v log (long i.position) limit) (refuse_if (unsound_at v log (long i.position) (block_end v (long i.position) limit) 1) (unsound_frame_of v log (long i.position)) (Ok Read))
 
 -- ---- the call, over the code's numbers
 
-pub as-block : (r : LogRecord) (log : List ℕ) (i : State) (bytes : ℤ) (v : Reading) (limit : ℕ) → v ≡ reading r → limit ≡ natural bytes → (x : ReadVerdict) → x ≡ readable true v (length log) i Read
-    → block_said v log i limit (after x (refuse_if (unsound_at v log (long i.position) (block_end v (long i.position) limit) 1) (unsound_frame_of v log (long i.position)) Read)) ≡ block_poll_of r log i bytes
+pub as-block : (r : LogRecord) (log : List ℕ) (i : State) (bytes : ℤ) (v : Reading) (limit : ℕ) → v ≡ reading r → limit ≡ natural bytes → (x : Result ReadVerdict Error) → x ≡ readable true v (length log) i (Ok Read)
+    → block_said v log i limit (after x (refuse_if (unsound_at v log (long i.position) (block_end v (long i.position) limit) 1) (unsound_frame_of v log (long i.position)) (Ok Read))) ≡ block_poll_of r log i bytes
 unfolding block_poll_of
 as-block r log i bytes v limit ev el x ex =
     ap (block_said v log i limit) (poll-after v log i true (block_end v (long i.position) limit) 1 x ex)

@@ -1,4 +1,6 @@
 -- A peek: its ladder goes on to rows 15 and 16, and it answers how far the walk has settled.
+use Rattle.std.specs.Prelude.{Result, Ok, Err}
+use Rattle.model.specs.declared.Error.{Error}
 use mathlib.Core.Path.{◌≡◌, refl, sym, ap, ap₂, ◌∙◌}
 use mathlib.Core.Bool.{Bool, true, false, ◌&&◌, ◌||◌, not}
 use mathlib.Core.List.{List}
@@ -12,7 +14,7 @@ use Rattle.model.specs.declared.LogRecord.{LogRecord}
 use Rattle.model.specs.declared.Reading.{Reading}
 use Rattle.model.specs.declared.Error.TheVariants.{NewPositionOutOfRange, NewPositionNotAligned}
 use Rattle.model.specs.declared.ReadVerdict.{ReadVerdict}
-use Rattle.model.specs.declared.ReadVerdict.TheVariants.{Read, Closed, Refuse}
+use Rattle.model.specs.declared.ReadVerdict.TheVariants.{Read, Closed}
 use Rattle.model.specs.Bytes.{long}
 use Rattle.model.specs.LogBufferDescriptor.{reading, greatest}
 use Rattle.model.specs.TermReader.{Walked, natural, good_entries, good_actions}
@@ -21,60 +23,60 @@ use Rattle.image.proofs.Rungs.{after, Readable, readable-after, readable-read}
 
 -- ---- rows 15 and 16 after the others
 
-after-after : (x y rest : ReadVerdict) → after (after x y) rest ≡ after x (after y rest)
-after-after Read y rest = refl
-after-after Closed y rest = refl
-after-after (Refuse e) y rest = refl
+after-after : (x y rest : Result ReadVerdict Error) → after (after x y) rest ≡ after x (after y rest)
+after-after (Ok Read) y rest = refl
+after-after (Ok Closed) y rest = refl
+after-after (Err e) y rest = refl
 
-after_read : (x y : ReadVerdict) → after x y ≡ Read → (x ≡ Read) × (y ≡ Read)
-after_read Read y h = (refl, h)
-after_read Closed y h = absurd (let z : ◌≡◌ {A = ℕ} 0 1 = cc in omega arith)
-after_read (Refuse e) y h = absurd (let z : ◌≡◌ {A = ℕ} 0 1 = cc in omega arith)
+after_read : (x y : Result ReadVerdict Error) → after x y ≡ (Ok Read) → (x ≡ Ok Read) × (y ≡ Ok Read)
+after_read (Ok Read) y h = (refl, h)
+after_read (Ok Closed) y h = absurd (let z : ◌≡◌ {A = ℕ} 0 1 = cc in omega arith)
+after_read (Err e) y h = absurd (let z : ◌≡◌ {A = ℕ} 0 1 = cc in omega arith)
 
-abbrev reaching : Bool → Bool → Bool → ReadVerdict → ReadVerdict
+abbrev reaching : Bool → Bool → Bool → Result ReadVerdict Error → Result ReadVerdict Error
 reaching a b c rest = refuse_if (a || b) NewPositionOutOfRange (refuse_if (not c) NewPositionNotAligned rest)
 
-reaching-after : (a b c : Bool) (rest : ReadVerdict) → reaching a b c rest ≡ after (reaching a b c Read) rest
+reaching-after : (a b c : Bool) (rest : Result ReadVerdict Error) → reaching a b c rest ≡ after (reaching a b c (Ok Read)) rest
 reaching-after true b c rest = refl
 reaching-after false true c rest = refl
 reaching-after false false false rest = refl
 reaching-after false false true rest = refl
 
-reaching-read : (a b c : Bool) → reaching a b c Read ≡ Read → (b ≡ false) × (c ≡ true)
+reaching-read : (a b c : Bool) → reaching a b c (Ok Read) ≡ (Ok Read) → (b ≡ false) × (c ≡ true)
 reaching-read true b c h = absurd (let z : ◌≡◌ {A = ℕ} 0 1 = cc in omega arith)
 reaching-read false true c h = absurd (let z : ◌≡◌ {A = ℕ} 0 1 = cc in omega arith)
 reaching-read false false false h = absurd (let z : ◌≡◌ {A = ℕ} 0 1 = cc in omega arith)
 reaching-read false false true h = (refl, refl)
 
 module _ (v : Reading) (current new : ℕ) where
-  reachable-after : (rest : ReadVerdict) → reachable v current new rest ≡ after (reachable v current new Read) rest
+  reachable-after : (rest : Result ReadVerdict Error) → reachable v current new rest ≡ after (reachable v current new (Ok Read)) rest
   unfolding reachable
   reachable-after rest = reaching-after (ltb new current) (ltb (current - current % v.term + v.term) new) (eqb (new % 32) 0) rest
 
-  reachable-read : reachable v current new Read ≡ Read → (new ≤ current - current % v.term + v.term) × (new % 32 ≡ 0)
+  reachable-read : reachable v current new (Ok Read) ≡ (Ok Read) → (new ≤ current - current % v.term + v.term) × (new % 32 ≡ 0)
   unfolding reachable
   reachable-read h =
       let k = reaching-read (ltb new current) (ltb (current - current % v.term + v.term) new) (eqb (new % 32) 0) h in
       (ltb-false _ _ k.0, eqb-true _ _ k.1)
 
-module _ (good : Bool) (v : Reading) (n : ℕ) (i : State) (new : ℕ) (x : ReadVerdict)
-    (ex : x ≡ readable good v n i (reachable v (long i.position) new Read)) where
-  abbrev before : ReadVerdict
-  before = readable good v n i Read
+module _ (good : Bool) (v : Reading) (n : ℕ) (i : State) (new : ℕ) (x : Result ReadVerdict Error)
+    (ex : x ≡ readable good v n i (reachable v (long i.position) new (Ok Read))) where
+  abbrev before : Result ReadVerdict Error
+  before = readable good v n i (Ok Read)
 
-  pub reach-after : (rest : ReadVerdict) → after x rest ≡ readable good v n i (reachable v (long i.position) new rest)
+  pub reach-after : (rest : Result ReadVerdict Error) → after x rest ≡ readable good v n i (reachable v (long i.position) new rest)
   reach-after rest =
-      let q = reachable v (long i.position) new Read in
-      ap (λ (y : ReadVerdict). after y rest) (ex ∙ sym (readable-after good v n i before q refl)) ∙ after-after before q rest
+      let q = reachable v (long i.position) new (Ok Read) in
+      ap (λ (y : Result ReadVerdict Error). after y rest) (ex ∙ sym (readable-after good v n i before q refl)) ∙ after-after before q rest
       ∙ ap (after before) (sym (reachable-after v (long i.position) new rest)) ∙ readable-after good v n i before _ refl
 
-  parts : x ≡ Read → (before ≡ Read) × (reachable v (long i.position) new Read ≡ Read)
+  parts : x ≡ (Ok Read) → (before ≡ Ok Read) × (reachable v (long i.position) new (Ok Read) ≡ Ok Read)
   parts h = after_read before _ (readable-after good v n i before _ refl ∙ sym ex ∙ h)
 
-  pub reach-readable : x ≡ Read → Readable good v n (long i.position)
+  pub reach-readable : x ≡ (Ok Read) → Readable good v n (long i.position)
   reach-readable h = readable-read good v n i (sym (parts h).0)
 
-  pub reach-new : x ≡ Read → (new ≤ greatest v + v.term) × (new % 32 ≡ 0)
+  pub reach-new : x ≡ (Ok Read) → (new ≤ greatest v + v.term) × (new % 32 ≡ 0)
   reach-new h =
       let k = reachable-read v (long i.position) new (parts h).1 in
       (omega (arith, k.0, (reach-readable h).high), k.1)
@@ -90,10 +92,10 @@ at-most-itself n = let h : n ≤ n = omega arith in rw (le-leb n n h) (both (leb
 
 module _ (r : LogRecord) (log : List ℕ) (i : State) (slots : List ℤ) (acts : List ℕ) (start bound : ℤ) (v : Reading) (p b end : ℕ) (good : Bool) (ev : v ≡ reading r) (ep : p ≡ long start)
     (eb : b ≡ natural bound) (ee : end ≡ min v.term (p % v.term + (b - p)))
-    (eg : good ≡ (good_entries (length slots) (length acts) && (good_actions acts && (leb (length acts) 2147483647 && leb (length acts) (length acts))))) (x : ReadVerdict)
-    (ex : x ≡ readable good v (length log) i (reachable v (long i.position) p Read)) where
-  abbrev frame_row : ReadVerdict
-  frame_row = refuse_if (unsound_at v log p end (length acts)) (unsound_frame_of v log p) Read
+    (eg : good ≡ (good_entries (length slots) (length acts) && (good_actions acts && (leb (length acts) 2147483647 && leb (length acts) (length acts))))) (x : Result ReadVerdict Error)
+    (ex : x ≡ readable good v (length log) i (reachable v (long i.position) p (Ok Read))) where
+  abbrev frame_row : Result ReadVerdict Error
+  frame_row = refuse_if (unsound_at v log p end (length acts)) (unsound_frame_of v log p) (Ok Read)
 
   abbrev walked : Walked
   walked = walk_at v log p end (length acts) acts
@@ -104,9 +106,9 @@ module _ (r : LogRecord) (log : List ℕ) (i : State) (slots : List ℤ) (acts :
   verdict-is : after x frame_row ≡ peek_verdict (reading r) log i (length slots) acts (long start) (natural bound)
   unfolding peek_verdict
   verdict-is =
-      let f : Reading → ℕ → ℕ → Bool → ReadVerdict = λ (u : Reading) (q c : ℕ) (g : Bool). readable g u (length log) i (reachable u (long i.position) q
-      (refuse_if (unsound_at u log q (end_offset u q c) (length acts)) (unsound_frame_of u log q) Read)) in
-      let j : ℕ → ReadVerdict = λ (e : ℕ). readable good v (length log) i (reachable v (long i.position) p (refuse_if (unsound_at v log p e (length acts)) (unsound_frame_of v log p) Read)) in
+      let f : Reading → ℕ → ℕ → Bool → (Result ReadVerdict Error) = λ (u : Reading) (q c : ℕ) (g : Bool). readable g u (length log) i (reachable u (long i.position) q
+      (refuse_if (unsound_at u log q (end_offset u q c) (length acts)) (unsound_frame_of u log q) (Ok Read))) in
+      let j : ℕ → (Result ReadVerdict Error) = λ (e : ℕ). readable good v (length log) i (reachable v (long i.position) p (refuse_if (unsound_at v log p e (length acts)) (unsound_frame_of v log p) (Ok Read))) in
       reach-after good v (length log) i p x ex frame_row ∙ ap j ee ∙ ap₂ (λ (u : Reading) (q : ℕ). f u q b good) ev ep ∙ ap₂ (f (reading r) (long start)) eb good-is
 
   walk_is : walked ≡ walk_at (reading r) log (long start) (end_offset (reading r) (long start) (natural bound)) (length acts) acts

@@ -1,4 +1,5 @@
 -- Where a position lies in a sound log: its partition, and its offset in the term.
+use Rattle.std.specs.Prelude.{Ok, Err}
 use mathlib.Core.Path.{◌≡◌, refl, sym, ◌∙◌}
 use mathlib.Core.Bool.{Bool, true, false, cond}
 use Prim.Native.Nat.{ℕ, ◌+◌, ◌*◌, ◌/◌, ◌%◌, ◌≤◌, ◌<◌}
@@ -8,7 +9,6 @@ use borrow.Author.Tests.{leb-true, le-leb, eq-eqb}
 use lib.Dec.{leb}
 use Rattle.model.specs.declared.Reading.{Reading}
 use Rattle.model.specs.declared.Error.{Error}
-use Rattle.model.specs.declared.Verdict.TheVariants.{Pass, Refuse}
 use Rattle.model.specs.declared.Walk.{Walk}
 use Rattle.model.specs.declared.FramesRead.TheVariants.{Walked as AllWalked, Refused as WalkRefused}
 use Rattle.model.specs.LogBufferDescriptor.{sound, partition_of}
@@ -68,10 +68,10 @@ pub read-good : (v : Reading) (n p limit slots : ℕ) → sound v n ≡ true →
 read-good v n p limit slots h a g = let k = at_place v n p h a in both_true h (both_true (le-leb _ _ k.partition) (both_true (eq-eqb _ _ k.at-32) g))
 
 -- what a walk's answer says of its first frame
-pub walked-first : (b : Bool) (w : Walked) (u : Error) (x : Walk) → frames_by w (cond b (Refuse u) Pass) ≡ AllWalked x → (b ≡ false) × (walk_of w ≡ x)
+pub walked-first : (b : Bool) (w : Walked) (u : Error) (x : Walk) → frames_by w (cond b (Err u) (Ok tt)) ≡ AllWalked x → (b ≡ false) × (walk_of w ≡ x)
 walked-first true w u x h = absurd (let z : ◌≡◌ {A = ℕ} 0 1 = cc in omega arith)
 walked-first false w u x h = (refl, cc)
 
-pub refused-first : (b : Bool) (w : Walked) (u e : Error) → frames_by w (cond b (Refuse u) Pass) ≡ WalkRefused e → (b ≡ true) × (e ≡ u)
+pub refused-first : (b : Bool) (w : Walked) (u e : Error) → frames_by w (cond b (Err u) (Ok tt)) ≡ WalkRefused e → (b ≡ true) × (e ≡ u)
 refused-first true w u e h = (refl, cc)
 refused-first false w u e h = absurd (let z : ◌≡◌ {A = ℕ} 0 1 = cc in omega arith)

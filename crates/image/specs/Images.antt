@@ -1,5 +1,6 @@
 -- An image of the code and the image of the definitions hold the same; and so do their replies.
-use Rattle.std.specs.Prelude.{◌≡◌, ℕ, ◌≤◌, ◌<◌, Bool, cond, List, [], leb, ℤ, length}
+use Rattle.std.specs.Prelude.{◌≡◌, ℕ, ◌≤◌, ◌<◌, Bool, cond, List, [], leb, ℤ, length, Result, Ok}
+use Rattle.model.specs.declared.Error.{Error}
 use Rattle.std.specs.Int.Count.{ones}
 use Rattle.model.specs.declared.Reading.{Reading}
 use Rattle.model.specs.declared.ReadVerdict.{ReadVerdict}
@@ -27,7 +28,7 @@ abbrev pub poll_reply_of : PollSaid → PollReply
 poll_reply_of x = record { next = image_of x.next; answer = x.answer }
 
 -- a peek moves nothing: the next image is the image as it was
-abbrev pub peek_reply_of : State → Peeked → PeekReply
+abbrev pub peek_reply_of : State → Result Peeked Error → PeekReply
 peek_reply_of i a = record { next = image_of i; answer = a }
 
 abbrev pub image_reply_of : ImageSaid → ImageReply
@@ -69,9 +70,9 @@ abbrev pub shifted_in : ℕ → ℕ → ℕ
 shifted_in term p = cond (leb term 4294967295) (index_by_position p (bits_to_shift term)) 0
 
 -- a block poll by its verdict, and once only the first frame is left to judge
-abbrev pub block_said : Reading → List ℕ → State → ℕ → ReadVerdict → BlockSaid
+abbrev pub block_said : Reading → List ℕ → State → ℕ → Result ReadVerdict Error → BlockSaid
 block_said v log i limit x =
     record { answer = block_by v log i (block_length v log (long i.position) limit) x; next = image_by i (block_length v log (long i.position) limit) x }
 
 abbrev pub block_read : Reading → List ℕ → State → ℕ → BlockSaid
-block_read v log i limit = block_said v log i limit (refuse_if (unsound_at v log (long i.position) (block_end v (long i.position) limit) 1) (unsound_frame_of v log (long i.position)) Read)
+block_read v log i limit = block_said v log i limit (refuse_if (unsound_at v log (long i.position) (block_end v (long i.position) limit) 1) (unsound_frame_of v log (long i.position)) (Ok Read))

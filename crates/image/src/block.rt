@@ -1,6 +1,5 @@
 // A block: whole frames at a position, told by where they lie.
-ghost use Rattle.std.specs.Prelude.{◌≡◌, cond, true, ◌+◌, ◌*◌, ◌%◌, ◌≤◌, ◌<◌, length, drop};
-ghost use Rattle.model.specs.declared.Verdict.TheVariants.{Pass, Refuse};
+ghost use Rattle.std.specs.Prelude.{◌≡◌, cond, true, ◌+◌, ◌*◌, ◌%◌, ◌≤◌, ◌<◌, length, drop, Ok, Err};
 ghost use Rattle.std.specs.Int.{w32};
 ghost use Rattle.std.proofs.Common.{to_z};
 ghost use Rattle.model.specs.Bytes.{long};
@@ -12,19 +11,19 @@ ghost use Rattle.image.specs.Images.{state_of, block_to, block_read};
 
 use crate::{Image, limits};
 use logbuffer::{cast, header, term_scan};
-use model::{BlockPolled, HeaderRead, LogRecord, Reading, Scanned};
+use model::{Block, Error, LogRecord, Reading};
 
 // Where a block poll leaves the image's position, and its answer.
 #[derive(Clone, Copy)]
 pub struct BlockTo {
     pub position: i64,
-    pub answer: BlockPolled,
+    pub answer: Result<Block, Error>,
 }
 
 // The scan from a position of a sound log up to an offset of its term.
-fn scan_at(rec: LogRecord, v: Reading, log: &[u8], p: usize, end: usize) -> Scanned
+fn scan_at(rec: LogRecord, v: Reading, log: &[u8], p: usize, end: usize) -> Result<usize, Error>
     requires { (v ≡ reading rec) × ((sound v (length log.now) ≡ true) × ((p % 32 ≡ 0) × (end ≤ v.term))) }
-    ensures { result ≡ scan_by (scan_from v.term log.now (partition_of p v.term * v.term) v.term end true (p % v.term)) (cond (unsound_at v log.now p end 1) (Refuse (unsound_frame_of v log.now p)) Pass) }
+    ensures { result ≡ scan_by (scan_from v.term log.now (partition_of p v.term * v.term) v.term end true (p % v.term)) (cond (unsound_at v log.now p end 1) (Err (unsound_frame_of v log.now p)) (Ok tt)) }
 {
     let term = v.term;
     term_scan::scan(
@@ -42,7 +41,7 @@ fn term_id_at(rec: LogRecord, v: Reading, log: &[u8], p: usize) -> i32
     ensures { result ≡ to_z w32 (header_at (drop (partition_of p v.term * v.term + p % v.term) log.now)).id }
 {
     let term = v.term;
-    let HeaderRead::Fields(fields) = header::fields(
+    let Ok(fields) = header::fields(
         rec,
         log,
         limits::partition_of(term, p) as i32,
@@ -67,12 +66,14 @@ pub(crate) fn block_at(
     let term = v.term;
     let p = cast::long(image.position);
     let end = limits::end_offset(term, p, p + limit);
-    let scanned = scan_at(rec, v, log, p, end);
-    let Scanned::Offset(stop) = scanned else {
-        return BlockTo {
-            position: image.position,
-            answer: BlockPolled::Refused(term_scan::refusal(scanned)),
-        };
+    let stop = match scan_at(rec, v, log, p, end) {
+        Ok(stop) => stop,
+        Err(e) => {
+            return BlockTo {
+                position: image.position,
+                answer: Err(e),
+            };
+        }
     };
     let at = limits::offset_of(term, p);
     let n = stop - at;
@@ -80,12 +81,22 @@ pub(crate) fn block_at(
     if n == 0 {
         return BlockTo {
             position: position,
-            answer: BlockPolled::Block(0, 0, 0, 0),
+            answer: Ok(Block {
+                offset: 0,
+                length: 0,
+                session_id: 0,
+                term_id: 0,
+            }),
         };
     }
     let id = term_id_at(rec, v, log, p);
     BlockTo {
         position: position,
-        answer: BlockPolled::Block(at, n, image.session_id, id),
+        answer: Ok(Block {
+            offset: at,
+            length: n,
+            session_id: image.session_id,
+            term_id: id,
+        }),
     }
 }

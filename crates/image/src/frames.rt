@@ -1,6 +1,5 @@
 // The frames at a position of a log, the call behind poll, and the one behind bounded_poll and controlled_poll.
-ghost use Rattle.std.specs.Prelude.{◌≡◌, cond, true, [], ◌%◌, ◌≤◌, length};
-ghost use Rattle.model.specs.declared.Verdict.TheVariants.{Pass, Refuse};
+ghost use Rattle.std.specs.Prelude.{◌≡◌, cond, true, [], ◌%◌, ◌≤◌, length, Ok, Err};
 ghost use Rattle.model.specs.Bytes.{long};
 ghost use Rattle.model.specs.LogBufferDescriptor.{sound, partition_of};
 ghost use Rattle.model.specs.TermReader.{good_entries, good_handler, frames_by, entries_by, read_from};
@@ -9,13 +8,13 @@ ghost use Rattle.image.specs.Images.{state_of, shifted_in, polled_to, poll_up_to
 
 use crate::{Image, ladder, limits};
 use logbuffer::{cast, term_reader};
-use model::{FramesRead, Polled, ReadVerdict, Reading, TermRead};
+use model::{Error, FramesRead, Polled, ReadVerdict, Reading, TermRead};
 
 // Where a poll leaves the image's position, and its answer.
 #[derive(Clone, Copy)]
 pub struct PolledTo {
     pub position: i64,
-    pub answer: Polled,
+    pub answer: Result<Polled, Error>,
 }
 
 // The walk from a position of a sound log up to an offset of its term.
@@ -29,8 +28,8 @@ pub(crate) fn frames_at(
     actions: &[u8],
 ) -> FramesRead
     requires { (sound v (length log.now) ≡ true) × ((p % 32 ≡ 0) × ((end ≤ v.term) × ((good_entries (length entries.old) limit ≡ true) × (good_handler actions.now limit ≡ true)))) }
-    ensures value { result ≡ frames_by (walk_at v log.now p end limit actions.now) (cond (unsound_at v log.now p end limit) (Refuse (unsound_frame_of v log.now p)) Pass) }
-    ensures entries_after { entries.new ≡ entries_by entries.old (walk_at v log.now p end limit actions.now) (cond (unsound_at v log.now p end limit) (Refuse (unsound_frame_of v log.now p)) Pass) }
+    ensures value { result ≡ frames_by (walk_at v log.now p end limit actions.now) (cond (unsound_at v log.now p end limit) (Err (unsound_frame_of v log.now p)) (Ok tt)) }
+    ensures entries_after { entries.new ≡ entries_by entries.old (walk_at v log.now p end limit actions.now) (cond (unsound_at v log.now p end limit) (Err (unsound_frame_of v log.now p)) (Ok tt)) }
 {
     let term = v.term;
     term_reader::read_frames(
@@ -53,10 +52,10 @@ fn frames_on(
     k: usize,
     p: usize,
     limit: usize,
-) -> TermRead
+) -> Result<TermRead, Error>
     requires { (sound v (length log.now) ≡ true) × ((p % 32 ≡ 0) × ((good_entries (length entries.old) limit ≡ true) × (k ≡ partition_of p v.term))) }
-    ensures value { result ≡ read_from (p % v.term) (frames_by (walk_at v log.now p v.term limit []) (cond (unsound_at v log.now p v.term limit) (Refuse (unsound_frame_of v log.now p)) Pass)) }
-    ensures entries_after { entries.new ≡ entries_by entries.old (walk_at v log.now p v.term limit []) (cond (unsound_at v log.now p v.term limit) (Refuse (unsound_frame_of v log.now p)) Pass) }
+    ensures value { result ≡ read_from (p % v.term) (frames_by (walk_at v log.now p v.term limit []) (cond (unsound_at v log.now p v.term limit) (Err (unsound_frame_of v log.now p)) (Ok tt))) }
+    ensures entries_after { entries.new ≡ entries_by entries.old (walk_at v log.now p v.term limit []) (cond (unsound_at v log.now p v.term limit) (Err (unsound_frame_of v log.now p)) (Ok tt)) }
 {
     term_reader::read_on(v, log, k, limits::offset_of(v.term, p), limit, entries)
 }
@@ -76,26 +75,31 @@ pub(crate) fn poll_term(
     ensures entries_after { entries.new ≡ (poll_to_term v log.now (state_of image) entries.old good limit).slots }
 {
     match ladder::readable(good, v, log.len(), image) {
-        ReadVerdict::Refuse(e) => PolledTo {
+        Err(e) => PolledTo {
             position: image.position,
-            answer: Polled::Refused(e),
+            answer: Err(e),
         },
-        ReadVerdict::Closed => PolledTo {
+        Ok(ReadVerdict::Closed) => PolledTo {
             position: image.position,
-            answer: Polled::Fragments(0, 0),
+            answer: Ok(Polled {
+                fragments: 0,
+                entries: 0,
+            }),
         },
-        ReadVerdict::Read => {
+        Ok(ReadVerdict::Read) => {
             let p = cast::long(image.position);
-            let read = frames_on(v, log, entries, k, p, limit);
-            let TermRead::Outcome(end, fragments) = read else {
-                return PolledTo {
+            match frames_on(v, log, entries, k, p, limit) {
+                Ok(read) => PolledTo {
+                    position: (p - limits::offset_of(v.term, p) + read.offset) as i64,
+                    answer: Ok(Polled {
+                        fragments: read.fragments,
+                        entries: read.fragments,
+                    }),
+                },
+                Err(e) => PolledTo {
                     position: image.position,
-                    answer: Polled::Refused(term_reader::read_refusal(read)),
-                };
-            };
-            PolledTo {
-                position: (p - limits::offset_of(v.term, p) + end) as i64,
-                answer: Polled::Fragments(fragments, fragments),
+                    answer: Err(e),
+                },
             }
         }
     }
@@ -117,27 +121,33 @@ pub(crate) fn poll_frames(
     ensures entries_after { entries.new ≡ (poll_up_to v log.now (state_of image) entries.old good bound limit actions.now).slots }
 {
     match ladder::readable(good, v, log.len(), image) {
-        ReadVerdict::Refuse(e) => PolledTo {
+        Err(e) => PolledTo {
             position: image.position,
-            answer: Polled::Refused(e),
+            answer: Err(e),
         },
-        ReadVerdict::Closed => PolledTo {
+        Ok(ReadVerdict::Closed) => PolledTo {
             position: image.position,
-            answer: Polled::Fragments(0, 0),
+            answer: Ok(Polled {
+                fragments: 0,
+                entries: 0,
+            }),
         },
-        ReadVerdict::Read => {
+        Ok(ReadVerdict::Read) => {
             let p = cast::long(image.position);
             let end = limits::end_offset(v.term, p, bound);
             let frames = frames_at(v, log, entries, p, end, limit, actions);
             let FramesRead::Walked(walked) = frames else {
                 return PolledTo {
                     position: image.position,
-                    answer: Polled::Refused(term_reader::refusal(frames)),
+                    answer: Err(term_reader::refusal(frames)),
                 };
             };
             PolledTo {
                 position: (p + walked.moved) as i64,
-                answer: Polled::Fragments(walked.fragments, walked.entries),
+                answer: Ok(Polled {
+                    fragments: walked.fragments,
+                    entries: walked.entries,
+                }),
             }
         }
     }

@@ -1,5 +1,5 @@
 // What is asked of a call on an image before it reads: its arguments, the record, whether the image is closed, its position.
-ghost use Rattle.std.specs.Prelude.{◌≡◌, ◌&&◌, ◌*◌, ◌≤◌};
+ghost use Rattle.std.specs.Prelude.{◌≡◌, ◌&&◌, ◌*◌, ◌≤◌, Ok};
 ghost use Rattle.model.specs.declared.ReadVerdict.TheVariants.{Read};
 ghost use Rattle.model.specs.TermReader.{good_entries, good_control};
 ghost use Rattle.model.specs.Bytes.{long};
@@ -32,53 +32,58 @@ pub(crate) fn good_control(slots: usize, limit: usize, actions: &[u8]) -> bool
 }
 
 // In order: 1, 2, closed, 3.
-pub(crate) fn readable(good: bool, v: Reading, n: usize, image: Image) -> ReadVerdict
-    ensures { result ≡ readable_of good v n (state_of image) Read }
+pub(crate) fn readable(good: bool, v: Reading, n: usize, image: Image) -> Result<ReadVerdict, Error>
+    ensures { result ≡ readable_of good v n (state_of image) (Ok Read) }
 {
     if !good {
-        return ReadVerdict::Refuse(Error::IllegalArgument);
+        return Err(Error::IllegalArgument);
     }
     if !log_buffer_descriptor::is_sound(v, n) {
-        return ReadVerdict::Refuse(Error::IllegalRecord);
+        return Err(Error::IllegalRecord);
     }
     if image.is_closed {
-        return ReadVerdict::Closed;
+        return Ok(ReadVerdict::Closed);
     }
     let p = cast::long(image.position);
     if p > v.term * 2147483648 {
-        return ReadVerdict::Refuse(Error::PositionOutOfRange);
+        return Err(Error::PositionOutOfRange);
     }
     if p % FRAME_ALIGNMENT != 0 {
-        return ReadVerdict::Refuse(Error::PositionOutOfRange);
+        return Err(Error::PositionOutOfRange);
     }
-    ReadVerdict::Read
+    Ok(ReadVerdict::Read)
 }
 
 // 15, 16: from the current position to the end of its term, on a frame's boundary.
-fn reachable(v: Reading, current: usize, new: usize) -> ReadVerdict
+fn reachable(v: Reading, current: usize, new: usize) -> Result<ReadVerdict, Error>
     requires { TermLength v.term × (current ≤ v.term * 2147483648) }
-    ensures { result ≡ reachable_of v current new Read }
+    ensures { result ≡ reachable_of v current new (Ok Read) }
 {
     let term = v.term;
     if new < current {
-        return ReadVerdict::Refuse(Error::NewPositionOutOfRange);
+        return Err(Error::NewPositionOutOfRange);
     }
     if new > current - limits::offset_of(term, current) + term {
-        return ReadVerdict::Refuse(Error::NewPositionOutOfRange);
+        return Err(Error::NewPositionOutOfRange);
     }
     if new % FRAME_ALIGNMENT != 0 {
-        return ReadVerdict::Refuse(Error::NewPositionNotAligned);
+        return Err(Error::NewPositionNotAligned);
     }
-    ReadVerdict::Read
+    Ok(ReadVerdict::Read)
 }
 
 // In order: 1, 2, closed, 3, 15, 16.
-pub(crate) fn reach(good: bool, v: Reading, n: usize, image: Image, new: usize) -> ReadVerdict
-    ensures { result ≡ readable_of good v n (state_of image) (reachable_of v (long image.position) new Read) }
+pub(crate) fn reach(
+    good: bool,
+    v: Reading,
+    n: usize,
+    image: Image,
+    new: usize,
+) -> Result<ReadVerdict, Error>
+    ensures { result ≡ readable_of good v n (state_of image) (reachable_of v (long image.position) new (Ok Read)) }
 {
-    match readable(good, v, n, image) {
-        ReadVerdict::Refuse(e) => ReadVerdict::Refuse(e),
-        ReadVerdict::Closed => ReadVerdict::Closed,
+    match readable(good, v, n, image)? {
+        ReadVerdict::Closed => Ok(ReadVerdict::Closed),
         ReadVerdict::Read => reachable(v, cast::long(image.position), new),
     }
 }

@@ -8,9 +8,7 @@ ghost use Rattle.model.specs.Replay.{poll_one};
 ghost use Rattle.image.specs.Images.{state_of, image_of, shifted_in, poll_by, poll_reply_of, peek_reply_of, block_reply_of, image_reply_of};
 
 use logbuffer::{argument, cast, log_buffer_descriptor};
-use model::{
-    BlockPolled, EndOfStream, Error, LogRecord, Outcome, Peeked, Polled, ReadVerdict, Reading,
-};
+use model::{Block, Error, LogRecord, Peeked, Polled, ReadVerdict, Reading};
 
 mod block;
 mod frames;
@@ -31,7 +29,7 @@ pub struct Image {
 #[derive(Clone, Copy)]
 pub struct PollReply {
     pub next: Image,
-    pub answer: Polled,
+    pub answer: Result<Polled, Error>,
 }
 
 // A poll by the record's numbers, and the partition of the position that it read from.
@@ -51,19 +49,19 @@ pub struct One {
 #[derive(Clone, Copy)]
 pub struct PeekReply {
     pub next: Image,
-    pub answer: Peeked,
+    pub answer: Result<Peeked, Error>,
 }
 
 #[derive(Clone, Copy)]
 pub struct BlockReply {
     pub next: Image,
-    pub answer: BlockPolled,
+    pub answer: Result<Block, Error>,
 }
 
 #[derive(Clone, Copy)]
 pub struct ImageReply {
     pub next: Image,
-    pub answer: Outcome,
+    pub answer: Result<(), Error>,
 }
 
 impl Image {
@@ -243,15 +241,20 @@ impl Image {
         let v = log_buffer_descriptor::read_active(rec);
         let most = argument::natural(limit);
         match ladder::readable(true, v, log.len(), self) {
-            ReadVerdict::Refuse(e) => BlockReply {
+            Err(e) => BlockReply {
                 next: self,
-                answer: BlockPolled::Refused(e),
+                answer: Err(e),
             },
-            ReadVerdict::Closed => BlockReply {
+            Ok(ReadVerdict::Closed) => BlockReply {
                 next: self,
-                answer: BlockPolled::Block(0, 0, 0, 0),
+                answer: Ok(Block {
+                    offset: 0,
+                    length: 0,
+                    session_id: 0,
+                    term_id: 0,
+                }),
             },
-            ReadVerdict::Read => {
+            Ok(ReadVerdict::Read) => {
                 let to = block::block_at(self, rec, v, log, most);
                 let position = to.position;
                 let answer = to.answer;
@@ -270,33 +273,32 @@ impl Image {
     {
         let v = log_buffer_descriptor::read_active(rec);
         match ladder::reach(true, v, log.len(), self, cast::long(new_position)) {
-            ReadVerdict::Refuse(e) => ImageReply {
+            Err(e) => ImageReply {
                 next: self,
-                answer: Outcome::Refused(e),
+                answer: Err(e),
             },
-            ReadVerdict::Closed => ImageReply {
+            Ok(ReadVerdict::Closed) => ImageReply {
                 next: self,
-                answer: Outcome::Done,
+                answer: Ok(()),
             },
-            ReadVerdict::Read => {
+            Ok(ReadVerdict::Read) => {
                 self.position = new_position;
                 ImageReply {
                     next: self,
-                    answer: Outcome::Done,
+                    answer: Ok(()),
                 }
             }
         }
     }
 
     // Whether the position is at or past the end of the stream; of a closed image, whether it was at closing.
-    pub fn is_end_of_stream(self, rec: LogRecord, log: &[u8]) -> EndOfStream
+    pub fn is_end_of_stream(self, rec: LogRecord, log: &[u8]) -> Result<bool, Error>
         ensures { result ≡ end_of_stream_of rec log.now (state_of self) }
     {
         let v = log_buffer_descriptor::read_active(rec);
-        match ladder::readable(true, v, log.len(), self) {
-            ReadVerdict::Refuse(e) => EndOfStream::Refused(e),
-            ReadVerdict::Closed => EndOfStream::Is(self.is_eos),
-            ReadVerdict::Read => EndOfStream::Is(rec.end_of_stream_position <= self.position),
+        match ladder::readable(true, v, log.len(), self)? {
+            ReadVerdict::Closed => Ok(self.is_eos),
+            ReadVerdict::Read => Ok(rec.end_of_stream_position <= self.position),
         }
     }
 
@@ -308,20 +310,20 @@ impl Image {
         if !log_buffer_descriptor::is_sound(v, log.len()) {
             return ImageReply {
                 next: self,
-                answer: Outcome::Refused(Error::IllegalRecord),
+                answer: Err(Error::IllegalRecord),
             };
         }
         if self.is_closed {
             return ImageReply {
                 next: self,
-                answer: Outcome::Done,
+                answer: Ok(()),
             };
         }
         self.is_eos = rec.end_of_stream_position <= self.position;
         self.is_closed = true;
         ImageReply {
             next: self,
-            answer: Outcome::Done,
+            answer: Ok(()),
         }
     }
 }

@@ -5,7 +5,7 @@ ghost use Rattle.image.specs.Images.{state_of};
 
 use crate::{Image, frames, ladder, limits};
 use logbuffer::{cast, log_buffer_descriptor, term_reader};
-use model::{FramesRead, LogRecord, Peeked, ReadVerdict};
+use model::{Error, FramesRead, LogRecord, Peeked, ReadVerdict};
 
 // One fragment for each action, from another position up to a limit position.
 pub(crate) fn peek_frames(
@@ -16,7 +16,7 @@ pub(crate) fn peek_frames(
     actions: &[u8],
     start: i64,
     limit_position: i64,
-) -> Peeked
+) -> Result<Peeked, Error>
     ensures value { result ≡ peek_of rec log.now (state_of image) entries.old actions.now start limit_position }
     ensures entries_after { entries.new ≡ peek_slots rec log.now (state_of image) entries.old actions.now start limit_position }
 {
@@ -24,16 +24,21 @@ pub(crate) fn peek_frames(
     let p = cast::long(start);
     let n = actions.len();
     let good = ladder::good_control(entries.len(), n, actions);
-    match ladder::reach(good, v, log.len(), image, p) {
-        ReadVerdict::Refuse(e) => Peeked::Refused(e),
-        ReadVerdict::Closed => Peeked::Position(start, 0),
+    match ladder::reach(good, v, log.len(), image, p)? {
+        ReadVerdict::Closed => Ok(Peeked {
+            position: start,
+            entries: 0,
+        }),
         ReadVerdict::Read => {
             let end = limits::end_offset(v.term, p, limits::natural_position(limit_position));
             let read = frames::frames_at(v, log, entries, p, end, n, actions);
             let FramesRead::Walked(walked) = read else {
-                return Peeked::Refused(term_reader::refusal(read));
+                return Err(term_reader::refusal(read));
             };
-            Peeked::Position((p + walked.settled) as i64, walked.entries)
+            Ok(Peeked {
+                position: (p + walked.settled) as i64,
+                entries: walked.entries,
+            })
         }
     }
 }

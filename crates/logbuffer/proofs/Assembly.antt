@@ -1,12 +1,11 @@
 -- The rows of the assembler's entry point, and what a frame that passes them is.
+use Rattle.std.specs.Prelude.{Result, Ok, Err, ⊤}
 use Rattle.std.proofs.Common.{◌≡◌, ℕ, ◌+◌, ◌-◌, ◌*◌, ◌/◌, ◌%◌, ◌<◌, ◌≤◌, Bool, true, false, ◌&&◌, ◌||◌, eqb, ltb, leb, List, [], ◌∷◌, length, get_or, take, drop, ℤ, sym, ap, ◌∙◌, ap₂, mul-le-mul_right, arith, get_or-drop, drop-drop, ltb-false, eq-eqb, le-leb, leb-false, leb-true}
 use borrow.Author.Tests.{lt-leb}
 use Rattle.model.specs.declared.LogRecord.{LogRecord}
 use Rattle.model.specs.declared.Reading.{Reading}
 use Rattle.model.specs.declared.Place.{Place}
 use Rattle.model.specs.declared.Error.{Error}
-use Rattle.model.specs.declared.Verdict.{Verdict}
-use Rattle.model.specs.declared.Verdict.TheVariants.{Pass, Refuse}
 use Rattle.model.specs.declared.FrameLength.{FrameLength}
 use Rattle.model.specs.declared.FrameLength.TheVariants.{Finished}
 use Rattle.model.specs.declared.Joining.{Joining}
@@ -28,13 +27,12 @@ use Rattle.model.proofs.Rows.{rows-refuse, rows_pass, rows_then, rows-passed}
 use Rattle.logbuffer.specs.Assembler.{held_at, leaving, Framed, is_framed, Enters, join_of}
 use Rattle.logbuffer.specs.declared.fragment_assembler.Joined.{Joined}
 use Rattle.model.specs.declared.Error.TheVariants.{IllegalArgument}
-use Rattle.model.specs.declared.Assembled.TheVariants.{Refused as NotJoined}
 use Rattle.logbuffer.proofs.Sessions.{Begun, More}
 
 both : {a b x : Bool} → a ≡ true → b ≡ x → (a && b) ≡ x
 both e f = ap₂ ◌&&◌ e f
 
-no-pass : {e : Error} → Pass ≡ Refuse e → ⊥
+no-pass : {e : Error} → ◌≡◌ {A = Result ⊤ Error} (Ok tt) (Err e) → ⊥
 no-pass h = let x : ◌≡◌ {A = ℕ} 0 1 = cc in omega arith
 
 -- ---- a whole frame, as the core asks for it
@@ -109,17 +107,17 @@ module _ (v : Reading) (log : List ℕ) (lent k at : ℕ) where
 
   -- ---- rows 1, 2, 22 and 23
 
-  abbrev rows : Verdict
-  rows = first_rows (good_assembly v log lent k at) (sound v (length log)) Pass
+  abbrev rows : Result ⊤ Error
+  rows = first_rows (good_assembly v log lent k at) (sound v (length log)) (Ok tt)
 
-  abbrev row_of_frame : Verdict
+  abbrev row_of_frame : Result ⊤ Error
   row_of_frame = frame_row (unsound_length (u32 (drop (k * v.term + at) log)) (v.term - at)) (unsound_frame_at log (k * v.term) at)
 
-  pub verdict-refused : {e : Error} → rows ≡ Refuse e → Refuse e ≡ assemble_verdict v log lent k at
+  pub verdict-refused : {e : Error} → rows ≡ Err e → Err e ≡ assemble_verdict v log lent k at
   unfolding assemble_verdict
   verdict-refused h = rows-refuse (good_assembly v log lent k at) (sound v (length log)) row_of_frame h
 
-  pub verdict-goes : rows ≡ Pass → row_of_frame ≡ assemble_verdict v log lent k at
+  pub verdict-goes : rows ≡ Ok tt → row_of_frame ≡ assemble_verdict v log lent k at
   unfolding assemble_verdict
   verdict-goes h = rows_then (good_assembly v log lent k at) (sound v (length log)) row_of_frame h
 
@@ -134,7 +132,7 @@ module _ (v : Reading) (log : List ℕ) (lent k at : ℕ) where
       let m : align w ≤ v.term - at = ltb-false (v.term - at) (align w) q.1 in
       record { finished = (assembly-at g).1; header = l; whole = omega (arith, p.inside, p.below) }
 
-  pub verdict-passed : assemble_verdict v log lent k at ≡ Pass → Framed log (k * v.term + at)
+  pub verdict-passed : assemble_verdict v log lent k at ≡ Ok tt → Framed log (k * v.term + at)
   unfolding assemble_verdict
   verdict-passed e =
       let q = rows-passed (good_assembly v log lent k at) (sound v (length log)) row_of_frame e in
@@ -210,7 +208,7 @@ module _ (s : Sessions) (buffer log : List ℕ) (i at : ℕ) where
   Joins = is_framed log i && (leb at 4294967295 && eqb (length s.ids) 16)
 
   abbrev pub NoJoin : Assembly
-  NoJoin = record { answer = NotJoined IllegalArgument; next = s; buffer = buffer }
+  NoJoin = record { answer = Err IllegalArgument; next = s; buffer = buffer }
 
   pub join-no : Joins ≡ false → NoJoin ≡ join_of s buffer log i at
   unfolding join_of
@@ -221,7 +219,7 @@ module _ (s : Sessions) (buffer log : List ℕ) (i at : ℕ) where
   join-yes f h e = sym (cond-true Joins (joined_at s buffer (drop i log) at) NoJoin (both_true (framed-so log i f) (both_true (le-leb _ _ h) (eq-eqb _ _ e))))
 
   -- where the core refuses, its caller enters nothing
-  pub not-joined : (j : Joined) (z : ℤ) → Joins ≡ false → j ≡ leaving 16 z 0 (NotJoined IllegalArgument) → Enters s j (join_of s buffer log i at)
+  pub not-joined : (j : Joined) (z : ℤ) → Joins ≡ false → j ≡ leaving 16 z 0 (Err IllegalArgument) → Enters s j (join_of s buffer log i at)
   not-joined j z h e =
       let q = join-no h in
       record {
@@ -235,7 +233,7 @@ module _ (s : Sessions) (buffer log : List ℕ) (i at : ℕ) where
 
 -- ---- the whole call, at the place that its code reads
 
-pub assembles : (r : LogRecord) (log : List ℕ) (s : Sessions) (buffer : List ℕ) (partition offset : ℤ) (p : Place) (x : Verdict)
+pub assembles : (r : LogRecord) (log : List ℕ) (s : Sessions) (buffer : List ℕ) (partition offset : ℤ) (p : Place) (x : Result ⊤ Error)
     → p ≡ place_read r partition offset → x ≡ assemble_verdict p.read log (length buffer) p.partition p.offset
     → assemble_by s buffer (drop (p.partition * p.read.term + p.offset) log) p.offset x ≡ assemble_of r log s buffer partition offset
 unfolding assemble_of

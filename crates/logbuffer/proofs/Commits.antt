@@ -1,9 +1,9 @@
 -- A record that is sound with the bits of all tails and of a claim's offset is sound with its own tail, and the claim is good; so the commit of `model` is done.
+use Rattle.std.specs.Prelude.{Ok}
 use Rattle.std.proofs.Common.{◌≡◌, ℕ, zero, suc, ◌+◌, ◌%◌, ◌≤◌, Bool, true, false, ◌&&◌, leb, List, length, sym, ap, ◌∙◌, arith, eq-eqb, le-leb, leb-true}
 use lib.Bits.{bit_or, or_mod}
 use Rattle.model.specs.declared.Claim.{Claim}
 use Rattle.model.specs.declared.LogRecord.{LogRecord}
-use Rattle.model.specs.declared.Outcome.TheVariants.{Done}
 use Rattle.model.specs.Bytes.{word, long, splice, le4}
 use Rattle.model.specs.FrameDescriptor.{align}
 use Rattle.model.specs.LogBufferDescriptor.{tail_of, offset_of, active, reading, reading_of, sound, Sound}
@@ -95,7 +95,7 @@ module _ (r : LogRecord) (log : List ℕ) (c : Claim) where
   no-fit h = not-fit (ap (λ (b : Bool). b && matches log (claim_start (read_all r c) c) c) (sym h))
 
   -- the call of `model`
-  pub commit-fits : commit_fits r log c ≡ true → (Done ≡ commit_of r log c) × (splice log (claim_start (read_all r c) c) (le4 (word c.length)) ≡ commit_bytes r log c)
+  pub commit-fits : commit_fits r log c ≡ true → (Ok tt ≡ commit_of r log c) × (splice log (claim_start (read_all r c) c) (le4 (word c.length)) ≡ commit_bytes r log c)
   unfolding commit_of commit_bytes claim_check reading_of
   commit-fits h =
       let p = and-true (claim_fits r (length log) c) _ h in

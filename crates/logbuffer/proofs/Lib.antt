@@ -24,3 +24,4 @@ pub mod Ways
 pub mod ReadOn
 pub mod Whole
 pub mod Fragments
+pub mod Passing

@@ -1,9 +1,8 @@
 -- A read of a partition by the record's numbers: what its row 1 says, and the verdict by it.
+use Rattle.std.specs.Prelude.{Ok, Err}
 use Rattle.std.proofs.Common.{◌≡◌, ℕ, ◌+◌, ◌*◌, ◌/◌, ◌%◌, ◌≤◌, true, false, cond, eqb, leb, List, length, ℤ, eqb-true, leb-true}
 use Rattle.model.specs.declared.Reading.{Reading}
 use Rattle.model.specs.declared.Error.TheVariants.{IllegalArgument}
-use Rattle.model.specs.declared.Verdict.TheVariants.{Pass, Refuse}
-use Rattle.model.specs.declared.TermRead.TheVariants.{Refused}
 use Rattle.model.specs.FrameDescriptor.{unsound_frame_at}
 use Rattle.model.specs.LogBufferDescriptor.{sound, Sound, good_partition}
 use Rattle.model.specs.TermReader.{first_unsound, read_walk, read_from, frames_by, entries_by}
@@ -30,12 +29,12 @@ good-read-on v n k at limit slots h =
 
 module _ (v : Reading) (log : List ℕ) (k at limit : ℕ) (slots : List ℤ) where
   pub on-refused : good_read_on v (length log) k at limit (length slots) ≡ false
-      → (Refused IllegalArgument ≡ read_from at (frames_by (read_walk v log k at limit) (read_on_verdict v log k at limit (length slots))))
+      → (Err IllegalArgument ≡ read_from at (frames_by (read_walk v log k at limit) (read_on_verdict v log k at limit (length slots))))
       × (slots ≡ entries_by slots (read_walk v log k at limit) (read_on_verdict v log k at limit (length slots)))
   unfolding read_on_verdict
   on-refused h = (rw h, rw h)
 
   pub on-walked : good_read_on v (length log) k at limit (length slots) ≡ true
-      → cond (first_unsound log (k * v.term) v.term v.term at limit) (Refuse (unsound_frame_at log (k * v.term) at)) Pass ≡ read_on_verdict v log k at limit (length slots)
+      → cond (first_unsound log (k * v.term) v.term v.term at limit) (Err (unsound_frame_at log (k * v.term) at)) (Ok tt) ≡ read_on_verdict v log k at limit (length slots)
   unfolding read_on_verdict
   on-walked h = rw h

@@ -1,5 +1,5 @@
 -- The assembler's bookkeeping: looking for a session's place, and a part of the lent buffer lies in it.
-use Rattle.std.proofs.Common.{◌≡◌, ℕ, suc, ◌+◌, ◌-◌, ◌*◌, ◌/◌, ◌<◌, ◌≤◌, min, Bool, true, false, cond, ◌&&◌, ◌||◌, eqb, ltb, leb, List, ◌∷◌, length, get_or, take, drop, set, ℤ, pos, sym, ap, ◌∙◌, ap₂, mul-le-mul_right, add-one, arith, drop-cons, le-ltb, lt-ltb, eq-eqb, ne_eqb, le-leb}
+use Rattle.std.proofs.Common.{◌≡◌, ℕ, suc, ◌+◌, ◌-◌, ◌*◌, ◌/◌, ◌<◌, ◌≤◌, min, Bool, true, false, cond, ◌&&◌, ◌||◌, eqb, ltb, leb, List, ◌∷◌, length, get_or, take, drop, set, ℤ, pos, sym, ap, ◌∙◌, ap₂, mul-le-mul_right, add-one, arith, drop-cons, drop_of_length-le, le-ltb, lt-ltb, eq-eqb, ne_eqb, le-leb}
 use borrow.Author.Tests.{lt-leb}
 use Rattle.model.specs.Bytes.{word}
 use Rattle.model.specs.FrameDescriptor.{begins, ends}
@@ -16,36 +16,25 @@ part_in k part n e h =
     let l : (k + 1) * part ≤ 16 * part = mul-le-mul_right part (omega arith) in
     omega arith
 
--- what is left to look at from i on
-abbrev pub Left : List ℤ → ℕ → ℤ → ℕ → Type 0
-Left ids n z i = place_in (take n ids) z ≡ i + place_in (take (n - i) (drop i ids)) z
+-- the place among the ids, where none before i is the session's
+abbrev pub Left : List ℤ → ℤ → ℕ → Type 0
+Left ids z i = place_in ids z ≡ i + place_in (drop i ids) z
 
-pub left-all : (ids : List ℤ) (n : ℕ) (z : ℤ) → Left ids n z 0
-left-all ids n z = let e : n ≡ n - 0 = omega arith in ap (λ (m : ℕ). place_in (take m ids) z) e ∙ omega arith
+module _ (ids : List ℤ) (z : ℤ) (i : ℕ) where
+  -- the id at i, and those after it
+  here : i < length ids → place_in (drop i ids) z ≡ cond (eqb (word (get_or ids i (pos 0))) (word z)) 0 (suc (place_in (drop (i + 1) ids) z))
+  unfolding place_in
+  here h = rw (add-one, drop-cons ids i (pos 0))
 
--- the id at i, and those after it
-here : (ids : List ℤ) (n i : ℕ) → i < n → i < length ids → take (n - i) (drop i ids) ≡ get_or ids i (pos 0) ∷ take (n - (i + 1)) (drop (i + 1) ids)
-here ids n i h l =
-    let e : n - i ≡ suc (n - (i + 1)) = omega arith in
-    ap₂ take e (drop-cons ids i (pos 0) l) ∙ ap (λ (m : ℕ). get_or ids i (pos 0) ∷ take (n - (i + 1)) (drop m ids)) (sym (add-one i))
+  pub left_here : i < length ids → word (get_or ids i (pos 0)) ≡ word z → Left ids z i → place_in ids z ≡ i
+  left_here h e r = r ∙ ap (λ (k : ℕ). i + k) (here h ∙ ap (λ (b : Bool). cond b 0 (suc (place_in (drop (i + 1) ids) z))) (eq-eqb (word (get_or ids i (pos 0))) (word z) e)) ∙ omega arith
 
-pub left_here : (ids : List ℤ) (n : ℕ) (z : ℤ) (i : ℕ) → i < n → i < length ids → word (get_or ids i (pos 0)) ≡ word z → Left ids n z i → place_in (take n ids) z ≡ i
-unfolding place_in
-left_here ids n z i h l e r =
-    r ∙ ap (λ (s : List ℤ). i + place_in s z) (here ids n i h l)
-    ∙ ap (λ (b : Bool). i + cond b 0 (suc (place_in (take (n - (i + 1)) (drop (i + 1) ids)) z))) (eq-eqb (word (get_or ids i (pos 0))) (word z) e) ∙ omega arith
+  pub left-on : i < length ids → ¬ (word (get_or ids i (pos 0)) ≡ word z) → Left ids z i → Left ids z (i + 1)
+  left-on h e r = r ∙ ap (λ (k : ℕ). i + k) (here h ∙ ap (λ (b : Bool). cond b 0 (suc (place_in (drop (i + 1) ids) z))) (ne_eqb (word (get_or ids i (pos 0))) (word z) e)) ∙ omega arith
 
-pub left-on : (ids : List ℤ) (n : ℕ) (z : ℤ) (i : ℕ) → i < n → i < length ids → ¬ (word (get_or ids i (pos 0)) ≡ word z) → Left ids n z i → Left ids n z (i + 1)
-unfolding place_in
-left-on ids n z i h l e r =
-    r ∙ ap (λ (s : List ℤ). i + place_in s z) (here ids n i h l)
-    ∙ ap (λ (b : Bool). i + cond b 0 (suc (place_in (take (n - (i + 1)) (drop (i + 1) ids)) z))) (ne_eqb (word (get_or ids i (pos 0))) (word z) e) ∙ omega arith
-
-pub left-none : (ids : List ℤ) (n : ℕ) (z : ℤ) (i : ℕ) → n ≤ i → Left ids n z i → place_in (take n ids) z ≡ i
-unfolding place_in
-left-none ids n z i h r =
-    let e : n - i ≡ 0 = omega arith in
-    r ∙ ap (λ (m : ℕ). i + place_in (take m (drop i ids)) z) e ∙ omega arith
+  pub left-none : length ids ≤ i → Left ids z i → place_in ids z ≡ i
+  unfolding place_in
+  left-none h r = r ∙ ap (λ (x : List ℤ). i + place_in x z) (drop_of_length-le ids h) ∙ omega arith
 
 -- ---- a session entered at a place
 

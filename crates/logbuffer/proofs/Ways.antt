@@ -131,16 +131,7 @@ fits-true v n k m h =
     let g = claiming-true v k m a.0 in
     record { part = g.0; id-in = g.1.0; whole = g.1.1; term-high = r.term-high; room = r.room; inside = omega (arith, base-in k v.term g.0, r.three) }
 
--- whether all frames fit, by whether their sum has room
-module _ (v : Reading) (n k p m : ℕ) where
-  pub frames-no : good_append v k p m ≡ false → frames_fit v n k p m ≡ false
-  unfolding frames_fit
-  frames-no h = ap (λ (t : Bool). t && has_room v n (need p m)) h
-
-  pub frames-by : good_append v k p m ≡ true → (needed : ℕ) (b : Bool) → needed ≡ need p m → b ≡ has_room v n needed → frames_fit v n k p m ≡ b
-  unfolding frames_fit
-  frames-by h needed b e r = ap₂ (λ (t : Bool) (d : ℕ). t && has_room v n d) h (sym e) ∙ sym r
-
+-- all of a message's frames
 pub frames-true : (v : Reading) (n k p m : ℕ) → frames_fit v n k p m ≡ true → Goods v k p m × HasRoom v n (need p m)
 unfolding frames_fit
 frames-true v n k p m h =

@@ -1,10 +1,10 @@
 -- The assembler's bookkeeping as the definitions have it, and its core over lent arrays: what a frame at an index of the log leads to.
-use Rattle.std.specs.Prelude.{◌≡◌, ℕ, ◌+◌, ◌≤◌, min, Bool, true, cond, ◌&&◌, List, length, drop, ℤ, ◌==◌, nat_le, nat_lt}
+use Rattle.std.specs.Prelude.{◌≡◌, ℕ, ◌+◌, ◌≤◌, min, Bool, true, cond, ◌&&◌, List, length, drop, ℤ, ◌==◌, nat_le, nat_lt, Result, Err}
+use Rattle.model.specs.declared.Error.{Error}
 use Rattle.model.specs.Bytes.{u32}
 use Rattle.model.specs.FrameDescriptor.{is_finished, length_at}
 use Rattle.model.specs.FragmentAssembler.{Sessions, Assembly, holding, joined_at}
 use Rattle.model.specs.declared.Assembled.{Assembled}
-use Rattle.model.specs.declared.Assembled.TheVariants.{Refused}
 use Rattle.model.specs.declared.Error.TheVariants.{IllegalArgument}
 use Rattle.logbuffer.specs.declared.fragment_assembler.FragmentAssembler.{FragmentAssembler}
 use Rattle.logbuffer.specs.declared.fragment_assembler.Joined.{Joined}
@@ -23,7 +23,7 @@ entered_with count k = cond (nat_lt k (min count 16)) (min count 16) (cond (nat_
 abbrev pub held_at : Sessions → ℕ → ℤ → ℕ → Sessions
 held_at s k session n = cond (nat_lt k 16) (holding s k session n) s
 
-abbrev pub leaving : ℕ → ℤ → ℕ → Assembled → Joined
+abbrev pub leaving : ℕ → ℤ → ℕ → Result Assembled Error → Joined
 leaving k session n answer = record { place = k; session = session; held = n; answer = answer }
 
 -- a whole frame at an index of a log: it is finished, has a header, and lies in the log
@@ -45,4 +45,4 @@ pub record Enters (s : Sessions) (j : Joined) (a : Assembly) : Type 0 where
 unfoldable pub join_of : Sessions → List ℕ → List ℕ → ℕ → ℕ → Assembly
 join_of s buffer log i at =
     cond (is_framed log i && (nat_le at 4294967295 && length s.ids == 16)) (joined_at s buffer (drop i log) at)
-    (record { answer = Refused IllegalArgument; next = s; buffer = buffer })
+    (record { answer = Err IllegalArgument; next = s; buffer = buffer })

@@ -1,13 +1,10 @@
 -- For a caller who has read the record's numbers: these with a raw tail that he has, and a read of a partition to its term's end; and the refusal of such a read.
-use Rattle.std.specs.Prelude.{ℕ, ◌*◌, ◌/◌, ◌%◌, Bool, cond, ◌&&◌, List, length, ℤ, ◌==◌}
+use Rattle.std.specs.Prelude.{ℕ, ◌*◌, ◌/◌, ◌%◌, Bool, cond, ◌&&◌, List, length, ℤ, ◌==◌, Result, Ok, Err, ⊤}
 use Rattle.model.specs.declared.LogRecord.{LogRecord}
 use Rattle.model.specs.declared.Reading.{Reading}
 use Rattle.model.specs.declared.Error.{Error}
 use Rattle.model.specs.declared.Error.TheVariants.{IllegalArgument}
-use Rattle.model.specs.declared.Verdict.{Verdict}
-use Rattle.model.specs.declared.Verdict.TheVariants.{Refuse}
 use Rattle.model.specs.declared.TermRead.{TermRead}
-use Rattle.model.specs.declared.TermRead.TheVariants.{Outcome, Refused}
 use Rattle.model.specs.Bytes.{word, long}
 use Rattle.model.specs.FrameDescriptor.{unsound_frame_at}
 use Rattle.model.specs.LogBufferDescriptor.{id_bits, sound, good_partition, frame_row}
@@ -40,13 +37,13 @@ abbrev pub good_read_on : Reading → ℕ → ℕ → ℕ → ℕ → ℕ → Bo
 good_read_on v n k at limit slots = sound v n && (good_partition k && (at % 32 == 0 && good_entries slots limit))
 
 -- else 1; and 22 or 23, as every read has it
-unfoldable pub read_on_verdict : Reading → List ℕ → ℕ → ℕ → ℕ → ℕ → Verdict
+unfoldable pub read_on_verdict : Reading → List ℕ → ℕ → ℕ → ℕ → ℕ → Result ⊤ Error
 read_on_verdict v log k at limit slots =
     cond (good_read_on v (length log) k at limit slots)
     (frame_row (first_unsound log (k * v.term) v.term v.term at limit) (unsound_frame_at log (k * v.term) at))
-    (Refuse IllegalArgument)
+    (Err IllegalArgument)
 
 -- a read that was not refused has no refusal, and 1 stands for it
-abbrev pub read_refusal : TermRead → Error
-read_refusal (Outcome offset fragments) = IllegalArgument
-read_refusal (Refused e) = e
+abbrev pub read_refusal : Result TermRead Error → Error
+read_refusal (Ok read) = IllegalArgument
+read_refusal (Err e) = e

@@ -1,7 +1,7 @@
 -- The way of an append for a caller who has read the record's numbers: its course, the offset after it, and the raw tail that moves.
 -- `reply_with` and `claim_reply_with` say what such a caller makes of it; `reply-way` and `claim-way` (proofs/Ways.antt) are the laws that this
 -- is the appenders' reply.
-use Rattle.std.specs.Prelude.{ℕ, ◌+◌, ◌*◌, ◌%◌, Bool, cond, ◌&&◌, List, [], ◌∷◌, length, pos, ◌==◌, nat_le, nat_lt, slice_set}
+use Rattle.std.specs.Prelude.{ℕ, ◌+◌, ◌*◌, ◌%◌, Bool, cond, ◌&&◌, Option, Some, None, List, [], ◌∷◌, length, pos, ◌==◌, nat_le, nat_lt, slice_set}
 use Rattle.std.specs.Int.{w32}
 use Rattle.std.proofs.Common.{to_z}
 use Rattle.model.specs.declared.LogRecord.{LogRecord}
@@ -70,7 +70,7 @@ claim_way v log k n given = way_by v (space n) (claim_course v (length log) k n 
 abbrev pub claim_way_bytes : Reading → List ℕ → ℕ → ℕ → ℕ → List ℕ
 claim_way_bytes v log k n given = bytes_by v k log (claimed v log (k * v.term) n) (claim_course v (length log) k n given)
 
--- ---- one frame, or all of a message's, where they fit: what is answered, 0 for none, and what is left
+-- ---- one frame, or all of a message's, where they fit: the offset after them, which is answered, and what is left
 
 -- Whether so many bytes have room at the tail, in a log of n bytes that are three terms. No more is asked of the record: its other ranges are its
 -- caller's to judge.
@@ -86,15 +86,15 @@ frame_fits v n k m = good_claiming v k m && has_room v n (space m)
 unfoldable pub frames_fit : Reading → ℕ → ℕ → ℕ → ℕ → Bool
 frames_fit v n k p m = good_append v k p m && has_room v n (need p m)
 
-abbrev pub fit_end : Reading → List ℕ → ℕ → ℕ → ℕ
-fit_end v log k m = cond (frame_fits v (length log) k m) (v.offset + space m) 0
+abbrev pub fit_end : Reading → List ℕ → ℕ → ℕ → Option ℕ
+fit_end v log k m = cond (frame_fits v (length log) k m) (Some (v.offset + space m)) None
 
 abbrev pub message_fit_bytes : Reading → List ℕ → ℕ → List ℕ → ℕ → List ℕ
 message_fit_bytes v log k m reserved =
     cond (frame_fits v (length log) k (length m)) (written v log (k * v.term) v.offset (fragment 192 reserved m ∷ [])) log
 
-abbrev pub fragmented_end : Reading → List ℕ → ℕ → ℕ → ℕ → ℕ
-fragmented_end v log k p m = cond (frames_fit v (length log) k p m) (v.offset + need p m) 0
+abbrev pub fragmented_end : Reading → List ℕ → ℕ → ℕ → ℕ → Option ℕ
+fragmented_end v log k p m = cond (frames_fit v (length log) k p m) (Some (v.offset + need p m)) None
 
 abbrev pub fragmented_fit_bytes : Reading → List ℕ → ℕ → ℕ → List ℕ → ℕ → List ℕ
 fragmented_fit_bytes v log k p m reserved =

@@ -1,12 +1,11 @@
 // The place that a reader names, and what rows 1 and 2 ask of its numbers.
-ghost use Rattle.std.specs.Prelude.{◌≡◌, ◌<◌, ◌&&◌};
-ghost use Rattle.model.specs.declared.Verdict.TheVariants.{Pass};
+ghost use Rattle.std.specs.Prelude.{◌≡◌, ◌<◌, ◌&&◌, Ok};
 ghost use Rattle.model.specs.LogBufferDescriptor.{sound, within_term, good_partition, good_offset, place_of, first_rows};
 ghost use Rattle.model.specs.TermReader.{natural as natural_of, good_actions, good_control, good_start};
 
 use crate::frame_descriptor::FRAME_ALIGNMENT;
 use crate::{cast, log_buffer_descriptor};
-use model::{Error, LogRecord, Place, Reading, Verdict};
+use model::{Error, LogRecord, Place, Reading};
 
 // A limit; one below 0 is 0.
 pub fn natural(limit: i32) -> usize
@@ -69,15 +68,13 @@ pub(crate) fn good_start(p: Place) -> bool
 pub fn good_actions(actions: &[u8]) -> bool
     ensures { result ≡ good_actions actions.now }
 {
-    let mut i: usize = 0;
-    while i < actions.len() {
-        if actions[i] < 1 {
+    for &action in actions {
+        if action < 1 {
             return false;
         }
-        if actions[i] > 4 {
+        if action > 4 {
             return false;
         }
-        i += 1;
     }
     true
 }
@@ -96,14 +93,14 @@ pub fn good_control(actions: &[u8], limit: usize) -> bool
 }
 
 // Rows 1 and 2: whether the arguments are good, and whether the record is sound for a log of n bytes.
-pub(crate) fn first_rows(good: bool, v: Reading, n: usize) -> Verdict
-    ensures { result ≡ first_rows good (sound v n) Pass }
+pub(crate) fn first_rows(good: bool, v: Reading, n: usize) -> Result<(), Error>
+    ensures { result ≡ first_rows good (sound v n) (Ok tt) }
 {
     if !good {
-        return Verdict::Refuse(Error::IllegalArgument);
+        return Err(Error::IllegalArgument);
     }
     if !log_buffer_descriptor::is_sound(v, n) {
-        return Verdict::Refuse(Error::IllegalRecord);
+        return Err(Error::IllegalRecord);
     }
-    Verdict::Pass
+    Ok(())
 }

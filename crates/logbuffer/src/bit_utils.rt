@@ -22,5 +22,5 @@ pub fn is_power_of_two(value: u32) -> bool
 pub(crate) fn at_most(maximum: usize, left: usize) -> usize
     ensures { result ≡ min maximum left }
 {
-    if maximum < left { maximum } else { left }
+    maximum.min(left)
 }

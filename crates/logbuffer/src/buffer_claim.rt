@@ -9,7 +9,7 @@ ghost use Rattle.logbuffer.specs.Commits.{read_all, commit_fits, commit_fit_byte
 use crate::data_frame_header::{HEADER_LENGTH, TERM_ID_FIELD_OFFSET};
 use crate::frame_descriptor::{ALIGNMENT_MASK, FRAME_ALIGNMENT};
 use crate::{bit_utils, cast, copying, errors, field, log_buffer_descriptor};
-use model::{Claim, Error, Located, LogRecord, Outcome, Reading};
+use model::{Claim, Error, LogRecord, Reading, Span};
 
 // A partition, an offset that is a multiple of 32, a length of at least 32, an aligned end inside the term.
 fn good_claim(v: Reading, claim: Claim) -> bool
@@ -53,21 +53,24 @@ fn shows(log: &[u8], at: usize, claim: Claim) -> bool
 }
 
 // Where the body lies, by value.
-pub fn locate(rec: LogRecord, log: &[u8], claim: Claim) -> Located
+pub fn locate(rec: LogRecord, log: &[u8], claim: Claim) -> Result<Span, Error>
     ensures { result ≡ locate_of rec log.now claim }
 {
     let v = log_buffer_descriptor::read_active(rec);
     if !good_claim(v, claim) {
-        return Located::Refused(Error::IllegalArgument);
+        return Err(Error::IllegalArgument);
     }
     if !log_buffer_descriptor::is_sound(v, log.len()) {
-        return Located::Refused(Error::IllegalRecord);
+        return Err(Error::IllegalRecord);
     }
     let at = start(v, claim);
     if !shows(log, at, claim) {
-        return Located::Refused(Error::ClaimMismatch);
+        return Err(Error::ClaimMismatch);
     }
-    Located::Span(at + HEADER_LENGTH, at + cast::word(claim.length))
+    Ok(Span {
+        start: at + HEADER_LENGTH,
+        end: at + cast::word(claim.length),
+    })
 }
 
 // The body between header and slack, to be written; the empty part for a refusal.
@@ -75,10 +78,10 @@ pub fn body(rec: LogRecord, log: &mut [u8], claim: Claim) -> &mut [u8]
     ensures result_value { result.now ≡ part_of log.old (locate_of rec log.old claim) }
     ensures ref_ptr_value { result.ref_ptr ≡ (log.entry.ref_ptr.0, start_of (locate_of rec log.old claim) + log.entry.ref_ptr.1) }
 {
-    let Located::Span(from, to) = locate(rec, log, claim) else {
+    let Ok(span) = locate(rec, log, claim) else {
         return &mut log[0..0];
     };
-    &mut log[from..to]
+    &mut log[span.start..span.end]
 }
 
 // The companion: 0, or the number of the refusal.
@@ -86,48 +89,45 @@ pub fn body_number(rec: LogRecord, log: &[u8], claim: Claim) -> i32
     ensures { result ≡ located_number (locate_of rec log.now claim) }
 {
     match locate(rec, log, claim) {
-        Located::Span(_, _) => 0,
-        Located::Refused(e) => errors::number(e),
+        Ok(_) => 0,
+        Err(e) => errors::number(e),
     }
 }
 
 // A lending and its writing in one call: the bytes go over the body from its start on, as far as it goes.
-pub fn write(rec: LogRecord, log: &mut [u8], claim: Claim, bytes: &[u8]) -> Outcome
+pub fn write(rec: LogRecord, log: &mut [u8], claim: Claim, bytes: &[u8]) -> Result<(), Error>
     ensures value { result ≡ write_of rec log.old claim bytes.now }
     ensures log_after { log.new ≡ write_bytes rec log.old claim bytes.now }
 {
     let n = bytes.len();
     if n > 2147483647 {
-        return Outcome::Refused(Error::IllegalArgument);
+        return Err(Error::IllegalArgument);
     }
-    match locate(rec, log, claim) {
-        Located::Refused(e) => Outcome::Refused(e),
-        Located::Span(from, to) => {
-            copying::copy(log, from, bytes, 0, bit_utils::at_most(to - from, n));
-            Outcome::Done
-        }
-    }
+    let span = locate(rec, log, claim)?;
+    let room = span.end - span.start;
+    copying::copy(log, span.start, bytes, 0, bit_utils::at_most(room, n));
+    Ok(())
 }
 
 // The length is stored: the frame is finished. It asks what `locate` asks by itself, since a claim is committed more often than anything else
 // is done with it.
-pub fn commit(rec: LogRecord, log: &mut [u8], claim: Claim) -> Outcome
+pub fn commit(rec: LogRecord, log: &mut [u8], claim: Claim) -> Result<(), Error>
     ensures value { result ≡ commit_of rec log.old claim }
     ensures log_after { log.new ≡ commit_bytes rec log.old claim }
 {
     let v = log_buffer_descriptor::read_active(rec);
     if !good_claim(v, claim) {
-        return Outcome::Refused(Error::IllegalArgument);
+        return Err(Error::IllegalArgument);
     }
     if !log_buffer_descriptor::is_sound(v, log.len()) {
-        return Outcome::Refused(Error::IllegalRecord);
+        return Err(Error::IllegalRecord);
     }
     let at = start(v, claim);
     if !shows(log, at, claim) {
-        return Outcome::Refused(Error::ClaimMismatch);
+        return Err(Error::ClaimMismatch);
     }
     field::put4(log, at, cast::word(claim.length));
-    Outcome::Done
+    Ok(())
 }
 
 // The record's numbers with the bits of all its tails' offsets and of the claim's for its offset: sound with these, the record is sound with any of its
@@ -171,16 +171,12 @@ pub fn commit_fit(rec: LogRecord, log: &mut [u8], claim: Claim) -> bool
 }
 
 // A commit with type 0 beside it: the frame is padding.
-pub fn abort(rec: LogRecord, log: &mut [u8], claim: Claim) -> Outcome
+pub fn abort(rec: LogRecord, log: &mut [u8], claim: Claim) -> Result<(), Error>
     ensures value { result ≡ commit_of rec log.old claim }
     ensures log_after { log.new ≡ abort_bytes rec log.old claim }
 {
-    match locate(rec, log, claim) {
-        Located::Refused(e) => Outcome::Refused(e),
-        Located::Span(from, _) => {
-            field::put2(log, from - 26, 0);
-            field::put4(log, from - HEADER_LENGTH, cast::word(claim.length));
-            Outcome::Done
-        }
-    }
+    let span = locate(rec, log, claim)?;
+    field::put2(log, span.start - 26, 0);
+    field::put4(log, span.start - HEADER_LENGTH, cast::word(claim.length));
+    Ok(())
 }

@@ -37,26 +37,7 @@ pub fn place(error: Error) -> u32
     ensures { result ≡ place_of error }
 {
     match error {
-        Error::IllegalArgument => 0,
-        Error::IllegalRecord => 0,
-        Error::PositionOutOfRange => 0,
-        Error::ExceedsMaxPayloadLength => 0,
-        Error::PublicationClosed => 0,
-        Error::AdminAction => 0,
-        Error::MaxPositionExceeded => 0,
-        Error::BackPressured => 0,
-        Error::NotConnected => 0,
-        Error::ExceedsMaxMessageLength => 0,
-        Error::TailOverflow => 0,
-        Error::LastTerm => 0,
-        Error::ActionPossiblyDelayed => 0,
-        Error::ClaimMismatch => 0,
-        Error::NewPositionOutOfRange => 0,
-        Error::NewPositionNotAligned => 0,
-        Error::AssemblyFull => 0,
-        Error::NotCleared => 0,
-        Error::NotDue => 0,
-        Error::FrameTooShort(place) => place,
-        Error::FramePastTerm(place) => place,
+        Error::FrameTooShort(place) | Error::FramePastTerm(place) => place,
+        _ => 0,
     }
 }

@@ -11,7 +11,7 @@ ghost use Rattle.logbuffer.specs.Fragments.{no_fragment, fragment_at, joins as j
 use crate::data_frame_header::{FLAGS_FIELD_OFFSET, HEADER_LENGTH, SESSION_ID_FIELD_OFFSET};
 use crate::frame_descriptor::{ALIGNMENT_MASK, BEGIN_FRAG, END_FRAG, FRAME_ALIGNMENT};
 use crate::{argument, buffer_builder, cast, field, frame_descriptor};
-use model::{Assembled, Error, Frame, FrameLength, Joining, LogRecord, Place, Verdict};
+use model::{Assembled, Error, Frame, FrameLength, Joining, LogRecord, Place};
 
 // How many sessions are entered, their ids, and how many bytes each holds.
 #[repr(C)]
@@ -25,7 +25,7 @@ pub struct FragmentAssembler {
 #[derive(Clone, Copy)]
 pub struct AssemblyReply {
     pub next: FragmentAssembler,
-    pub answer: Assembled,
+    pub answer: Result<Assembled, Error>,
 }
 
 // What a frame leads to: the place whose session it enters, that session and the bytes that it then holds, and the answer. No session has
@@ -35,7 +35,7 @@ pub struct Joined {
     pub place: usize,
     pub session: i32,
     pub held: usize,
-    pub answer: Assembled,
+    pub answer: Result<Assembled, Error>,
 }
 
 impl FragmentAssembler {
@@ -65,14 +65,12 @@ fn place_in(ids: &[i32], n: usize, session: i32) -> usize
     requires { n ≤ length ids.now }
     ensures { (result ≡ place_in (take n ids.now) session) × (result ≤ n) }
 {
-    let mut i: usize = 0;
-    while i < n {
-        if ids[i] == session {
-            break;
+    for (i, &id) in ids[..n].iter().enumerate() {
+        if id == session {
+            return i;
         }
-        i = i + 1;
     }
-    i
+    n
 }
 
 // How many are entered once place k is.
@@ -206,23 +204,21 @@ fn good_assembly(p: Place, log: &[u8], lent: usize) -> bool
 }
 
 // Rows 1, 2, 22 and 23.
-fn assemble_verdict(p: Place, log: &[u8], lent: usize) -> Verdict
+fn assemble_verdict(p: Place, log: &[u8], lent: usize) -> Result<(), Error>
     requires { p.offset < 4294967296 }
     ensures { result ≡ assemble_verdict p.read log.now lent p.partition p.offset }
 {
     let good = good_assembly(p, log, lent);
-    if let Verdict::Refuse(e) = argument::first_rows(good, p.read, log.len()) {
-        return Verdict::Refuse(e);
-    }
+    argument::first_rows(good, p.read, log.len())?;
     let term = p.read.term;
     let length = frame_descriptor::finished_length(log, p.partition * term + p.offset);
     if unsound_length(length, term - p.offset) {
-        return Verdict::Refuse(frame_descriptor::unsound_frame(length, p.offset as u32));
+        return Err(frame_descriptor::unsound_frame(length, p.offset as u32));
     }
-    Verdict::Pass
+    Ok(())
 }
 
-fn holding(place: usize, session: i32, held: usize, answer: Assembled) -> Joined
+fn holding(place: usize, session: i32, held: usize, answer: Result<Assembled, Error>) -> Joined
     ensures { result ≡ leaving place session held answer }
 {
     Joined {
@@ -252,17 +248,22 @@ fn join_frame(
     let flags = field::byte(log, place + FLAGS_FIELD_OFFSET);
     let part = buffer.len() / 16;
     match joining(count, ids, held, session, flags, n, part) {
-        Joining::Through => holding(16, session, 0, Assembled::Fragment(at + HEADER_LENGTH, n)),
-        Joining::Ignore => holding(16, session, 0, Assembled::Nothing),
-        Joining::Full => holding(16, session, 0, Assembled::Refused(Error::AssemblyFull)),
-        Joining::TooLong(k) => holding(k, session, 0, Assembled::Refused(Error::AssemblyFull)),
+        Joining::Through => holding(
+            16,
+            session,
+            0,
+            Ok(Assembled::Fragment(at + HEADER_LENGTH, n)),
+        ),
+        Joining::Ignore => holding(16, session, 0, Ok(Assembled::Nothing)),
+        Joining::Full => holding(16, session, 0, Err(Error::AssemblyFull)),
+        Joining::TooLong(k) => holding(k, session, 0, Err(Error::AssemblyFull)),
         Joining::Join(k, from) => {
             buffer_builder::append(buffer, k, part, from, log, place + HEADER_LENGTH, n);
-            holding(k, session, from + n, Assembled::Nothing)
+            holding(k, session, from + n, Ok(Assembled::Nothing))
         }
         Joining::Complete(k, from) => {
             buffer_builder::append(buffer, k, part, from, log, place + HEADER_LENGTH, n);
-            holding(k, session, 0, Assembled::Message(k * part, from + n))
+            holding(k, session, 0, Ok(Assembled::Message(k * part, from + n)))
         }
     }
 }
@@ -299,13 +300,13 @@ pub fn join(
     ensures buffer_after { buffer.new ≡ (join_of (sessions_as count ids.now held.now) buffer.old log.now index offset).buffer }
 {
     if !is_whole(log, index) {
-        return holding(16, 0, 0, Assembled::Refused(Error::IllegalArgument));
+        return holding(16, 0, 0, Err(Error::IllegalArgument));
     }
     if offset > 4294967295 {
-        return holding(16, 0, 0, Assembled::Refused(Error::IllegalArgument));
+        return holding(16, 0, 0, Err(Error::IllegalArgument));
     }
     if ids.len() != 16 {
-        return holding(16, 0, 0, Assembled::Refused(Error::IllegalArgument));
+        return holding(16, 0, 0, Err(Error::IllegalArgument));
     }
     join_frame(count, ids, held, log, buffer, index, offset)
 }
@@ -462,11 +463,11 @@ impl FragmentAssembler {
     {
         let p = argument::place(rec, partition, offset);
         match assemble_verdict(p, log, buffer.len()) {
-            Verdict::Refuse(e) => AssemblyReply {
+            Err(e) => AssemblyReply {
                 next: self,
-                answer: Assembled::Refused(e),
+                answer: Err(e),
             },
-            Verdict::Pass => {
+            Ok(()) => {
                 let index = p.partition * p.read.term + p.offset;
                 let ids = self.ids;
                 let held = self.held;

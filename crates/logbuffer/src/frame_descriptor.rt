@@ -11,7 +11,7 @@ use crate::data_frame_header::{
     FLAGS_FIELD_OFFSET, HDR_TYPE_PAD, HEADER_LENGTH, TERM_ID_FIELD_OFFSET, TYPE_FIELD_OFFSET,
 };
 use crate::{argument, cast, field};
-use model::{Error, Frame, FrameLength, FrameLengthRead, LogRecord, Verdict};
+use model::{Error, Frame, FrameLength, LogRecord};
 
 pub const FRAME_ALIGNMENT: usize = 32;
 // What is added before a number is cut to a multiple of the alignment.
@@ -136,16 +136,17 @@ pub(crate) fn finished_length(log: &[u8], at: usize) -> usize
 
 // The frame length reader: whether a place of the log is free, being written or finished. It tells an empty place from a claim that nobody
 // has finished, and does not judge whether the length is sound.
-pub fn frame_length_at(rec: LogRecord, log: &[u8], partition: i32, offset: i32) -> FrameLengthRead
+pub fn frame_length_at(
+    rec: LogRecord,
+    log: &[u8],
+    partition: i32,
+    offset: i32,
+) -> Result<FrameLength, Error>
     ensures { result ≡ length_call rec log.now partition offset }
 {
     let p = argument::place(rec, partition, offset);
-    match argument::first_rows(argument::good_place(p), p.read, log.len()) {
-        Verdict::Refuse(e) => FrameLengthRead::Refused(e),
-        Verdict::Pass => {
-            FrameLengthRead::Length(length_at(log, p.partition * p.read.term + p.offset))
-        }
-    }
+    argument::first_rows(argument::good_place(p), p.read, log.len())?;
+    Ok(length_at(log, p.partition * p.read.term + p.offset))
 }
 
 // What a frame is by its length word, its type and the bytes to the term's end. Zero and less are one question, so that a reader asks no more than it must.

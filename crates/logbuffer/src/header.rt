@@ -16,7 +16,7 @@ use crate::data_frame_header::{
 };
 use crate::frame_descriptor::UNFRAGMENTED;
 use crate::{argument, cast, copying, field, log_buffer_descriptor};
-use model::{HeaderFields, HeaderRead, LogRecord, Reading, Verdict};
+use model::{Error, HeaderFields, LogRecord, Reading};
 
 // A header at an offset of the record's term. The second word holds version 0, flags and type.
 fn write_header(
@@ -164,15 +164,16 @@ fn fields_at(v: Reading, log: &[u8], index: usize, at: usize) -> HeaderFields
 }
 
 // The fields of a frame's header, as the specification lays them out, and the position past the frame.
-pub fn fields(rec: LogRecord, log: &[u8], partition: i32, offset: i32) -> HeaderRead
+pub fn fields(
+    rec: LogRecord,
+    log: &[u8],
+    partition: i32,
+    offset: i32,
+) -> Result<HeaderFields, Error>
     ensures { result ≡ header_call rec log.now partition offset }
 {
     let p = argument::place(rec, partition, offset);
-    match argument::first_rows(argument::good_place(p), p.read, log.len()) {
-        Verdict::Refuse(e) => HeaderRead::Refused(e),
-        Verdict::Pass => {
-            let index = p.partition * p.read.term + p.offset;
-            HeaderRead::Fields(fields_at(p.read, log, index, p.offset))
-        }
-    }
+    argument::first_rows(argument::good_place(p), p.read, log.len())?;
+    let index = p.partition * p.read.term + p.offset;
+    Ok(fields_at(p.read, log, index, p.offset))
 }

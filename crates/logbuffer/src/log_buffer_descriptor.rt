@@ -3,11 +3,12 @@ ghost use Rattle.std.specs.Prelude.{◌≡◌, ◌+◌, ◌^◌, ◌<◌, ◌≤
 ghost use Rattle.std.specs.Int.{w32};
 ghost use Rattle.std.proofs.Common.{to_z};
 ghost use Rattle.logbuffer.specs.Reads.{reading_with};
+ghost use Rattle.model.specs.Publication.{no_record};
 ghost use Rattle.model.specs.LogBufferDescriptor.{id_plus, id_minus, offset_of, term_id_of, term_offset_of, index_by_term_count, index_by_position, bits_to_shift, compute_position, tail_of, reading_of, reading, sound_record, sound, with_tail, with_count, with_mark, is_marked, next_tail, rotate_verdict, rotate_log_of};
 
 use crate::cast;
 use crate::frame_descriptor::FRAME_ALIGNMENT;
-use model::{Error, LogRecord, Outcome, Positioned, Reading, RecordReply, Verdict};
+use model::{Error, LogRecord, Reading, RecordReply};
 
 pub const TERM_MIN_LENGTH: usize = 65536;
 
@@ -88,14 +89,14 @@ pub(crate) fn term_begin(id: usize, initial: usize, bits: u32) -> i64
     (count as i64) << bits
 }
 
-pub fn compute_position(term_id: i32, offset: u32, bits: u32, initial: i32) -> Positioned
+pub fn compute_position(term_id: i32, offset: u32, bits: u32, initial: i32) -> Result<i64, Error>
     ensures { result ≡ compute_position term_id offset bits initial }
 {
     if bits > 30 {
-        return Positioned::Refused(Error::IllegalArgument);
+        return Err(Error::IllegalArgument);
     }
     let begin = term_begin(cast::word(term_id), cast::word(initial), bits);
-    Positioned::Position(begin + (offset as i64))
+    Ok(begin + (offset as i64))
 }
 
 // ---- the record, read
@@ -246,6 +247,30 @@ pub(crate) fn with_mark(rec: LogRecord, k: usize, mark: bool) -> LogRecord
     next
 }
 
+// What a refused opening and a refused reading of a section answer: a record of zeros, which every call refuses.
+pub fn no_record() -> LogRecord
+    ensures { result ≡ no_record }
+{
+    LogRecord {
+        tails: [0, 0, 0],
+        active_term_count: 0,
+        initial_term_id: 0,
+        term_length: 0,
+        mtu_length: 0,
+        session_id: 0,
+        stream_id: 0,
+        is_connected: 0,
+        publication_limit: 0,
+        end_of_stream_position: 0,
+        is_closed: false,
+        slowest_position: 0,
+        is_cleared: [false, false, false],
+        active_transport_count: 0,
+        correlation_id: 0,
+        page_size: 0,
+    }
+}
+
 // ---- rotation
 
 // The next partition's tail is set where it is two terms behind; its mark goes in any case.
@@ -262,19 +287,19 @@ fn next_tail(rec: LogRecord, count: usize, id: usize) -> LogRecord
     with_mark(rec, k, false)
 }
 
-fn rotate_verdict(v: Reading, count: usize) -> Verdict
+fn rotate_verdict(v: Reading, count: usize) -> Result<(), Error>
     ensures { result ≡ rotate_verdict v count }
 {
     if count > 2147483647 {
-        return Verdict::Refuse(Error::IllegalArgument);
+        return Err(Error::IllegalArgument);
     }
     if !is_sound_record(v) {
-        return Verdict::Refuse(Error::IllegalRecord);
+        return Err(Error::IllegalRecord);
     }
     if count == 2147483647 {
-        return Verdict::Refuse(Error::LastTerm);
+        return Err(Error::LastTerm);
     }
-    Verdict::Pass
+    Ok(())
 }
 
 // From a count and a term id: the next tail, and the count one higher if it is the one given.
@@ -285,22 +310,22 @@ pub fn rotate_log(rec: LogRecord, count: i32, id: i32) -> RecordReply
     let term = cast::word(id);
     let v = read_active(rec);
     match rotate_verdict(v, given) {
-        Verdict::Refuse(e) => RecordReply {
+        Err(e) => RecordReply {
             next: rec,
-            answer: Outcome::Refused(e),
+            answer: Err(e),
         },
-        Verdict::Pass => {
+        Ok(()) => {
             let next = next_tail(rec, given, term);
             if v.count == given {
                 let risen = with_count(next, given + 1);
                 return RecordReply {
                     next: risen,
-                    answer: Outcome::Done,
+                    answer: Ok(()),
                 };
             }
             RecordReply {
                 next: next,
-                answer: Outcome::Done,
+                answer: Ok(()),
             }
         }
     }

@@ -295,7 +295,7 @@ fn fits(v: Reading, n: usize, k: usize, m: usize) -> bool
     )
 }
 
-// A message as one frame at partition k where it fits, and the offset after it; 0, and the log left as it was, where it does not. It is for a
+// A message as one frame at partition k where it fits, and the offset after it; none, and the log left as it was, where it does not. It is for a
 // caller who moves the tail by himself and has another path for all that does not fit.
 pub fn append_fit(
     numbers: Reading,
@@ -303,12 +303,12 @@ pub fn append_fit(
     partition: usize,
     message: &[u8],
     reserved_value: i64,
-) -> usize
+) -> Option<usize>
     ensures value { result ≡ fit_end numbers log.old partition (length message.now) }
     ensures log_after { log.new ≡ message_fit_bytes numbers log.old partition message.now (long reserved_value) }
 {
     if !fits(numbers, log.len(), partition, message.len()) {
-        return 0;
+        return None;
     }
     let term = numbers.term;
     let offset = numbers.offset;
@@ -321,10 +321,14 @@ pub fn append_fit(
         cast::long(reserved_value),
         message,
     );
-    offset + (message.len() + HEADER_LENGTH + ALIGNMENT_MASK) / FRAME_ALIGNMENT * FRAME_ALIGNMENT
+    Some(
+        offset
+            + (message.len() + HEADER_LENGTH + ALIGNMENT_MASK) / FRAME_ALIGNMENT * FRAME_ALIGNMENT,
+    )
 }
 
 // The same for a message in fragments: where all its frames fit, and the offset after the last of them.
+#[tactic(auto, unfolding(crate::specs::Ways::frames_fit))]
 pub fn append_fragmented_fit(
     numbers: Reading,
     log: &mut [u8],
@@ -332,36 +336,43 @@ pub fn append_fragmented_fit(
     payload_limit: usize,
     message: &[u8],
     reserved_value: i64,
-) -> usize
+) -> Option<usize>
     ensures value { result ≡ fragmented_end numbers log.old partition payload_limit (length message.now) }
     ensures log_after { log.new ≡ fragmented_fit_bytes numbers log.old partition payload_limit message.now (long reserved_value) }
 {
     if !good_append(numbers, partition, payload_limit, message.len()) {
-        return 0;
+        return None;
     }
     let needed = need_of(payload_limit, message.len());
     if !has_room(numbers, log.len(), needed) {
-        return 0;
+        return None;
     }
     let term = numbers.term;
     let offset = numbers.offset;
     let bits = cast::long(reserved_value);
     write_fragments(log, partition * term, numbers, payload_limit, bits, message);
-    offset + needed
+    Some(offset + needed)
 }
 
 // The same for the frame of a claim of so many bytes.
-pub fn claim_fit(numbers: Reading, log: &mut [u8], partition: usize, body_length: usize) -> usize
+pub fn claim_fit(
+    numbers: Reading,
+    log: &mut [u8],
+    partition: usize,
+    body_length: usize,
+) -> Option<usize>
     ensures value { result ≡ fit_end numbers log.old partition body_length }
     ensures log_after { log.new ≡ claim_fit_bytes numbers log.old partition body_length }
 {
     if !fits(numbers, log.len(), partition, body_length) {
-        return 0;
+        return None;
     }
     let term = numbers.term;
     let offset = numbers.offset;
     header::write_claim(log, partition * term, numbers, body_length);
-    offset + (body_length + HEADER_LENGTH + ALIGNMENT_MASK) / FRAME_ALIGNMENT * FRAME_ALIGNMENT
+    Some(
+        offset + (body_length + HEADER_LENGTH + ALIGNMENT_MASK) / FRAME_ALIGNMENT * FRAME_ALIGNMENT,
+    )
 }
 
 // A message as one frame or as many, for a caller who has not read the record.

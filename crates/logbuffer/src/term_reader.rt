@@ -1,19 +1,16 @@
 // Reading a term: the walk over frames that every poll takes, `read`, and views of bodies and blocks.
-ghost use Rattle.std.specs.Prelude.{◌≡◌, ◌+◌, ◌*◌, ◌%◌, ◌<◌, ◌≤◌, ◌&&◌, [], length, drop, if◌then◌else◌};
+ghost use Rattle.std.specs.Prelude.{◌≡◌, ◌+◌, ◌*◌, ◌%◌, ◌<◌, ◌≤◌, ◌&&◌, [], length, drop, if◌then◌else◌, Ok, Err};
 ghost use Rattle.logbuffer.specs.Lent.{start_of};
-ghost use Rattle.model.specs.declared.Verdict.TheVariants.{Pass, Refuse};
 ghost use Rattle.model.specs.FrameDescriptor.{unsound_frame_at};
 ghost use Rattle.model.specs.LogBufferDescriptor.{good_partition};
 ghost use Rattle.model.specs.TermReader.{next_action, walk, first_unsound, good_walk, good_handler, good_entries, good_start, entries_by, frames_by, frames_refusal, read_from, read_walk, frames_of, frames_entries, read_of, read_entries, good_view, view_of};
 ghost use Rattle.model.specs.Parts.{part_of, located_number};
-ghost use Rattle.logbuffer.specs.Reads.{good_read_on, read_on_verdict, read_refusal};
+ghost use Rattle.logbuffer.specs.Reads.{good_read_on, read_on_verdict};
 
 use crate::data_frame_header::HEADER_LENGTH;
 use crate::frame_descriptor::{ALIGNMENT_MASK, FRAME_ALIGNMENT};
 use crate::{argument, cast, errors, frame_descriptor, log_buffer_descriptor};
-use model::{
-    Error, Frame, FramesRead, Located, LogRecord, Place, Reading, TermRead, Verdict, Walk,
-};
+use model::{Error, Frame, FramesRead, LogRecord, Place, Reading, Span, TermRead, Walk};
 
 // The handler's answer to the fragment after `passed` others; 4, continue, where none is given.
 fn action_of(actions: &[u8], passed: usize) -> usize
@@ -91,8 +88,8 @@ fn walk_frames(
     entries: &mut [i32],
 ) -> FramesRead
     requires { (base + term ≤ length log.now) × ((term ≤ 1073741824) × ((end ≤ term) × (2 * limit ≤ length entries.old))) }
-    ensures value { result ≡ frames_by (walk term log.now base term end at limit actions.now) (if first_unsound log.now base term end at limit then Refuse (unsound_frame_at log.now base at) else Pass) }
-    ensures entries_after { entries.new ≡ entries_by entries.old (walk term log.now base term end at limit actions.now) (if first_unsound log.now base term end at limit then Refuse (unsound_frame_at log.now base at) else Pass) }
+    ensures value { result ≡ frames_by (walk term log.now base term end at limit actions.now) (if first_unsound log.now base term end at limit then Err (unsound_frame_at log.now base at) else Ok tt) }
+    ensures entries_after { entries.new ≡ entries_by entries.old (walk term log.now base term end at limit actions.now) (if first_unsound log.now base term end at limit then Err (unsound_frame_at log.now base at) else Ok tt) }
 {
     let mut offset = at;
     let mut moved: usize = 0;
@@ -205,10 +202,10 @@ fn walk_term(
     at: usize,
     limit: usize,
     entries: &mut [i32],
-) -> TermRead
+) -> Result<TermRead, Error>
     requires { (base + term ≤ length log.now) × ((term ≤ 1073741824) × ((term % 32 ≡ 0) × ((at % 32 ≡ 0) × (2 * limit ≤ length entries.old)))) }
-    ensures value { result ≡ read_from at (frames_by (walk term log.now base term term at limit []) (if first_unsound log.now base term term at limit then Refuse (unsound_frame_at log.now base at) else Pass)) }
-    ensures entries_after { entries.new ≡ entries_by entries.old (walk term log.now base term term at limit []) (if first_unsound log.now base term term at limit then Refuse (unsound_frame_at log.now base at) else Pass) }
+    ensures value { result ≡ read_from at (frames_by (walk term log.now base term term at limit []) (if first_unsound log.now base term term at limit then Err (unsound_frame_at log.now base at) else Ok tt)) }
+    ensures entries_after { entries.new ≡ entries_by entries.old (walk term log.now base term term at limit []) (if first_unsound log.now base term term at limit then Err (unsound_frame_at log.now base at) else Ok tt) }
 {
     let mut offset = at;
     let mut count: usize = 0;
@@ -225,7 +222,7 @@ fn walk_term(
             }
             Frame::Unsound(found) => {
                 if offset == at {
-                    return TermRead::Refused(frame_descriptor::unsound_frame(found, at as u32));
+                    return Err(frame_descriptor::unsound_frame(found, at as u32));
                 }
                 break;
             }
@@ -241,7 +238,10 @@ fn walk_term(
             }
         }
     }
-    TermRead::Outcome(offset, count)
+    Ok(TermRead {
+        offset: offset,
+        fragments: count,
+    })
 }
 
 // What a read of a partition asks: sound numbers, a partition, an offset that is a multiple of 32, room for the entries. What its caller has asked before it
@@ -273,7 +273,7 @@ pub fn read_on(
     offset: usize,
     fragment_limit: usize,
     entries: &mut [i32],
-) -> TermRead
+) -> Result<TermRead, Error>
     ensures value { result ≡ read_from offset (frames_by (read_walk numbers log.now partition offset fragment_limit) (read_on_verdict numbers log.now partition offset fragment_limit (length entries.old))) }
     ensures entries_after { entries.new ≡ entries_by entries.old (read_walk numbers log.now partition offset fragment_limit) (read_on_verdict numbers log.now partition offset fragment_limit (length entries.old)) }
 {
@@ -285,20 +285,10 @@ pub fn read_on(
         fragment_limit,
         entries.len(),
     ) {
-        return TermRead::Refused(Error::IllegalArgument);
+        return Err(Error::IllegalArgument);
     }
     let term = numbers.term;
     walk_term(log, partition * term, term, offset, fragment_limit, entries)
-}
-
-// The refusal of a read, where a caller takes it apart by `let .. else`. A read that was not refused has none, and 1 stands for it.
-pub fn read_refusal(read: TermRead) -> Error
-    ensures { result ≡ read_refusal read }
-{
-    match read {
-        TermRead::Outcome(_, _) => Error::IllegalArgument,
-        TermRead::Refused(e) => e,
-    }
 }
 
 // Row 1 of `read`.
@@ -322,24 +312,25 @@ pub fn read(
     offset: i32,
     fragment_limit: i32,
     entries: &mut [i32],
-) -> TermRead
+) -> Result<TermRead, Error>
     ensures value { result ≡ read_of rec log.now partition offset fragment_limit entries.old }
     ensures entries_after { entries.new ≡ read_entries rec log.now partition offset fragment_limit entries.old }
 {
     let p = argument::place(rec, partition, offset);
     let most = argument::natural(fragment_limit);
     let good = good_read(p, most, entries.len());
-    if let Verdict::Refuse(e) = argument::first_rows(good, p.read, log.len()) {
-        return TermRead::Refused(e);
-    }
+    argument::first_rows(good, p.read, log.len())?;
     let term = p.read.term;
     let at = p.offset;
     let base = p.partition * term;
     let frames = read_frames(log, base, term, term, at, most, &log[0..0], entries);
     let FramesRead::Walked(walked) = frames else {
-        return TermRead::Refused(refusal(frames));
+        return Err(refusal(frames));
     };
-    TermRead::Outcome(at + walked.moved, walked.fragments)
+    Ok(TermRead {
+        offset: at + walked.moved,
+        fragments: walked.fragments,
+    })
 }
 
 // ---- views
@@ -356,18 +347,23 @@ fn good_view(p: Place, size: usize) -> bool
 }
 
 // Where a body or a block lies in the log: an offset of a partition's term and a length.
-pub fn view_span(rec: LogRecord, log: &[u8], partition: i32, offset: i32, length: i32) -> Located
+pub fn view_span(
+    rec: LogRecord,
+    log: &[u8],
+    partition: i32,
+    offset: i32,
+    length: i32,
+) -> Result<Span, Error>
     ensures { result ≡ view_of rec log.now partition offset length }
 {
     let p = argument::place(rec, partition, offset);
     let size = cast::word(length);
-    match argument::first_rows(good_view(p, size), p.read, log.len()) {
-        Verdict::Refuse(e) => Located::Refused(e),
-        Verdict::Pass => {
-            let from = p.partition * p.read.term + p.offset;
-            Located::Span(from, from + size)
-        }
-    }
+    argument::first_rows(good_view(p, size), p.read, log.len())?;
+    let from = p.partition * p.read.term + p.offset;
+    Ok(Span {
+        start: from,
+        end: from + size,
+    })
 }
 
 // A body or a block as a part of the log; the empty part for a refusal.
@@ -375,10 +371,10 @@ pub fn view(rec: LogRecord, log: &[u8], partition: i32, offset: i32, length: i32
     ensures result_value { result.now ≡ part_of log.now (view_of rec log.now partition offset length) }
     ensures ref_ptr_value { result.ref_ptr ≡ (log.entry.ref_ptr.0, start_of (view_of rec log.now partition offset length) + log.entry.ref_ptr.1) }
 {
-    let Located::Span(from, to) = view_span(rec, log, partition, offset, length) else {
+    let Ok(span) = view_span(rec, log, partition, offset, length) else {
         return &log[0..0];
     };
-    &log[from..to]
+    &log[span.start..span.end]
 }
 
 // The companion: 0, or the number of the refusal.
@@ -386,7 +382,7 @@ pub fn view_number(rec: LogRecord, log: &[u8], partition: i32, offset: i32, leng
     ensures { result ≡ located_number (view_of rec log.now partition offset length) }
 {
     match view_span(rec, log, partition, offset, length) {
-        Located::Span(_, _) => 0,
-        Located::Refused(e) => errors::number(e),
+        Ok(_) => 0,
+        Err(e) => errors::number(e),
     }
 }

@@ -1,21 +1,26 @@
 // The scans of a term: whole frames up to a limit, the first gap, and what is available. Each meets an unsound frame as readers do.
-ghost use Rattle.std.specs.Prelude.{◌≡◌, ◌+◌, ◌-◌, ◌*◌, ◌%◌, ◌<◌, ◌≤◌, min, true, ◌&&◌, length, drop, if◌then◌else◌, ◌==◌, nat_lt};
-ghost use Rattle.model.specs.declared.Verdict.TheVariants.{Pass, Refuse};
+ghost use Rattle.std.specs.Prelude.{◌≡◌, ◌+◌, ◌-◌, ◌*◌, ◌%◌, ◌<◌, ◌≤◌, min, true, ◌&&◌, length, drop, if◌then◌else◌, ◌==◌, nat_lt, Ok, Err};
 ghost use Rattle.model.specs.FrameDescriptor.{frame_at, is_unsound, unsound_frame_at};
 ghost use Rattle.model.specs.LogBufferDescriptor.{good_partition, good_offset, within_term};
-ghost use Rattle.model.specs.TermScan.{scan_from, scan_by, scan_refusal, scan_of, rebuild, gap_length, gap_by, gap_of, available_from, availability_by, availability_of};
+ghost use Rattle.model.specs.TermScan.{scan_from, scan_by, scan_of, rebuild, gap_length, gap_by, gap_of, available_from, availability_by, availability_of};
 ghost use Rattle.model.proofs.GapLaws.{gap_found};
 ghost use Rattle.model.proofs.AvailableLaws.{outcome as outcome_of};
 
 use crate::data_frame_header::HEADER_LENGTH;
 use crate::frame_descriptor::{ALIGNMENT_MASK, FRAME_ALIGNMENT};
 use crate::{argument, bit_utils, cast, frame_descriptor};
-use model::{AvailabilityScanned, Error, Frame, GapScanned, LogRecord, Place, Scanned, Verdict};
+use model::{Error, Frame, GapScanned, LogRecord, Place};
 
 // Whole data frames up to the limit; a padding frame only at the start, even one that ends past the limit.
-fn scan_frames(log: &[u8], base: usize, term: usize, limit: usize, at: usize) -> Scanned
+fn scan_frames(
+    log: &[u8],
+    base: usize,
+    term: usize,
+    limit: usize,
+    at: usize,
+) -> Result<usize, Error>
     requires { (base + term ≤ length log.now) × ((term ≤ 1073741824) × ((at < term) × (limit ≤ term))) }
-    ensures { result ≡ scan_by (scan_from term log.now base term limit true at) (if nat_lt at limit && is_unsound (frame_at (drop (base + at) log.now) (term - at)) then Refuse (unsound_frame_at log.now base at) else Pass) }
+    ensures { result ≡ scan_by (scan_from term log.now base term limit true at) (if nat_lt at limit && is_unsound (frame_at (drop (base + at) log.now) (term - at)) then Err (unsound_frame_at log.now base at) else Ok tt) }
 {
     let mut offset = at;
     loop {
@@ -28,15 +33,13 @@ fn scan_frames(log: &[u8], base: usize, term: usize, limit: usize, at: usize) ->
             }
             Frame::Unsound(found) => {
                 if offset == at {
-                    return Scanned::Refused(frame_descriptor::unsound_frame(found, at as u32));
+                    return Err(frame_descriptor::unsound_frame(found, at as u32));
                 }
                 break;
             }
             Frame::Padding(n) => {
                 if offset == at {
-                    return Scanned::Offset(
-                        at + (n + ALIGNMENT_MASK) / FRAME_ALIGNMENT * FRAME_ALIGNMENT,
-                    );
+                    return Ok(at + (n + ALIGNMENT_MASK) / FRAME_ALIGNMENT * FRAME_ALIGNMENT);
                 }
                 break;
             }
@@ -49,7 +52,7 @@ fn scan_frames(log: &[u8], base: usize, term: usize, limit: usize, at: usize) ->
             }
         }
     }
-    Scanned::Offset(offset)
+    Ok(offset)
 }
 
 // Row 1 of `scan`.
@@ -64,28 +67,20 @@ fn good_scan(p: Place, limit: usize) -> bool
 }
 
 // How far whole frames reach from an offset, at most to the limit: any number up to the term length.
-pub fn scan(rec: LogRecord, log: &[u8], partition: i32, offset: i32, limit: i32) -> Scanned
+pub fn scan(
+    rec: LogRecord,
+    log: &[u8],
+    partition: i32,
+    offset: i32,
+    limit: i32,
+) -> Result<usize, Error>
     ensures { result ≡ scan_of rec log.now partition offset limit }
 {
     let p = argument::place(rec, partition, offset);
     let most = argument::natural(limit);
-    match argument::first_rows(good_scan(p, most), p.read, log.len()) {
-        Verdict::Refuse(e) => Scanned::Refused(e),
-        Verdict::Pass => {
-            let term = p.read.term;
-            scan_frames(log, p.partition * term, term, most, p.offset)
-        }
-    }
-}
-
-// The refusal of a scan, where a caller takes it apart by `let .. else`. A scan that was not refused has none, and 1 stands for it.
-pub fn refusal(scanned: Scanned) -> Error
-    ensures { result ≡ scan_refusal scanned }
-{
-    match scanned {
-        Scanned::Offset(_) => Error::IllegalArgument,
-        Scanned::Refused(e) => e,
-    }
+    argument::first_rows(good_scan(p, most), p.read, log.len())?;
+    let term = p.read.term;
+    scan_frames(log, p.partition * term, term, most, p.offset)
 }
 
 // ---- scan_for_gap
@@ -116,9 +111,9 @@ fn gap_frames(
     term_id: i32,
     high: usize,
     at: usize,
-) -> GapScanned
+) -> Result<GapScanned, Error>
     requires { (base + term ≤ length log.now) × ((term ≤ 1073741824) × ((high ≤ term) × ((high % 32 ≡ 0) × ((at % 32 ≡ 0) × (at < term))))) }
-    ensures { result ≡ gap_by (gap_found term_id log.now base term high (rebuild term log.now base term high at)) (if is_unsound (frame_at (drop (base + at) log.now) (term - at)) then Refuse (unsound_frame_at log.now base at) else Pass) }
+    ensures { result ≡ gap_by (gap_found term_id log.now base term high (rebuild term log.now base term high at)) (if is_unsound (frame_at (drop (base + at) log.now) (term - at)) then Err (unsound_frame_at log.now base at) else Ok tt) }
 {
     let mut offset = at;
     loop {
@@ -128,30 +123,30 @@ fn gap_frames(
             }
             Frame::Unsound(found) => {
                 if offset == at {
-                    return GapScanned::Refused(frame_descriptor::unsound_frame(found, at as u32));
+                    return Err(frame_descriptor::unsound_frame(found, at as u32));
                 }
-                return GapScanned::NoGap(offset);
+                return Ok(GapScanned::NoGap(offset));
             }
             Frame::Padding(n) => {
                 offset = offset + (n + ALIGNMENT_MASK) / FRAME_ALIGNMENT * FRAME_ALIGNMENT;
                 if high <= offset {
-                    return GapScanned::NoGap(offset);
+                    return Ok(GapScanned::NoGap(offset));
                 }
             }
             Frame::Data(n) => {
                 offset = offset + (n + ALIGNMENT_MASK) / FRAME_ALIGNMENT * FRAME_ALIGNMENT;
                 if high <= offset {
-                    return GapScanned::NoGap(offset);
+                    return Ok(GapScanned::NoGap(offset));
                 }
             }
         }
     }
     if high <= offset {
-        return GapScanned::NoGap(offset);
+        return Ok(GapScanned::NoGap(offset));
     }
     let length = gap_length(log, base, term, high, offset);
     let written = frame_descriptor::is_writing(log, base + offset);
-    GapScanned::Gap(term_id, offset, length, written)
+    Ok(GapScanned::Gap(term_id, offset, length, written))
 }
 
 // Row 1 of `scan_for_gap`.
@@ -177,28 +172,24 @@ pub fn scan_for_gap(
     term_id: i32,
     offset: i32,
     high: i32,
-) -> GapScanned
+) -> Result<GapScanned, Error>
     ensures { result ≡ gap_of rec log.now partition term_id offset high }
 {
     let p = argument::place(rec, partition, offset);
     let mark = cast::word(high);
-    match argument::first_rows(good_gap(p, mark), p.read, log.len()) {
-        Verdict::Refuse(e) => GapScanned::Refused(e),
-        Verdict::Pass => {
-            let term = p.read.term;
-            gap_frames(log, p.partition * term, term, term_id, mark, p.offset)
-        }
-    }
+    argument::first_rows(good_gap(p, mark), p.read, log.len())?;
+    let term = p.read.term;
+    gap_frames(log, p.partition * term, term, term_id, mark, p.offset)
 }
 
 // ---- scan_for_availability
 
 // The two numbers as one.
-fn outcome(available: usize, padding: usize) -> AvailabilityScanned
+fn outcome(available: usize, padding: usize) -> Result<i64, Error>
     requires { (available ≤ 1073741824) × (padding ≤ 1073741824) }
     ensures { result ≡ outcome_of available padding }
 {
-    AvailabilityScanned::Outcome((padding * 4294967296 + available) as i64)
+    Ok((padding * 4294967296 + available) as i64)
 }
 
 // Frames passed up to the maximum, and the padding behind the last padding frame's header; the walk goes on inside a padding frame.
@@ -208,9 +199,9 @@ fn available_frames(
     term: usize,
     at: usize,
     most: usize,
-) -> AvailabilityScanned
+) -> Result<i64, Error>
     requires { (base + term ≤ length log.now) × ((term ≤ 1073741824) × ((at < term) × (most ≤ term - at))) }
-    ensures { result ≡ availability_by (available_from term log.now base term at most 0 0) (if is_unsound (frame_at (drop (base + at) log.now) (term - at)) then Refuse (unsound_frame_at log.now base at) else Pass) }
+    ensures { result ≡ availability_by (available_from term log.now base term at most 0 0) (if is_unsound (frame_at (drop (base + at) log.now) (term - at)) then Err (unsound_frame_at log.now base at) else Ok tt) }
 {
     let mut available: usize = 0;
     let mut padding: usize = 0;
@@ -221,9 +212,7 @@ fn available_frames(
             }
             Frame::Unsound(found) => {
                 if available == 0 {
-                    return AvailabilityScanned::Refused(frame_descriptor::unsound_frame(
-                        found, at as u32,
-                    ));
+                    return Err(frame_descriptor::unsound_frame(found, at as u32));
                 }
                 return outcome(available, padding);
             }
@@ -259,23 +248,19 @@ pub fn scan_for_availability(
     partition: i32,
     offset: i32,
     maximum: i32,
-) -> AvailabilityScanned
+) -> Result<i64, Error>
     ensures { result ≡ availability_of rec log.now partition offset maximum }
 {
     let p = argument::place(rec, partition, offset);
     let most = argument::natural(maximum);
-    match argument::first_rows(argument::good_place(p), p.read, log.len()) {
-        Verdict::Refuse(e) => AvailabilityScanned::Refused(e),
-        Verdict::Pass => {
-            let term = p.read.term;
-            let at = p.offset;
-            available_frames(
-                log,
-                p.partition * term,
-                term,
-                at,
-                bit_utils::at_most(most, term - at),
-            )
-        }
-    }
+    argument::first_rows(argument::good_place(p), p.read, log.len())?;
+    let term = p.read.term;
+    let at = p.offset;
+    available_frames(
+        log,
+        p.partition * term,
+        term,
+        at,
+        bit_utils::at_most(most, term - at),
+    )
 }

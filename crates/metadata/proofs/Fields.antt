@@ -1,6 +1,6 @@
 -- A number laid in its field and read back, and a field's bytes that are those of the number in it.
 -- Cases is named here, so that the checker meets a wrong definition first in a fact about it.
-use mathlib.Core.Path.{◌≡◌, sym, ap, ap₂, ◌∙◌}
+use mathlib.Core.Path.{◌≡◌, refl, sym, ap, ap₂, ◌∙◌}
 use Prim.Native.Nat.{ℕ, ◌+◌, ◌*◌, ◌/◌, ◌%◌, ◌≤◌, ◌<◌}
 use mathlib.Core.List.{List, [], ◌∷◌, ◌++◌}
 use native.Mathlib.Omega.{arith}
@@ -10,6 +10,8 @@ use lib.Seq.{take-add, get_or-drop}
 use mir.Facts.{to_z-of_z, of_z-to_z}
 use mir.Syntax.{w32, w64}
 use mir.Val.{Fits, SFits, to_z, of_z}
+use Rattle.std.specs.Int.{to_le_bytes, from_le_bytes}
+use Rattle.logbuffer.proofs.Bytes.{word_at, long-at}
 use Rattle.model.specs.Bytes.{le4, le8, u32, u64, i32, i64, word, long}
 use Rattle.model.proofs.Fields.{u32-le4, u64-le8}
 use Rattle.metadata.proofs.Cases as Cases
@@ -36,6 +38,33 @@ kept4 p f = to_z-of_z f ∙ p
 
 pub kept8 : {z e : ℤ} → z ≡ e → SFits w64 z → to_z w64 (of_z w64 z) ≡ e
 kept8 p f = to_z-of_z f ∙ p
+
+-- ---- a number's bytes as the library has them
+
+pub bytes4 : (n : ℕ) → to_le_bytes w32 n ≡ le4 n
+unfolding le4
+bytes4 n = refl
+
+pub bytes8 : (n : ℕ) → to_le_bytes w64 n ≡ le8 n
+unfolding le8 le4
+bytes8 n =
+    let e1 : n / 4294967296 / 256 ≡ n / 1099511627776 = omega arith in
+    let e2 : n / 4294967296 / 65536 ≡ n / 281474976710656 = omega arith in
+    let e3 : n / 4294967296 / 16777216 ≡ n / 72057594037927936 = omega arith in
+    rw (e1, e2, e3)
+
+pub word-bytes : (s : List ℕ) (at : ℕ)
+    → from_le_bytes w32 (get_or s at 0 ∷ get_or s (at + 1) 0 ∷ get_or s (at + 2) 0 ∷ get_or s (at + 3) 0 ∷ []) ≡ u32 (drop at s)
+word-bytes s at = omega (arith, word_at s at)
+
+pub long-bytes : (s : List ℕ) (at : ℕ)
+    → from_le_bytes w64 (get_or s at 0 ∷ get_or s (at + 1) 0 ∷ get_or s (at + 2) 0 ∷ get_or s (at + 3) 0 ∷ get_or s (at + 4) 0 ∷ get_or s (at + 5) 0 ∷ get_or s (at + 6) 0 ∷ get_or s (at + 7) 0 ∷ []) ≡ u64 (drop at s)
+long-bytes s at =
+    let e1 : at + 4 + 1 ≡ at + 5 = omega arith in
+    let e2 : at + 4 + 2 ≡ at + 6 = omega arith in
+    let e3 : at + 4 + 3 ≡ at + 7 = omega arith in
+    let h = rw (e1, e2, e3) at (word_at s (at + 4)) in
+    omega (arith, long-at s at, word_at s at, h)
 
 -- ---- the bytes of a field
 

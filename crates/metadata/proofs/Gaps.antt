@@ -1,18 +1,18 @@
--- Bytes of 0: what `zero_from` says of each of them, and how a loop lays them.
+-- Bytes of 0: what `zero_from` says of each of them.
 -- Cases is named here, so that the checker meets a wrong definition first in a fact about it.
+use Rattle.std.specs.Prelude.{◌↔◌, IsTrue, EachIndex, slice_index}
 use mathlib.Core.Path.{◌≡◌, refl, sym, ap, ap₂, ◌∙◌}
-use Prim.Native.Nat.{ℕ, zero, suc, ◌+◌, ◌≤◌, ◌<◌}
-use mathlib.Core.Bool.{true, false}
-use mathlib.Core.List.{List, ◌∷◌, ◌++◌}
+use Prim.Native.Nat.{ℕ, zero, suc, ◌+◌, ◌-◌, ◌≤◌, ◌<◌}
+use mathlib.Core.Bool.{Bool, true, false}
+use mathlib.Core.List.{List, ◌∷◌}
 use native.Mathlib.Omega.{arith}
 use native.Mathlib.Numerals.{add-one}
 use borrow.Author.Tests.{eq-eqb, eqb-true, eqb-false}
 use lib.Dec.{eqb}
-use lib.ListN.{length, take, drop, get_or, set, take-append-drop}
-use lib.Seq.{set_split, drop-cons}
-use Rattle.model.specs.Bytes.{zeros, splice}
+use lib.ListN.{length, take, drop, get_or, length-drop}
+use lib.Seq.{drop-cons, get_or-take, get_or-drop, length-take-le}
+use Rattle.model.specs.Bytes.{zeros}
 use Rattle.model.proofs.Both.{and-true, both_true, test}
-use Rattle.model.proofs.Splice.{length-splice, length-zeros, splice-more, zeros-add}
 use Rattle.metadata.specs.Metadata.{zero_from}
 use Rattle.metadata.proofs.Cases as Cases
 
@@ -33,14 +33,22 @@ zero-each (suc n) s at h j l u =
     (λ q. ap (λ (i : ℕ). get_or s i 0) (eqb-true j at q) ∙ eqb-true (get_or s at 0) 0 p.0)
     (λ q. zero-each n s (at + 1) p.1 j (omega (arith, eqb-false j at q)) (omega arith))
 
--- one that is not 0 decides
-pub zero-not : (n : ℕ) (s : List ℕ) (at j : ℕ) → at ≤ j → j < at + n → (get_or s j 0 ≡ 0 → ⊥) → zero_from n s at ≡ false
-zero-not n s at j l u h = test (zero_from n s at) (λ q. absurd (h (zero-each n s at q j l u))) (λ q. q)
+-- a test of each byte of the part decides
+pub zero-part : (n : ℕ) (s : List ℕ) (at m : ℕ) (b : Bool) → m ≡ n → at + n ≤ length s
+    → IsTrue b ↔ EachIndex (take m (drop at s)) (λ k. slice_index (take m (drop at s)) k ≡ 0) → b ≡ zero_from n s at
+zero-part n s at m b e l h = go b h
+  where
+    at-index : (k : ℕ) → k < n → get_or (take m (drop at s)) k 0 ≡ get_or s (at + k) 0
+    at-index k q = get_or-take m (drop at s) k 0 (omega arith) ∙ get_or-drop at s k 0
 
--- and one that is 0 leaves the next
-pub one_on : (s : List ℕ) (at i : ℕ) → ((j : ℕ) → at ≤ j → j < at + i → get_or s j 0 ≡ 0) → get_or s (at + i) 0 ≡ 0 → (j : ℕ) → at ≤ j → j < at + (i + 1) → get_or s j 0 ≡ 0
-one_on s at i h e j l u =
-    test (eqb j (at + i)) (λ q. ap (λ (k : ℕ). get_or s k 0) (eqb-true j (at + i) q) ∙ e) (λ q. h j l (omega (arith, eqb-false j (at + i) q)))
+    size : length (take m (drop at s)) ≡ n
+    size = length-take-le m (drop at s) (omega (arith, length-drop at s)) ∙ e
+
+    go : (b : Bool) → IsTrue b ↔ EachIndex (take m (drop at s)) (λ k. slice_index (take m (drop at s)) k ≡ 0) → b ≡ zero_from n s at
+    go true g = sym (zero-all n s at (λ j low up.
+        let i : at + (j - at) ≡ j = omega arith in
+        ap (λ (x : ℕ). get_or s x 0) (sym i) ∙ sym (at-index (j - at) (omega arith)) ∙ g.0 refl (j - at) (omega (arith, size))))
+    go false g = sym (test (zero_from n s at) (λ q. absurd (let f : IsTrue false = g.1 (λ k d. at-index k (omega (arith, size)) ∙ zero-each n s at q (at + k) (omega arith) (omega (arith, size))) in cc)) (λ q. q))
 
 -- as bytes
 pub zero-bytes : (n : ℕ) (s : List ℕ) (at : ℕ) → at + n ≤ length s → zero_from n s at ≡ true → zeros n ≡ take n (drop at s)
@@ -50,23 +58,3 @@ zero-bytes (suc n) s at l h =
     let p = and-true (eqb (get_or s at 0) 0) (zero_from n s (at + 1)) h in
     ap₂ (λ (x : ℕ) (y : List ℕ). x ∷ y) (sym (eqb-true (get_or s at 0) 0 p.0)) (zero-bytes n s (at + 1) (omega arith) p.1 ∙ ap (λ (i : ℕ). take n (drop i s)) (add-one at))
     ∙ sym (ap (take (suc n)) (drop-cons s at 0 (omega arith)))
-
--- ---- laid
-
-one_set : (l : List ℕ) (i : ℕ) → i < length l → set l i 0 ≡ splice l i (zeros 1)
-unfolding splice zeros
-one_set l i h = set_split l i 0 h ∙ ap (λ (j : ℕ). take i l ++ (0 ∷ drop j l)) (sym (add-one i))
-
-pub none-laid : (l : List ℕ) (at : ℕ) → l ≡ splice l at (zeros 0)
-unfolding splice zeros
-none-laid l at = sym (ap (λ (j : ℕ). take at l ++ drop j l) e ∙ take-append-drop at l)
-  where
-    e : at + 0 ≡ at
-    e = omega arith
-
-pub one_more : (l : List ℕ) (at i : ℕ) → at + i < length l → set (splice l at (zeros i)) (at + i) 0 ≡ splice l at (zeros (i + 1))
-one_more l at i h =
-    let z : length (zeros i) ≡ i = length-zeros i in
-    one_set (splice l at (zeros i)) (at + i) (omega (arith, length-splice l at (zeros i) (omega arith)))
-    ∙ splice-more l at (zeros i) (zeros 1) (at + i) (omega arith) (omega arith)
-    ∙ ap (splice l at) (zeros-add i 1)

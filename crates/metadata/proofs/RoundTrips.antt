@@ -1,4 +1,6 @@
 -- The round trips of the two calls, and that refusals leave the output as it was.
+use Rattle.std.specs.Prelude.{Result, Ok, Err, ⊤}
+use Rattle.metadata.specs.declared.MetadataError.{MetadataError}
 use mathlib.Core.Path.{◌≡◌, refl, sym, ap, ◌∙◌}
 use Prim.Native.Nat.{ℕ, ◌<◌}
 use mathlib.Core.Bool.{Bool, true, false}
@@ -13,8 +15,6 @@ use Rattle.model.specs.declared.LogRecord.{LogRecord}
 use Rattle.model.specs.Bytes.{le4, le8, u32, u64, zeros}
 use Rattle.model.specs.LogBufferDescriptor.{reading, sound_record, tail_of}
 use Rattle.metadata.specs.declared.Beside.{Beside}
-use Rattle.metadata.specs.declared.MetadataAnswer.{MetadataAnswer}
-use Rattle.metadata.specs.declared.MetadataAnswer.TheVariants.{Done, Refused}
 use Rattle.metadata.specs.Metadata.{header_length, counters, connection, ids, lengths, section, tails_from, record_from, beside_of, zero_from, accepted}
 use Rattle.metadata.specs.Calls.{rows, output_by, read_by, write_of, write_bytes, read_of}
 use Rattle.metadata.specs.Theorems.{Fits, WrittenRead, ReadWritten, Untouched}
@@ -26,16 +26,16 @@ use Rattle.metadata.proofs.Acceptance.{Judged, judged}
 
 -- ---- refusals
 
-kept : (a : MetadataAnswer) (new out : List ℕ) → (a ≡ Done → ⊥) → output_by a new out ≡ out
-kept Done new out h = absurd (h refl)
-kept (Refused e) new out h = refl
+kept : (a : Result ⊤ MetadataError) (new out : List ℕ) → (a ≡ Ok tt → ⊥) → output_by a new out ≡ out
+kept (Ok _) new out h = absurd (h refl)
+kept (Err e) new out h = refl
 
 pub untouched : Untouched
 unfolding write_bytes
 untouched r out = kept (write_of r (length out)) (section r) out
 
 -- done means that no row refuses
-went : (good fit sound : Bool) → rows good fit sound ≡ Done → (good ≡ true) × ((fit ≡ true) × (sound ≡ true))
+went : (good fit sound : Bool) → rows good fit sound ≡ Ok tt → (good ≡ true) × ((fit ≡ true) × (sound ≡ true))
 went true true true h = (refl, (refl, refl))
 went true true false h = absurd (let x : ◌≡◌ {A = ℕ} 0 1 = cc in omega arith)
 went true false sound h = absurd (let x : ◌≡◌ {A = ℕ} 0 1 = cc in omega arith)
@@ -74,9 +74,9 @@ written_read r out f h =
     let b = beside_of r in
     let g = no_row (leb (length s) 2147483647) (accepted s) (sound_record (reading (record_from s b)))
     (le-leb (length s) 2147483647 (omega (arith, length-section r))) (section-accepted r) (ap (λ (x : LogRecord). sound_record (reading x)) (record-back r f) ∙ w.1.1) in
-    ap (λ (x : MetadataAnswer). read_of (output_by x s out) b) h
-    ∙ ap (λ (x : MetadataAnswer). read_by x (record_from s b)) g
-    ∙ ap (λ (x : LogRecord). read_by Done x) (record-back r f)
+    ap (λ (x : Result ⊤ MetadataError). read_of (output_by x s out) b) h
+    ∙ ap (λ (x : Result ⊤ MetadataError). read_by x (record_from s b)) g
+    ∙ ap (λ (x : LogRecord). read_by (Ok tt) x) (record-back r f)
 
 -- ---- bytes read, and written
 
@@ -118,9 +118,9 @@ module _ (s : List ℕ) (b : Beside) (bytes : (i : ℕ) → get_or s i 0 < 256) 
   section-back = joined 128 192 0 s counters-back (joined 128 64 128 s connection-back (joined 16 48 256 s ids-back lengths-back)) ∙ take_all 320 s (omega (arith, j.size))
 
 -- a record was read where no row refuses
-found : (a : MetadataAnswer) (x : LogRecord) → (read_by a x).answer ≡ Done → a ≡ Done
-found Done x h = refl
-found (Refused e) x h = h
+found : (a : Result ⊤ MetadataError) (x : LogRecord) → (read_by a x).answer ≡ Ok tt → a ≡ Ok tt
+found (Ok _) x h = refl
+found (Err e) x h = h
 
 beside_back : (s : List ℕ) (b : Beside) → beside_of (record_from s b) ≡ b
 unfolding beside_of record_from
@@ -131,14 +131,14 @@ unfolding write_of write_bytes read_of
 read-written s b out bytes h l =
     let x = record_from s b in
     let a = rows (leb (length s) 2147483647) (accepted s) (sound_record (reading x)) in
-    let q : a ≡ Done = found a x h in
-    let n : (read_by a x).next ≡ x = ap (λ (y : MetadataAnswer). (read_by y x).next) q in
+    let q : a ≡ (Ok tt) = found a x h in
+    let n : (read_by a x).next ≡ x = ap (λ (y : Result ⊤ MetadataError). (read_by y x).next) q in
     let w = went (leb (length s) 2147483647) (accepted s) (sound_record (reading x)) q in
     let d = no_row (leb (length out) 2147483647) (eqb (length out) 320) (sound_record (reading (read_by a x).next))
     (le-leb (length out) 2147483647 (omega arith)) (eq-eqb (length out) 320 l) (ap (λ (y : LogRecord). sound_record (reading y)) n ∙ w.1.1) in (
       d,
       (
-        ap (λ (y : MetadataAnswer). output_by y (section (read_by a x).next) out) d ∙ ap section n ∙ section-back s b bytes w.1.0,
+        ap (λ (y : Result ⊤ MetadataError). output_by y (section (read_by a x).next) out) d ∙ ap section n ∙ section-back s b bytes w.1.0,
         ap beside_of n ∙ beside_back s b,
       ),
     )

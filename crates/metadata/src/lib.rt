@@ -5,33 +5,29 @@
 mod bytes;
 mod section;
 
-ghost use Rattle.std.specs.Prelude.{◌≡◌, length};
+ghost use Rattle.std.specs.Prelude.{◌≡◌, length, Err};
 ghost use Rattle.metadata.specs.Calls.{error_number, read_by, write_of, write_bytes, read_of};
-ghost use Rattle.metadata.specs.declared.MetadataAnswer.TheVariants.{Refused};
 ghost use Rattle.model.specs.Publication.{no_record};
 
 use logbuffer::log_buffer_descriptor;
 use model::LogRecord;
 
 // IllegalMetadata: another size than 320, a byte that is not 0 where no field is, or another header length than 32.
-#[derive(Clone, Copy)]
+#[derive(Clone, Copy, Debug, PartialEq, Eq, thiserror::Error)]
 pub enum MetadataError {
+    #[error("an argument is out of its range")]
     IllegalArgument,
+    #[error("the record or the log breaks its ranges")]
     IllegalRecord,
+    #[error("no metadata section: another size than 320, a byte that is not 0 where no field is, or another header length than 32")]
     IllegalMetadata,
-}
-
-#[derive(Clone, Copy)]
-pub enum MetadataAnswer {
-    Done,
-    Refused(MetadataError),
 }
 
 // The record that was read. Where reading was refused, it is one of zeros, which every call refuses.
 #[derive(Clone, Copy)]
 pub struct MetadataReply {
     pub next: LogRecord,
-    pub answer: MetadataAnswer,
+    pub answer: Result<(), MetadataError>,
 }
 
 // What a record holds beside the section's fields: whoever reads a section gives it.
@@ -57,30 +53,30 @@ pub fn error_number(error: MetadataError) -> i32
 }
 
 // The section of a record, into an output of 320 bytes. Refuses 1, 25, 2, and leaves the output as it was then.
-pub fn write_metadata(rec: LogRecord, output: &mut [u8]) -> MetadataAnswer
+pub fn write_metadata(rec: LogRecord, output: &mut [u8]) -> Result<(), MetadataError>
     ensures value { result ≡ write_of rec (length output.old) }
     ensures output_after { output.new ≡ write_bytes rec output.old }
 {
     if output.len() > 2147483647 {
-        return MetadataAnswer::Refused(MetadataError::IllegalArgument);
+        return Err(MetadataError::IllegalArgument);
     }
     if output.len() != section::METADATA_LENGTH {
-        return MetadataAnswer::Refused(MetadataError::IllegalMetadata);
+        return Err(MetadataError::IllegalMetadata);
     }
     let v = log_buffer_descriptor::read_active(rec);
     if !log_buffer_descriptor::is_sound_record(v) {
-        return MetadataAnswer::Refused(MetadataError::IllegalRecord);
+        return Err(MetadataError::IllegalRecord);
     }
     section::put(rec, output);
-    MetadataAnswer::Done
+    Ok(())
 }
 
 fn refused(error: MetadataError) -> MetadataReply
-    ensures { result ≡ read_by (Refused error) no_record }
+    ensures { result ≡ read_by (Err error) no_record }
 {
     MetadataReply {
-        next: section::no_record(),
-        answer: MetadataAnswer::Refused(error),
+        next: log_buffer_descriptor::no_record(),
+        answer: Err(error),
     }
 }
 
@@ -101,6 +97,6 @@ pub fn read_metadata(bytes: &[u8], beside: Beside) -> MetadataReply
     }
     MetadataReply {
         next: rec,
-        answer: MetadataAnswer::Done,
+        answer: Ok(()),
     }
 }

@@ -2,7 +2,6 @@
 ghost use Rattle.std.specs.Prelude.{◌≡◌, length};
 ghost use Rattle.model.specs.Bytes.{splice};
 ghost use Rattle.metadata.specs.Metadata.{counters, connection, ids, lengths, section, accepted, tails_from, record_from};
-ghost use Rattle.model.specs.Publication.{no_record};
 
 use crate::{Beside, bytes};
 use logbuffer::data_frame_header::HEADER_LENGTH;
@@ -79,7 +78,11 @@ fn put_ids(rec: LogRecord, out: &mut [u8])
 {
     bytes::put_i64(out, LOG_CORRELATION_ID_OFFSET, rec.correlation_id);
     bytes::put_i32(out, LOG_INITIAL_TERM_ID_OFFSET, rec.initial_term_id);
-    bytes::put4(out, LOG_DEFAULT_FRAME_HEADER_LENGTH_OFFSET, HEADER_LENGTH);
+    bytes::put_i32(
+        out,
+        LOG_DEFAULT_FRAME_HEADER_LENGTH_OFFSET,
+        HEADER_LENGTH as i32,
+    );
 }
 
 fn put_lengths(rec: LogRecord, out: &mut [u8])
@@ -105,32 +108,26 @@ pub(crate) fn put(rec: LogRecord, out: &mut [u8])
 // ---- read
 
 // Its size, the zeros, and the header length.
+#[tactic(auto, unfolding(crate::specs::Metadata::accepted))]
 pub(crate) fn accepts(s: &[u8]) -> bool
     ensures { result ≡ accepted s.now }
 {
-    if s.len() != METADATA_LENGTH {
-        return false;
-    }
-    if !bytes::is_zero(s, PAD1_OFFSET, PAD1_LENGTH) {
-        return false;
-    }
-    if !bytes::is_zero(s, PAD2_OFFSET, PAD2_LENGTH) {
-        return false;
-    }
-    if !bytes::is_zero(s, PAD3_OFFSET, PAD3_LENGTH) {
-        return false;
-    }
-    bytes::word4(s, LOG_DEFAULT_FRAME_HEADER_LENGTH_OFFSET) == HEADER_LENGTH
+    s.len() == METADATA_LENGTH
+        && bytes::is_zero(s, PAD1_OFFSET, PAD1_LENGTH)
+        && bytes::is_zero(s, PAD2_OFFSET, PAD2_LENGTH)
+        && bytes::is_zero(s, PAD3_OFFSET, PAD3_LENGTH)
+        && bytes::get_u32(s, LOG_DEFAULT_FRAME_HEADER_LENGTH_OFFSET) as usize == HEADER_LENGTH
 }
 
 fn tails_from(s: &[u8]) -> [i64; 3]
     requires { length s.now ≡ 320 }
     ensures { result ≡ tails_from s.now }
 {
-    let first = bytes::get_i64(s, TERM_TAIL_COUNTER_OFFSET);
-    let second = bytes::get_i64(s, TERM_TAIL_COUNTER_OFFSET + 8);
-    let third = bytes::get_i64(s, TERM_TAIL_COUNTER_OFFSET + 16);
-    [first, second, third]
+    [
+        bytes::get_i64(s, TERM_TAIL_COUNTER_OFFSET),
+        bytes::get_i64(s, TERM_TAIL_COUNTER_OFFSET + 8),
+        bytes::get_i64(s, TERM_TAIL_COUNTER_OFFSET + 16),
+    ]
 }
 
 pub(crate) fn record_from(s: &[u8], beside: Beside) -> LogRecord
@@ -155,29 +152,5 @@ pub(crate) fn record_from(s: &[u8], beside: Beside) -> LogRecord
         active_transport_count: bytes::get_i32(s, LOG_ACTIVE_TRANSPORT_COUNT),
         correlation_id: bytes::get_i64(s, LOG_CORRELATION_ID_OFFSET),
         page_size: bytes::get_i32(s, LOG_PAGE_SIZE_OFFSET),
-    }
-}
-
-// What a refused reading answers.
-pub(crate) fn no_record() -> LogRecord
-    ensures { result ≡ no_record }
-{
-    LogRecord {
-        tails: [0, 0, 0],
-        active_term_count: 0,
-        initial_term_id: 0,
-        term_length: 0,
-        mtu_length: 0,
-        session_id: 0,
-        stream_id: 0,
-        is_connected: 0,
-        publication_limit: 0,
-        end_of_stream_position: 0,
-        is_closed: false,
-        slowest_position: 0,
-        is_cleared: [false, false, false],
-        active_transport_count: 0,
-        correlation_id: 0,
-        page_size: 0,
     }
 }

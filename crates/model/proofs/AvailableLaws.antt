@@ -1,4 +1,6 @@
 -- `scan_for_availability`, turn by turn. `Availing` is what its loop keeps, with the fuel hidden.
+use Rattle.std.specs.Prelude.{Result, Ok, Err, ℤ}
+use Rattle.model.specs.declared.Error.{Error}
 use mathlib.Core.Path.{◌≡◌, refl, sym, ap, ◌∙◌}
 use mathlib.Core.Logic.{◌⊎◌, inl, inr, ⊎_elim}
 use mathlib.Core.Bool.{Bool, true, false, cond}
@@ -8,18 +10,15 @@ use native.Mathlib.Omega.{arith}
 use borrow.Author.Tests.{le-leb, lt-leb, lt-ltb, le-ltb}
 use lib.ListN.{drop}
 use lib.IntN.{pos}
-use Rattle.model.specs.declared.Verdict.TheVariants.{Pass, Refuse}
 use Rattle.model.specs.declared.Frame.{Frame}
 use Rattle.model.specs.declared.Frame.TheVariants.{Absent, Unsound}
-use Rattle.model.specs.declared.AvailabilityScanned.{AvailabilityScanned}
-use Rattle.model.specs.declared.AvailabilityScanned.TheVariants.{Outcome, Refused}
 use Rattle.model.specs.FrameDescriptor.{frame_at, is_unsound, unsound_frame, unsound_frame_at}
 use Rattle.model.specs.TermScan.{Available, counted, available_over, available_from, availability_by}
 use Rattle.model.proofs.FrameLaws.{unsound-refusal}
 
 -- the two numbers as one
-abbrev pub outcome : ℕ → ℕ → AvailabilityScanned
-outcome available padding = Outcome (pos (padding * 4294967296 + available))
+abbrev pub outcome : ℕ → ℕ → Result ℤ Error
+outcome available padding = Ok (pos (padding * 4294967296 + available))
 
 module _ (log : List ℕ) (base term at most : ℕ) where
   abbrev seen : ℕ → Frame
@@ -32,8 +31,8 @@ module _ (log : List ℕ) (base term at most : ℕ) where
   abbrev first : Bool
   first = is_unsound (frame_at (drop (base + at) log) (term - at))
 
-  abbrev answer : AvailabilityScanned
-  answer = availability_by whole (cond first (Refuse (unsound_frame_at log base at)) Pass)
+  abbrev answer : Result ℤ Error
+  answer = availability_by whole (cond first (Err (unsound_frame_at log base at)) (Ok tt))
 
   pub record Availing (available padding : ℕ) : Type 0 where
     pub fuel : ℕ
@@ -57,7 +56,7 @@ module _ (log : List ℕ) (base term at most : ℕ) where
 
   comes : (available padding : ℕ) → whole ≡ record { available = available; padding = padding } → first ≡ false → outcome available padding ≡ answer
   comes available padding e f =
-      ap (λ (w : Available). availability_by w Pass) (sym e) ∙ ap (λ (b : Bool). availability_by whole (cond b (Refuse (unsound_frame_at log base at)) Pass)) (sym f)
+      ap (λ (w : Available). availability_by w (Ok tt)) (sym e) ∙ ap (λ (b : Bool). availability_by whole (cond b (Err (unsound_frame_at log base at)) (Ok tt))) (sym f)
 
   turn : (f available padding : ℕ) (g : Availing available padding) (x : Frame) → g.fuel ≡ f → seen available ≡ x
       → whole ≡ available_over x available padding most (λ a p. available_from (f - 1) log base term at most a p)
@@ -76,12 +75,12 @@ module _ (log : List ℕ) (base term at most : ℕ) where
   available-unsound available padding m g e n =
       comes available padding (turn g.fuel available padding g (Unsound m) refl e) (⊎_elim (λ (p : available ≡ 0). absurd (n p)) (λ (f : first ≡ false). f) g.begun)
 
-  pub available-first : (available m : ℕ) → available ≡ 0 → seen available ≡ Unsound m → Refused (unsound_frame m at) ≡ answer
+  pub available-first : (available m : ℕ) → available ≡ 0 → seen available ≡ Unsound m → Err (unsound_frame m at) ≡ answer
   available-first available m p e =
       let f : first ≡ true = sym (seen_first available p) ∙ ap is_unsound e in
       let o : at + available ≡ at = omega arith in
       let q : frame_at (drop (base + at) log) (term - at) ≡ Unsound m = ap (λ (x : ℕ). frame_at (drop (base + x) log) (term - x)) (sym o) ∙ e in
-      ap Refused (unsound-refusal log base term at m q) ∙ sym (ap (λ (b : Bool). availability_by whole (cond b (Refuse (unsound_frame_at log base at)) Pass)) f)
+      ap Err (unsound-refusal log base term at m q) ∙ sym (ap (λ (b : Bool). availability_by whole (cond b (Err (unsound_frame_at log base at)) (Ok tt))) f)
 
   -- a frame of which `size` bytes count, with `pad` of padding behind them
   module _ (available padding size pad : ℕ) (g : Availing available padding) (x : Frame) (e : seen available ≡ x) (u : is_unsound x ≡ false)

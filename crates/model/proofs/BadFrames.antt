@@ -1,4 +1,5 @@
 -- The theorems of specs/BadFrames.antt: each ladder is the old one, rung by rung, and its last rung says 22 or 23 for 17.
+use Rattle.std.specs.Prelude.{Result, Ok, Err, ⊤}
 use mathlib.Core.Path.{◌≡◌, refl, sym, ap, ◌∙◌}
 use mathlib.Core.Logic.{◌⊎◌, inl, inr}
 use mathlib.Core.Bool.{Bool, true, false, cond, ◌&&◌, ◌||◌, not}
@@ -12,15 +13,12 @@ use Rattle.model.specs.declared.LogRecord.{LogRecord}
 use Rattle.model.specs.declared.Reading.{Reading}
 use Rattle.model.specs.declared.Error.{Error}
 use Rattle.model.specs.declared.Error.TheVariants.{IllegalArgument, IllegalRecord, PositionOutOfRange, NewPositionOutOfRange, NewPositionNotAligned, FrameTooShort, FramePastTerm}
-use Rattle.model.specs.declared.Verdict.{Verdict}
-use Rattle.model.specs.declared.Verdict.TheVariants.{Refuse}
 use Rattle.model.specs.declared.ReadVerdict.{ReadVerdict}
-use Rattle.model.specs.declared.ReadVerdict.TheVariants.{Read, Closed, Refuse as ReadRefuse}
+use Rattle.model.specs.declared.ReadVerdict.TheVariants.{Read, Closed}
 use Rattle.model.specs.declared.Polled.{Polled}
-use Rattle.model.specs.declared.Polled.TheVariants.{Fragments, Refused as PollRefused}
 use Rattle.model.specs.declared.Assembled.{Assembled}
-use Rattle.model.specs.declared.Assembled.TheVariants.{Nothing, Fragment, Message, Refused as AssemblyRefused}
-use Rattle.model.specs.declared.Replayed.TheVariants.{End, Refused as ReplayRefused}
+use Rattle.model.specs.declared.Assembled.TheVariants.{Nothing, Fragment, Message}
+use Rattle.model.specs.declared.Replayed.TheVariants.{End}
 use Rattle.model.specs.Bytes.{word, long}
 use Rattle.model.specs.Answers.{Told, refused, scanned_told, gap_told, availability_told, read_told, frames_told, assembled_told}
 use Rattle.model.specs.DataFrameHeader.{header_at}
@@ -36,11 +34,11 @@ use Rattle.model.proofs.Anchors as Anchors
 use Rattle.model.proofs.Choice.{le_yes}
 
 -- the old verdict, with a refusal in the place of 17
-abbrev with17 : Error → Before → ReadVerdict
-with17 e passed = Read
-with17 e shut = Closed
-with17 e seventeen = ReadRefuse e
-with17 e (refused_by x) = ReadRefuse x
+abbrev with17 : Error → Before → Result ReadVerdict Error
+with17 e passed = Ok Read
+with17 e shut = Ok Closed
+with17 e seventeen = Err e
+with17 e (refused_by x) = Err x
 
 -- ---- the ladders, over what their tests say
 
@@ -50,18 +48,18 @@ rows-now true false u e = refl
 rows-now true true true e = refl
 rows-now true true false e = refl
 
-frames-now : (good unsound : Bool) (e : Error) → cond good (frame_row unsound e) (Refuse IllegalArgument) ≡ as_verdict (with17 e (cond good (row17 unsound) (refused_by IllegalArgument)))
+frames-now : (good unsound : Bool) (e : Error) → cond good (frame_row unsound e) (Err IllegalArgument) ≡ as_verdict (with17 e (cond good (row17 unsound) (refused_by IllegalArgument)))
 frames-now false u e = refl
 frames-now true true e = refl
 frames-now true false e = refl
 
-first-now : (unsound : Bool) (e : Error) → refuse_if unsound e Read ≡ with17 e (row17 unsound)
+first-now : (unsound : Bool) (e : Error) → refuse_if unsound e (Ok Read) ≡ with17 e (row17 unsound)
 first-now true e = refl
 first-now false e = refl
 
 -- the rungs before it, and the rest
-four : (a b c d : Bool) (e : Error) (new : ReadVerdict) (old : Before) → new ≡ with17 e old
-    → refuse_if a IllegalArgument (refuse_if b IllegalRecord (cond c Closed (refuse_if d PositionOutOfRange new)))
+four : (a b c d : Bool) (e : Error) (new : Result ReadVerdict Error) (old : Before) → new ≡ with17 e old
+    → refuse_if a IllegalArgument (refuse_if b IllegalRecord (cond c (Ok Closed) (refuse_if d PositionOutOfRange new)))
     ≡ with17 e (cond a (refused_by IllegalArgument) (cond b (refused_by IllegalRecord) (cond c shut (cond d (refused_by PositionOutOfRange) old))))
 four true b c d e new old h = refl
 four false true c d e new old h = refl
@@ -69,18 +67,18 @@ four false false true d e new old h = refl
 four false false false true e new old h = refl
 four false false false false e new old h = h
 
-two : (a b : Bool) (e : Error) (new : ReadVerdict) (old : Before) → new ≡ with17 e old
+two : (a b : Bool) (e : Error) (new : Result ReadVerdict Error) (old : Before) → new ≡ with17 e old
     → refuse_if a NewPositionOutOfRange (refuse_if b NewPositionNotAligned new) ≡ with17 e (cond a (refused_by NewPositionOutOfRange) (cond b (refused_by NewPositionNotAligned) old))
 two true b e new old h = refl
 two false true e new old h = refl
 two false false e new old h = h
 
-readable-now : (good : Bool) (v : Reading) (n : ℕ) (i : Image) (e : Error) (new : ReadVerdict) (old : Before) → new ≡ with17 e old
+readable-now : (good : Bool) (v : Reading) (n : ℕ) (i : Image) (e : Error) (new : Result ReadVerdict Error) (old : Before) → new ≡ with17 e old
     → readable good v n i new ≡ with17 e (readable_before good v n i old)
 unfolding readable
 readable-now good v n i e new old h = four (not good) (not (sound v n)) i.closed (not (good_position v (long i.position))) e new old h
 
-reachable-now : (v : Reading) (current new : ℕ) (e : Error) (x : ReadVerdict) (old : Before) → x ≡ with17 e old → reachable v current new x ≡ with17 e (reachable_before v current new old)
+reachable-now : (v : Reading) (current new : ℕ) (e : Error) (x : Result ReadVerdict Error) (old : Before) → x ≡ with17 e old → reachable v current new x ≡ with17 e (reachable_before v current new old)
 unfolding reachable
 reachable-now v current new e x old h = two (ltb new current || ltb (current - current % v.term + v.term) new) (not (eqb (new % 32) 0)) e x old h
 
@@ -100,14 +98,14 @@ place-told n place = go (ltb n 32)
     go true = refl
     go false = refl
 
-said : (by : ReadVerdict → Told) (n place : ℕ) → ((e : Error) → by (ReadRefuse e) ≡ refused e) → (x : Before) → by (with17 (unsound_frame n place) x) ≡ saying (in_place_of17 n place) by x
+said : (by : Result ReadVerdict Error → Told) (n place : ℕ) → ((e : Error) → by (Err e) ≡ refused e) → (x : Before) → by (with17 (unsound_frame n place) x) ≡ saying (in_place_of17 n place) by x
 said by n place h passed = refl
 said by n place h shut = refl
 said by n place h seventeen = h (unsound_frame n place) ∙ place-told n place
 said by n place h (refused_by e) = h e
 
 -- one call: its verdict is the old one with 17 replaced, and it answers by it
-answers : (r : LogRecord) (log : List ℕ) (c : Reads) → ((e : Error) → answer_by r log c (ReadRefuse e) ≡ refused e)
+answers : (r : LogRecord) (log : List ℕ) (c : Reads) → ((e : Error) → answer_by r log c (Err e) ≡ refused e)
     → answer_now r log c ≡ answer_by r log c (with17 (unsound_frame_at log (base_met r c) (place_met r c)) (before r log c))
     → answer_now r log c ≡ saying (in_place_of17 (header_at (drop (base_met r c + place_met r c) log)).length (place_met r c)) (answer_by r log c) (before r log c)
 answers r log c h e = e ∙ said (answer_by r log c) (header_at (drop (base_met r c + place_met r c) log)).length (place_met r c) h (before r log c)
@@ -116,20 +114,20 @@ pub bad-frames : BadFrames
 unfolding BadFrames frames_of frames_verdict read_of read_verdict scan_of scan_judge scan_verdict gap_of gap_judge availability_of availability_judge poll_of bounded_poll_of controlled_poll_of peek_of peek_verdict block_poll_of assemble_of assemble_verdict
 bad-frames r log (frames base term end at limit acts slots) =
     answers r log (frames base term end at limit acts slots) (λ e. refl)
-    (ap (λ (x : Verdict). frames_told (frames_by (walk term log base term end at limit acts) x)) (frames-now (good_walk (length log) base term end at limit (length slots) && good_handler acts limit) (first_unsound log base term end at limit) (unsound_frame_at log base at)))
+    (ap (λ (x : Result ⊤ Error). frames_told (frames_by (walk term log base term end at limit acts) x)) (frames-now (good_walk (length log) base term end at limit (length slots) && good_handler acts limit) (first_unsound log base term end at limit) (unsound_frame_at log base at)))
 bad-frames r log (read partition offset limit slots) =
     answers r log (read partition offset limit slots) (λ e. refl)
-    (ap (λ (x : Verdict). read_told (read_by (word offset) (read_walk (reading r) log (word partition) (word offset) (natural limit)) x)) (rows-now (good_partition (word partition) && (good_start (word offset) (reading r) && good_entries (length slots) (natural limit))) (sound (reading r) (length log)) (first_unsound log (word partition * (reading r).term) (reading r).term (reading r).term (word offset) (natural limit)) (unsound_frame_at log (word partition * (reading r).term) (word offset))))
+    (ap (λ (x : Result ⊤ Error). read_told (read_by (word offset) (read_walk (reading r) log (word partition) (word offset) (natural limit)) x)) (rows-now (good_partition (word partition) && (good_start (word offset) (reading r) && good_entries (length slots) (natural limit))) (sound (reading r) (length log)) (first_unsound log (word partition * (reading r).term) (reading r).term (reading r).term (word offset) (natural limit)) (unsound_frame_at log (word partition * (reading r).term) (word offset))))
 bad-frames r log (scan partition offset limit) =
     answers r log (scan partition offset limit) (λ e. refl)
-    (ap (λ (x : Verdict). scanned_told (scan_by (scan_from (reading r).term log (word partition * (reading r).term) (reading r).term (natural limit) true (word offset)) x)) (rows-now (good_partition (word partition) && (good_offset (word offset) (reading r) && within_term (natural limit) (reading r))) (sound (reading r) (length log)) (ltb (word offset) (natural limit) && unsound_met r log partition offset) (unsound_frame_at log (word partition * (reading r).term) (word offset))))
+    (ap (λ (x : Result ⊤ Error). scanned_told (scan_by (scan_from (reading r).term log (word partition * (reading r).term) (reading r).term (natural limit) true (word offset)) x)) (rows-now (good_partition (word partition) && (good_offset (word offset) (reading r) && within_term (natural limit) (reading r))) (sound (reading r) (length log)) (ltb (word offset) (natural limit) && unsound_met r log partition offset) (unsound_frame_at log (word partition * (reading r).term) (word offset))))
 bad-frames r log (gap partition id offset high) =
     answers r log (gap partition id offset high) (λ e. refl)
-    (ap (λ (x : Verdict). gap_told (gap_by (gap_at r log (word partition) id (word high) (rebuild (reading r).term log (word partition * (reading r).term) (reading r).term (word high) (word offset))) x))
+    (ap (λ (x : Result ⊤ Error). gap_told (gap_by (gap_at r log (word partition) id (word high) (rebuild (reading r).term log (word partition * (reading r).term) (reading r).term (word high) (word offset))) x))
     (rows-now (good_partition (word partition) && (good_offset (word offset) (reading r) && good_mark high r)) (sound (reading r) (length log)) (unsound_met r log partition offset) (unsound_frame_at log (word partition * (reading r).term) (word offset))))
 bad-frames r log (availability partition offset maximum) =
     answers r log (availability partition offset maximum) (λ e. refl)
-    (ap (λ (x : Verdict). availability_told (availability_by (available_from (reading r).term log (word partition * (reading r).term) (reading r).term (word offset) (min (natural maximum) ((reading r).term - word offset)) 0 0) x))
+    (ap (λ (x : Result ⊤ Error). availability_told (availability_by (available_from (reading r).term log (word partition * (reading r).term) (reading r).term (word offset) (min (natural maximum) ((reading r).term - word offset)) 0 0) x))
     (rows-now (good_partition (word partition) && good_offset (word offset) (reading r)) (sound (reading r) (length log)) (unsound_met r log partition offset) (unsound_frame_at log (word partition * (reading r).term) (word offset))))
 bad-frames r log (poll i slots limit) = answers r log (poll i slots limit) (λ e. refl) (ap (answer_by r log (poll i slots limit)) (poll-now (reading r) log i _ _ _))
 bad-frames r log (bounded_poll i slots bound limit) = answers r log (bounded_poll i slots bound limit) (λ e. refl) (ap (answer_by r log (bounded_poll i slots bound limit)) (poll-now (reading r) log i _ _ _))
@@ -143,38 +141,38 @@ bad-frames r log (peek i slots acts start bound) =
 bad-frames r log (block_poll i limit) = answers r log (block_poll i limit) (λ e. refl) (ap (answer_by r log (block_poll i limit)) (poll-now (reading r) log i true _ 1))
 bad-frames r log (assemble s buffer partition offset) =
     answers r log (assemble s buffer partition offset) (λ e. refl)
-    (ap (λ (x : Verdict). assembled_told (assemble_by s buffer (drop (word partition * (reading r).term + word offset) log) (word offset) x).answer) (rows-now (good_assembly (reading r) log (length buffer) (word partition) (word offset)) (sound (reading r) (length log)) (unsound_length (header_at (drop (word partition * (reading r).term + word offset) log)).length ((reading r).term - word offset)) (unsound_frame_at log (word partition * (reading r).term) (word offset))))
+    (ap (λ (x : Result ⊤ Error). assembled_told (assemble_by s buffer (drop (word partition * (reading r).term + word offset) log) (word offset) x).answer) (rows-now (good_assembly (reading r) log (length buffer) (word partition) (word offset)) (sound (reading r) (length log)) (unsound_length (header_at (drop (word partition * (reading r).term + word offset) log)).length ((reading r).term - word offset)) (unsound_frame_at log (word partition * (reading r).term) (word offset))))
 
 -- ---- replays
 
 module _ (r : LogRecord) (log : List ℕ) (e : Error) where
   abbrev Met : Type 0
-  Met = (t : ReplayState) × (((poll_one r log t.image).answer ≡ PollRefused e) ⊎ ((assemble_one r log t).answer ≡ AssemblyRefused e))
+  Met = (t : ReplayState) × (((poll_one r log t.image).answer ≡ Err e) ⊎ ((assemble_one r log t).answer ≡ Err e))
 
-  met-in : (s t : ReplayState) (base : ℕ) (go : ReplayState → NextReply) → ((u : ReplayState) → (go u).answer ≡ ReplayRefused e → Met) → (a : Assembled) → (assemble_one r log s).answer ≡ a
-      → (given_by base s t a go).answer ≡ ReplayRefused e → Met
-  met-in s t base go ih Nothing q h = ih t h
-  met-in s t base go ih (Fragment at n) q h = absurd (let z : ◌≡◌ {A = ℕ} 0 1 = cc in omega arith)
-  met-in s t base go ih (Message at n) q h = absurd (let z : ◌≡◌ {A = ℕ} 0 1 = cc in omega arith)
-  met-in s t base go ih (AssemblyRefused x) q h = let y : x ≡ e = cc in (s, inr (q ∙ ap AssemblyRefused y))
+  met-in : (s t : ReplayState) (base : ℕ) (go : ReplayState → NextReply) → ((u : ReplayState) → (go u).answer ≡ Err e → Met) → (a : Result Assembled Error) → (assemble_one r log s).answer ≡ a
+      → (given_by base s t a go).answer ≡ Err e → Met
+  met-in s t base go ih (Ok Nothing) q h = ih t h
+  met-in s t base go ih (Ok (Fragment at n)) q h = absurd (let z : ◌≡◌ {A = ℕ} 0 1 = cc in omega arith)
+  met-in s t base go ih (Ok (Message at n)) q h = absurd (let z : ◌≡◌ {A = ℕ} 0 1 = cc in omega arith)
+  met-in s t base go ih (Err x) q h = let y : x ≡ e = cc in (s, inr (q ∙ ap Err y))
 
-  met-turn : (b c : Bool) (s t u : ReplayState) (base : ℕ) (go : ReplayState → NextReply) → ((u : ReplayState) → (go u).answer ≡ ReplayRefused e → Met)
-      → (cond b (cond c (giving s End) (go t)) (given_by base s u (assemble_one r log s).answer go)).answer ≡ ReplayRefused e → Met
+  met-turn : (b c : Bool) (s t u : ReplayState) (base : ℕ) (go : ReplayState → NextReply) → ((u : ReplayState) → (go u).answer ≡ Err e → Met)
+      → (cond b (cond c (giving s (Ok End)) (go t)) (given_by base s u (assemble_one r log s).answer go)).answer ≡ Err e → Met
   met-turn true true s t u base go ih h = absurd (let z : ◌≡◌ {A = ℕ} 0 1 = cc in omega arith)
   met-turn true false s t u base go ih h = ih t h
   met-turn false c s t u base go ih h = met-in s u base go ih (assemble_one r log s).answer refl h
 
-  met-poll : (s : ReplayState) (go : ReplayState → NextReply) → ((u : ReplayState) → (go u).answer ≡ ReplayRefused e → Met) → (x : Polled) → (poll_one r log s.image).answer ≡ x
-      → (turn_by r log s x go).answer ≡ ReplayRefused e → Met
-  met-poll s go ih (PollRefused x) q h = let y : x ≡ e = cc in (s, inl (q ∙ ap PollRefused y))
-  met-poll s go ih (Fragments n m) q h =
-      met-turn (eqb m 0) (eqb (long (poll_one r log s.image).next.position) (long s.image.position)) s _ _ _ go ih h
+  met-poll : (s : ReplayState) (go : ReplayState → NextReply) → ((u : ReplayState) → (go u).answer ≡ Err e → Met) → (x : Result Polled Error) → (poll_one r log s.image).answer ≡ x
+      → (turn_by r log s x go).answer ≡ Err e → Met
+  met-poll s go ih (Err x) q h = let y : x ≡ e = cc in (s, inl (q ∙ ap Err y))
+  met-poll s go ih (Ok polled) q h =
+      met-turn (eqb polled.entries 0) (eqb (long (poll_one r log s.image).next.position) (long s.image.position)) s _ _ _ go ih h
 
-  met-over : (b : Bool) (s : ReplayState) (y : NextReply) → (y.answer ≡ ReplayRefused e → Met) → (cond b (giving s End) y).answer ≡ ReplayRefused e → Met
+  met-over : (b : Bool) (s : ReplayState) (y : NextReply) → (y.answer ≡ Err e → Met) → (cond b (giving s (Ok End)) y).answer ≡ Err e → Met
   met-over true s y f h = absurd (let z : ◌≡◌ {A = ℕ} 0 1 = cc in omega arith)
   met-over false s y f h = f h
 
-  met : (fuel : ℕ) (s : ReplayState) → (next_from fuel r log s).answer ≡ ReplayRefused e → Met
+  met : (fuel : ℕ) (s : ReplayState) → (next_from fuel r log s).answer ≡ Err e → Met
   unfolding next_from
   met zero s h = absurd (let z : ◌≡◌ {A = ℕ} 0 1 = cc in omega arith)
   met (suc fuel) s h =
@@ -183,4 +181,4 @@ module _ (r : LogRecord) (log : List ℕ) (e : Error) where
 pub replays-pass-on : ReplaysPassOn
 unfolding ReplaysPassOn next_of
 replays-pass-on r log s e lent h =
-    met r log e (suc (3 * (reading r).term)) s (ap (λ (y : NextReply). y.answer) (sym (le_yes (length s.buffer) 2147483647 (next_from (suc (3 * (reading r).term)) r log s) (giving s (ReplayRefused IllegalArgument)) lent)) ∙ h)
+    met r log e (suc (3 * (reading r).term)) s (ap (λ (y : NextReply). y.answer) (sym (le_yes (length s.buffer) 2147483647 (next_from (suc (3 * (reading r).term)) r log s) (giving s (Err IllegalArgument)) lent)) ∙ h)

@@ -1,4 +1,6 @@
 -- An accepted call's position is where the stream had come to and what the call takes; from there the blocks follow by arithmetic.
+use Rattle.std.specs.Prelude.{Result, Ok, Err, ⊤}
+use Rattle.model.specs.declared.Error.{Error}
 use mathlib.Core.Path.{◌≡◌, refl, sym, ap, subst, ◌∙◌}
 use Prim.Native.Nat.{ℕ, ◌+◌, ◌-◌, ◌*◌, ◌/◌, ◌%◌, ◌≤◌}
 use mathlib.Core.Bool.{Bool, true, false, cond}
@@ -13,13 +15,7 @@ use Rattle.model.specs.declared.LogRecord.{LogRecord}
 use Rattle.model.specs.declared.Reading.{Reading}
 use Rattle.model.specs.declared.RecordReply.{RecordReply}
 use Rattle.model.specs.declared.Error.TheVariants.{IllegalRecord}
-use Rattle.model.specs.declared.Outcome.TheVariants.{Done, Refused}
-use Rattle.model.specs.declared.Verdict.{Verdict}
-use Rattle.model.specs.declared.Verdict.TheVariants.{Pass, Refuse}
-use Rattle.model.specs.declared.Offered.{Offered}
-use Rattle.model.specs.declared.Offered.TheVariants.{Position as OfferPosition, Refused as OfferRefused}
 use Rattle.model.specs.declared.Claimed.{Claimed}
-use Rattle.model.specs.declared.Claimed.TheVariants.{Position as ClaimPosition, Refused as ClaimRefused}
 use Rattle.model.specs.Bytes.{word, long}
 use Rattle.model.specs.FrameDescriptor.{space}
 use Rattle.model.specs.LogBufferDescriptor.{reading_of, reading, active, payload_limit, greatest, last_term, changed, with_tail, with_count, with_limit, with_closed, next_tail, rotated, id_of, id_plus, tail_of, sound_record, is_ready, with_mark, with_slowest, noted}
@@ -37,13 +33,13 @@ use Rattle.model.proofs.Season as Season
 
 -- ---- what an accepted call takes
 
-abbrev TookOffered : ℕ → ℕ → ℕ → Offered → Type 0
-TookOffered size low high (OfferPosition p) = (p ≡ pos high) × Takes size low high
-TookOffered size low high (OfferRefused e) = Unit {0}
+abbrev TookOffered : ℕ → ℕ → ℕ → Result ℤ Error → Type 0
+TookOffered size low high (Ok p) = (p ≡ pos high) × Takes size low high
+TookOffered size low high (Err e) = Unit {0}
 
-abbrev TookClaimed : ℕ → ℕ → ℕ → Claimed → Type 0
-TookClaimed size low high (ClaimPosition p k) = (p ≡ pos high) × Takes size low high
-TookClaimed size low high (ClaimRefused e) = Unit {0}
+abbrev TookClaimed : ℕ → ℕ → ℕ → Result Claimed Error → Type 0
+TookClaimed size low high (Ok given) = (given.position ≡ pos high) × Takes size low high
+TookClaimed size low high (Err e) = Unit {0}
 
 abbrev Took : ℕ → ℕ → ℕ → Answer → Type 0
 Took size low high (offered t a) = TookOffered size low high a
@@ -71,33 +67,33 @@ module _ (r : LogRecord) (log : List ℕ) (h : Tails r) where
   abbrev v· : Reading
   v· = reading r
 
-  offer-took : (m : ℕ) (x : Verdict) → Lets v· (length log) (need_of v· m) x
+  offer-took : (m : ℕ) (x : Result ⊤ Error) → Lets v· (length log) (need_of v· m) x
       → TookOffered (need_of v· m) (reached v·) (reached (reading (next_by r v· (need_of v· m) x))) (offered_by r v· (need_of v· m) x)
   unfolding append_next
-  offer-took m Pass l = go (fits v· (need_of v· m)) refl (lets-through v· (length log) (need_of v· m) l)
+  offer-took m (Ok _) l = go (fits v· (need_of v· m)) refl (lets-through v· (length log) (need_of v· m) l)
     where
       go : (b : Bool) → fits v· (need_of v· m) ≡ b → Through v· (length log) (need_of v· m)
           → TookOffered (need_of v· m) (reached v·)
           (reached (reading (cond b (with_tail r (active r) v·.id (v·.offset + need_of v· m)) (trip_next (with_tail r (active r) v·.id (v·.offset + need_of v· m)) v· (is_ready r)))))
-          (cond b (OfferPosition (pos (place v· + need_of v· m))) (OfferRefused (trip_error v· (is_ready r))))
+          (cond b (Ok (pos (place v· + need_of v· m))) (Err (trip_error v· (is_ready r))))
       go true f t =
           let u = fitted r (length log) (need_of v· m) h t (need-some (payload_limit v·) m) (need-32 (payload_limit v·) m) (leb-true _ _ f) in
           (ap pos u.0, u.1)
       go false f t = tt
-  offer-took m (Refuse e) l = tt
+  offer-took m (Err e) l = tt
 
-  claim-took : (m : ℕ) (x : Verdict) → Lets v· (length log) (space m) x
+  claim-took : (m : ℕ) (x : Result ⊤ Error) → Lets v· (length log) (space m) x
       → TookClaimed (space m) (reached v·) (reached (reading (next_by r v· (space m) x))) (claimed_by r v· m x)
   unfolding append_next
-  claim-took m Pass l = go (fits v· (space m)) refl (lets-through v· (length log) (space m) l)
+  claim-took m (Ok _) l = go (fits v· (space m)) refl (lets-through v· (length log) (space m) l)
     where
       go : (b : Bool) → fits v· (space m) ≡ b → Through v· (length log) (space m)
           → TookClaimed (space m) (reached v·)
           (reached (reading (cond b (with_tail r (active r) v·.id (v·.offset + space m)) (trip_next (with_tail r (active r) v·.id (v·.offset + space m)) v· (is_ready r)))))
-          (cond b (ClaimPosition (pos (place v· + space m)) (claim_record v· (active r) m)) (ClaimRefused (trip_error v· (is_ready r))))
+          (cond b (Ok (record { position = pos (place v· + space m); claim = claim_record v· (active r) m })) (Err (trip_error v· (is_ready r))))
       go true f t = let u = fitted r (length log) (space m) h t (omega arith) (omega arith) (leb-true _ _ f) in (ap pos u.0, u.1)
       go false f t = tt
-  claim-took m (Refuse e) l = tt
+  claim-took m (Err e) l = tt
 
   step-took : (y : Call) → Took (takes (payload_limit v·) y) (reached v·) (reached (reading (step (record { record· = r; log = log }) y).next.record·)) (step (record { record· = r; log = log }) y).answer
   unfolding step offer_of claim_of
@@ -136,21 +132,21 @@ module _ (r : LogRecord) where
       (λ q. cond-case (Same r) (last_term v.count) moved _ (λ q. m)
       (λ q. cond-case (Same r) (is_ready r) _ moved (λ q. turned_same moved v.count v.id m) (λ q. m))))
 
-  next-same : (v : Reading) (needed : ℕ) (x : Verdict) → Same r (next_by r v needed x)
-  next-same v needed Pass = append-same v needed
-  next-same v needed (Refuse e) = refl
+  next-same : (v : Reading) (needed : ℕ) (x : Result ⊤ Error) → Same r (next_by r v needed x)
+  next-same v needed (Ok _) = append-same v needed
+  next-same v needed (Err e) = refl
 
   change-same : (next : LogRecord) → Same r next → Same r (change_of r next).next
   unfolding change_of
   change-same next e = go (sound_record (reading next))
     where
-      go : (b : Bool) → Same r (cond {A = RecordReply} b (record { next = next; answer = Done }) (record { next = r; answer = Refused IllegalRecord })).next
+      go : (b : Bool) → Same r (cond {A = RecordReply} b (record { next = next; answer = Ok tt }) (record { next = r; answer = Err IllegalRecord })).next
       go true = e
       go false = refl
 
-reply-same : (r next : LogRecord) (x : Verdict) → Same r next → Same r (reply_by r next x).next
-reply-same r next Pass e = e
-reply-same r next (Refuse y) e = refl
+reply-same : (r next : LogRecord) (x : Result ⊤ Error) → Same r next → Same r (reply_by r next x).next
+reply-same r next (Ok _) e = e
+reply-same r next (Err y) e = refl
 
 step_same : (w : World) (y : Call) → Same w.record· (step w y).next.record·
 unfolding step offer_of claim_of clear_of raise_of with_limit with_closed changed with_mark with_slowest noted
@@ -174,10 +170,10 @@ payload_same w y = payload-is (step w y).next.record· ∙ ap (λ (z : ℤ). wor
 -- ---- a list of calls
 
 lowered : (size low low' : ℕ) (a : Answer) (P : ℕ → Type 0) → low' ≤ low → (P low → P low') → ApartBy size low a P → ApartBy size low' a P
-lowered size low low' (offered b (OfferPosition p)) P l f q = (q.0, q.1, (q.2.0, q.2.1, q.2.2, omega (arith, q.2.3)), q.3)
-lowered size low low' (offered b (OfferRefused e)) P l f q = f q
-lowered size low low' (claimed b (ClaimPosition p k)) P l f q = (q.0, q.1, (q.2.0, q.2.1, q.2.2, omega (arith, q.2.3)), q.3)
-lowered size low low' (claimed b (ClaimRefused e)) P l f q = f q
+lowered size low low' (offered b (Ok p)) P l f q = (q.0, q.1, (q.2.0, q.2.1, q.2.2, omega (arith, q.2.3)), q.3)
+lowered size low low' (offered b (Err e)) P l f q = f q
+lowered size low low' (claimed b (Ok given)) P l f q = (q.0, q.1, (q.2.0, q.2.1, q.2.2, omega (arith, q.2.3)), q.3)
+lowered size low low' (claimed b (Err e)) P l f q = f q
 lowered size low low' (outcome a) P l f q = f q
 
 apart_from : (payload low low' : ℕ) (ts : List (Call × Answer)) → low' ≤ low → Apart payload low ts → Apart payload low' ts
@@ -186,10 +182,10 @@ apart_from payload low low' [] l r = tt
 apart_from payload low low' (t ∷ ts) l r = lowered (takes payload t.0) low low' t.1 (λ (n : ℕ). Apart payload n ts) l (λ q. apart_from payload low low' ts l q) r
 
 apart_by : (payload size low high : ℕ) (a : Answer) (ts : List (Call × Answer)) → low ≤ high → Took size low high a → Apart payload high ts → ApartBy size low a (λ n. Apart payload n ts)
-apart_by payload size low high (offered b (OfferPosition p)) ts l q r = (high, q.0, q.1, r)
-apart_by payload size low high (offered b (OfferRefused e)) ts l q r = apart_from payload high low ts l r
-apart_by payload size low high (claimed b (ClaimPosition p k)) ts l q r = (high, q.0, q.1, r)
-apart_by payload size low high (claimed b (ClaimRefused e)) ts l q r = apart_from payload high low ts l r
+apart_by payload size low high (offered b (Ok p)) ts l q r = (high, q.0, q.1, r)
+apart_by payload size low high (offered b (Err e)) ts l q r = apart_from payload high low ts l r
+apart_by payload size low high (claimed b (Ok given)) ts l q r = (high, q.0, q.1, r)
+apart_by payload size low high (claimed b (Err e)) ts l q r = apart_from payload high low ts l r
 apart_by payload size low high (outcome a) ts l q r = apart_from payload high low ts l r
 
 runs-apart : (payload : ℕ) (w : World) (calls : List Call) → Tails w.record· → payload_limit (reading w.record·) ≡ payload → Apart payload (reached (reading w.record·)) (answers w calls)
@@ -228,10 +224,10 @@ blocks-free payload each low (t ∷ ts) e q = go (λ n k r. blocks-free payload 
     )
 
     go : Again payload each ts → (a : Answer) → ApartBy (takes payload t.0) low a (λ n. Apart payload n ts) → FreeBy each (low / 32 * each) a (λ n. Free each n ts)
-    go again (offered b (OfferPosition p)) q = let o = on again q.0 (takes payload t.0) q.2 q.3 in (q.0, q.1, o.0, o.1)
-    go again (offered b (OfferRefused x)) q = again low e q
-    go again (claimed b (ClaimPosition p k)) q = let o = on again q.0 (takes payload t.0) q.2 q.3 in (q.0, q.1, o.0, o.1)
-    go again (claimed b (ClaimRefused x)) q = again low e q
+    go again (offered b (Ok p)) q = let o = on again q.0 (takes payload t.0) q.2 q.3 in (q.0, q.1, o.0, o.1)
+    go again (offered b (Err x)) q = again low e q
+    go again (claimed b (Ok given)) q = let o = on again q.0 (takes payload t.0) q.2 q.3 in (q.0, q.1, o.0, o.1)
+    go again (claimed b (Err x)) q = again low e q
     go again (outcome x) q = again low e q
 
 pub blocks-apart : BlocksApart

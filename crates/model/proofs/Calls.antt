@@ -1,4 +1,5 @@
 -- Every call keeps the invariant: offers and claims, accepted, refused and tripped.
+use Rattle.std.specs.Prelude.{Result, Ok, Err, ⊤}
 use mathlib.Core.Path.{◌≡◌, refl, sym, ap, ap₂, ◌∙◌, subst}
 use mathlib.Core.Bool.{Bool, true, false, cond, not, ◌&&◌}
 use Prim.Native.Nat.{ℕ, ◌+◌, ◌*◌, ◌%◌, ◌≤◌, ◌<◌}
@@ -14,10 +15,6 @@ use Rattle.model.specs.declared.Claim.{Claim}
 use Rattle.model.specs.declared.Reading.{Reading}
 use Rattle.model.specs.declared.Error.{Error}
 use Rattle.model.specs.declared.Error.TheVariants.{IllegalArgument, IllegalRecord, PositionOutOfRange, ExceedsMaxPayloadLength, PublicationClosed, AdminAction, MaxPositionExceeded, BackPressured, NotConnected, ExceedsMaxMessageLength, TailOverflow, LastTerm, ActionPossiblyDelayed, ClaimMismatch, NewPositionOutOfRange, NewPositionNotAligned, AssemblyFull, NotCleared, NotDue, FrameTooShort, FramePastTerm}
-use Rattle.model.specs.declared.Verdict.{Verdict}
-use Rattle.model.specs.declared.Verdict.TheVariants.{Pass, Refuse}
-use Rattle.model.specs.declared.Offered.TheVariants.{Position as OfferPosition, Refused as OfferRefused}
-use Rattle.model.specs.declared.Claimed.TheVariants.{Position as ClaimPosition, Refused as ClaimRefused}
 use Rattle.model.specs.Bytes.{word, long, zeros}
 use Rattle.model.specs.FrameDescriptor.{space, negated}
 use Rattle.model.specs.LogBufferDescriptor.{id_plus, id_minus, reading, active, payload_limit, message_limit, greatest, sound, Sound, last_term, with_tail, is_ready, rotated}
@@ -202,27 +199,27 @@ module _ (r : LogRecord) (log : List ℕ) (h : List Extent) (ks : List Claim) (s
   -- ---- what the ladders let through
 
   -- a verdict that refuses, or passes with what `Q` says
-  Sure : Type 0 → Verdict → Type 0
-  Sure Q Pass = Q
-  Sure Q (Refuse e) = Unit {0}
+  Sure : Type 0 → Result ⊤ Error → Type 0
+  Sure Q (Ok _) = Q
+  Sure Q (Err e) = Unit {0}
 
-  sure-no : (Q : Type 0) (e : Error) → Sure Q (Refuse e)
+  sure-no : (Q : Type 0) (e : Error) → Sure Q (Err e)
   unfolding Sure
   sure-no Q e = tt
 
-  sure-pass : (Q : Type 0) → Q → Sure Q Pass
+  sure-pass : (Q : Type 0) → Q → Sure Q (Ok tt)
   unfolding Sure
   sure-pass Q q = q
 
-  rung : (Q : Type 0) (b : Bool) (e : Error) (x : Verdict) → (b ≡ false → Sure Q x) → Sure Q (cond b (Refuse e) x)
-  rung Q b e x f = cond-case (Sure Q) b (Refuse e) x (λ q. sure-no Q e) f
+  rung : (Q : Type 0) (b : Bool) (e : Error) (x : Result ⊤ Error) → (b ≡ false → Sure Q x) → Sure Q (cond b (Err e) x)
+  rung Q b e x f = cond-case (Sure Q) b (Err e) x (λ q. sure-no Q e) f
 
-  after-sure : (Q : Type 0) (m : ℕ) (x : Verdict) → Sure Q x → Sure Q (after_closed v m x)
+  after-sure : (Q : Type 0) (m : ℕ) (x : Result ⊤ Error) → Sure Q x → Sure Q (after_closed v m x)
   unfolding after_closed
   after-sure Q m x s = rung Q (not (eqb (id_minus v.id v.initial) v.count)) AdminAction _ (λ e. rung Q (leb v.limit (place v)) (pressed v m) x (λ e. s))
 
   room-sure : (Q : Type 0) (needed : ℕ) → (v.offset + needed ≤ 2147483647 → Q) → Sure Q (tail_room v needed)
-  room-sure Q needed q = rung Q (ltb 2147483647 (v.offset + needed)) TailOverflow Pass (λ e. sure-pass Q (q (ltb-false 2147483647 (v.offset + needed) e)))
+  room-sure Q needed q = rung Q (ltb 2147483647 (v.offset + needed)) TailOverflow (Ok tt) (λ e. sure-pass Q (q (ltb-false 2147483647 (v.offset + needed) e)))
 
   abbrev OfferPasses : ℕ → Type 0
   OfferPasses m = (too_long v m ≡ false) × (v.offset + need_of v m ≤ 2147483647)
@@ -287,14 +284,14 @@ module _ (r : LogRecord) (log : List ℕ) (h : List Extent) (ks : List Claim) (s
     abbrev new : List ℕ
     new = written v log (active r * T) v.offset fs
 
-    offer-refusing : Refusing c h ks s (offer m re) (λ (b : Bool) (e : Error). offered b (OfferRefused e))
+    offer-refusing : Refusing c h ks s (offer m re) (λ (b : Bool) (e : Error). offered b (Err e))
     unfolding tell tell_terms
     offer-refusing = record { tells = λ b e. refl; learns = λ b e. refl; turns = λ b e. refl; ends = λ n b e. tt }
 
     offer-fits : (b : Bool) → fits v n· ≡ b → OfferPasses (length m)
         → Keeps c h ks s (offer m re)
         (record {
-          answer = offered (not b) (cond b (OfferPosition (pos (place v + n·))) (OfferRefused (trip_error v (is_ready r))));
+          answer = offered (not b) (cond b (Ok (pos (place v + n·))) (Err (trip_error v (is_ready r))));
           next = record { record· = cond b (with_tail r (active r) v.id (v.offset + n·)) (trip_next (with_tail r (active r) v.id (v.offset + n·)) v (is_ready r)); log = cond b new (padded v log (active r * T)) };
         })
     unfolding tell tell_terms
@@ -315,13 +312,13 @@ module _ (r : LogRecord) (log : List ℕ) (h : List Extent) (ks : List Claim) (s
           ap pos (offer-ends v all h ks i re m (omega arith)),
         )
     offer-fits false f q =
-        tripped (offer m re) (λ (b : Bool) (e : Error). offered b (OfferRefused e)) offer-refusing n· (need-32 (long re) m) (need-most (length m) q.0) (leb-false (v.offset + n·) T f) q.1
+        tripped (offer m re) (λ (b : Bool) (e : Error). offered b (Err e)) offer-refusing n· (need-32 (long re) m) (need-most (length m) q.0) (leb-false (v.offset + n·) T f) q.1
 
-    offer-by : (x : Verdict) → Sure (OfferPasses (length m)) x
+    offer-by : (x : Result ⊤ Error) → Sure (OfferPasses (length m)) x
         → Keeps c h ks s (offer m re) (record { answer = offered (trips_by v n· x) (offered_by r v n· x); next = record { record· = next_by r v n· x; log = log_by r v log new n· x } })
     unfolding append_next Sure
-    offer-by Pass s = offer-fits (fits v n·) refl s
-    offer-by (Refuse e) s = none-keeps (offer m re) (λ (b : Bool) (e : Error). offered b (OfferRefused e)) offer-refusing e
+    offer-by (Ok _) s = offer-fits (fits v n·) refl s
+    offer-by (Err e) s = none-keeps (offer m re) (λ (b : Bool) (e : Error). offered b (Err e)) offer-refusing e
 
     pub offer-keeps : Keeps c h ks s (offer m re) (step w (offer m re))
     unfolding step offer_of offer_bytes
@@ -342,7 +339,7 @@ module _ (r : LogRecord) (log : List ℕ) (h : List Extent) (ks : List Claim) (s
     abbrev new· : List ℕ
     new· = claimed v log (active r * T) (word n)
 
-    claim-refusing : Refusing c h ks s (claim n) (λ (b : Bool) (e : Error). History.claimed b (ClaimRefused e))
+    claim-refusing : Refusing c h ks s (claim n) (λ (b : Bool) (e : Error). History.claimed b (Err e))
     unfolding tell tell_terms
     claim-refusing = record { tells = λ b e. refl; learns = λ b e. refl; turns = λ b e. refl; ends = λ n b e. tt }
 
@@ -358,7 +355,7 @@ module _ (r : LogRecord) (log : List ℕ) (h : List Extent) (ks : List Claim) (s
     claim-fits : (b : Bool) → fits v (space m·) ≡ b → ClaimPasses m·
         → Keeps c h ks s (claim n)
         (record {
-          answer = History.claimed (not b) (cond b (ClaimPosition (pos (place v + space m·)) (claim_record v (active r) m·)) (ClaimRefused (trip_error v (is_ready r))));
+          answer = History.claimed (not b) (cond b (Ok (record { position = pos (place v + space m·); claim = claim_record v (active r) m· })) (Err (trip_error v (is_ready r))));
           next = record { record· = cond b (with_tail r (active r) v.id (v.offset + space m·)) (trip_next (with_tail r (active r) v.id (v.offset + space m·)) v (is_ready r)); log = cond b new· (padded v log (active r * T)) };
         })
     unfolding tell tell_terms
@@ -378,13 +375,13 @@ module _ (r : LogRecord) (log : List ℕ) (h : List Extent) (ks : List Claim) (s
           ap pos (claim-ends v all h ks i m· (omega arith)),
         )
     claim-fits false f q =
-        tripped (claim n) (λ (b : Bool) (e : Error). History.claimed b (ClaimRefused e)) claim-refusing (space m·) (omega arith) (omega (arith, q.0, i.fixed.mtu-high, i.fixed.term-low)) (leb-false (v.offset + space m·) T f) q.1
+        tripped (claim n) (λ (b : Bool) (e : Error). History.claimed b (Err e)) claim-refusing (space m·) (omega arith) (omega (arith, q.0, i.fixed.mtu-high, i.fixed.term-low)) (leb-false (v.offset + space m·) T f) q.1
 
-    claim-by : (x : Verdict) → Sure (ClaimPasses m·) x
+    claim-by : (x : Result ⊤ Error) → Sure (ClaimPasses m·) x
         → Keeps c h ks s (claim n) (record { answer = History.claimed (trips_by v (space m·) x) (claimed_by r v m· x); next = record { record· = next_by r v (space m·) x; log = log_by r v log new· (space m·) x } })
     unfolding append_next Sure
-    claim-by Pass s = claim-fits (fits v (space m·)) refl s
-    claim-by (Refuse e) s = none-keeps (claim n) (λ (b : Bool) (e : Error). History.claimed b (ClaimRefused e)) claim-refusing e
+    claim-by (Ok _) s = claim-fits (fits v (space m·)) refl s
+    claim-by (Err e) s = none-keeps (claim n) (λ (b : Bool) (e : Error). History.claimed b (Err e)) claim-refusing e
 
     pub claim-keeps : Keeps c h ks s (claim n) (step w (claim n))
     unfolding step claim_of claim_bytes

@@ -1,6 +1,7 @@
 -- The marked positions of document 01, each as a theorem, and a few cases of our own that tell a right definition from a wrong one.
 -- Term 65,536, mtu 96, initial id 7, limit large, tail 0 unless a case says so. Where the log's bytes do not matter, the case holds for
 -- every log of three terms; else the log is empty.
+use Rattle.std.specs.Prelude.{Ok}
 use Prim.Native.Nat.{ℕ}
 use mathlib.Core.Path.{◌≡◌, refl, ap, ap₂, ◌∙◌}
 use mathlib.Core.Bool.{Bool, true, false}
@@ -12,7 +13,6 @@ use lib.Count.{ones, ones_in}
 use Rattle.model.specs.declared.LogRecord.{LogRecord}
 use Rattle.model.specs.declared.Claim.{Claim}
 use Rattle.model.specs.declared.OfferReply.{OfferReply}
-use Rattle.model.specs.declared.Outcome.TheVariants.{Done}
 use Rattle.model.specs.declared.Rule.{Rule}
 use Rattle.model.specs.declared.Rule.TheVariants.{PublicationClosed, ExceedsMaxPayloadLength, CountOutOfStep, LimitPastMaxPosition, TripPastMaxPosition, TermRotated, Unfragmented, Fragmented, Claimed}
 use Rattle.model.specs.Bytes.{le2, le4, le8, u16, u32, i32, splice, zeros}
@@ -296,7 +296,7 @@ module _ (log : List ℕ) (full : length log ≡ 196608) where
   unfolding offer_of reading_of sound_record sound raw_of pressed after_closed before_append need sizes cut cut_from zeros ones ones_in on_trip append_next changed noted with_mark with_tail with_count next_tail rotated
   cleared-turns = rw full
 
-  clear-marks : clear_of (third_at 65536 false) log (pos 0) ≡ record { next = third_at 65536 true; answer = Done }
+  clear-marks : clear_of (third_at 65536 false) log (pos 0) ≡ record { next = third_at 65536 true; answer = Ok tt }
   unfolding clear_of clear_verdict not_due noted with_mark reading_of sound_record sound raw_of ones ones_in
   clear-marks = rw full
 

@@ -1,5 +1,6 @@
 -- A claim of a term not cleared lent and written, committed or aborted: its frame is changed in place, in the stream's log and in the
 -- partition that shows it, and the history with it.
+use Rattle.std.specs.Prelude.{Result, Ok, Err, ⊤}
 use mathlib.Core.Path.{◌≡◌, refl, sym, ap, ap₂, ◌∙◌, subst}
 use mathlib.Core.Bool.{Bool, true, false, cond}
 use Prim.Native.Nat.{ℕ, ◌+◌, ◌-◌, ◌*◌, ◌%◌, ◌≤◌, ◌<◌}
@@ -15,16 +16,11 @@ use Rattle.model.specs.declared.Claim.{Claim}
 use Rattle.model.specs.declared.Reading.{Reading}
 use Rattle.model.specs.declared.Error.{Error}
 use Rattle.model.specs.declared.Error.TheVariants.{IllegalArgument, IllegalRecord, ClaimMismatch}
-use Rattle.model.specs.declared.Verdict.{Verdict}
-use Rattle.model.specs.declared.Verdict.TheVariants.{Pass, Refuse}
-use Rattle.model.specs.declared.Outcome.{Outcome}
-use Rattle.model.specs.declared.Outcome.TheVariants.{Done, Refused}
 use Rattle.model.specs.Bytes.{word, u32, splice, zeros, le2, le4}
 use Rattle.model.specs.FrameDescriptor.{align, space, negated}
 use Rattle.model.specs.LogBufferDescriptor.{reading, sound, good_partition}
 use Rattle.model.specs.Parts.{located_by}
-use Rattle.model.specs.declared.Located.{Located}
-use Rattle.model.specs.declared.Located.TheVariants.{Refused as LocatedRefused}
+use Rattle.model.specs.declared.Span.{Span}
 use Rattle.model.specs.BufferClaim.{claim_start, good_claim, matches, claim_check, body_start, body_end, locate_of, write_span, write_outcome, write_over, outcome_of, commit_of, changed_by, commit_bytes, abort_bytes}
 use Rattle.model.specs.History.{Call, fill, commit, abort, outcome, World, Step, step, Shape, shape_of, State, open·, committed, aborted, Extent, claimed·, term_of, start_of, edit, overlay, written·, turned, after_done, tell, Terms, tell_terms}
 use Rattle.model.proofs.Choice.{cond-case}
@@ -219,15 +215,15 @@ module _ (r : LogRecord) (log : List ℕ) (h : List Extent) (ks : List Claim) (s
     fit : o· + align (word k.length) ≤ T
     shows : u32 (drop (claim_start v k) log) ≡ 4294967296 - word k.length
 
-  Says : Verdict → Type 0
-  Says Pass = Found
-  Says (Refuse e) = Unit {0}
+  Says : Result ⊤ Error → Type 0
+  Says (Ok _) = Found
+  Says (Err e) = Unit {0}
 
-  says-no : (e : Error) → Says (Refuse e)
+  says-no : (e : Error) → Says (Err e)
   unfolding Says
   says-no e = tt
 
-  says-pass : Found → Says Pass
+  says-pass : Found → Says (Ok tt)
   unfolding Says
   says-pass q = q
 
@@ -246,14 +242,14 @@ module _ (r : LogRecord) (log : List ℕ) (h : List Extent) (ks : List Claim) (s
   check-says : Says (claim_check r log k)
   unfolding claim_check
   check-says =
-      cond-case Says (good_claim v k) _ (Refuse IllegalArgument)
-      (λ g. cond-case Says (sound v (length log)) _ (Refuse IllegalRecord)
-      (λ e. cond-case Says (matches log (claim_start v k) k) Pass (Refuse ClaimMismatch) (λ q. says-pass (record { fit = good-fit g; shows = shown-word q })) (λ q. says-no ClaimMismatch))
+      cond-case Says (good_claim v k) _ (Err IllegalArgument)
+      (λ g. cond-case Says (sound v (length log)) _ (Err IllegalRecord)
+      (λ e. cond-case Says (matches log (claim_start v k) k) (Ok tt) (Err ClaimMismatch) (λ q. says-pass (record { fit = good-fit g; shows = shown-word q })) (λ q. says-no ClaimMismatch))
       (λ e. says-no IllegalRecord))
       (λ e. says-no IllegalArgument)
 
   -- a call of this kind: done, or refused with nothing changed
-  abbrev steps : List ℕ → Verdict → Step
+  abbrev steps : List ℕ → Result ⊤ Error → Step
   steps log' y = record { answer = outcome (outcome_of y); next = record { record· = r; log = changed_by log log' y } }
 
   -- the same laid over both logs
@@ -263,21 +259,21 @@ module _ (r : LogRecord) (log : List ℕ) (h : List Extent) (ks : List Claim) (s
     long-all' : length all' ≡ length all
 
   matched : (y : Call) (d : State) (b : List ℕ) (e : Extent → Extent) (log' all' : List ℕ) → length a.body ≡ length b
-      → ((q : Outcome) → tell c h y (outcome q) ≡ after_done h (edit c e p h) q) → ((q : Outcome) → tell_terms s y (outcome q) ≡ s)
+      → ((q : Result ⊤ Error) → tell c h y (outcome q) ≡ after_done h (edit c e p h) q) → ((q : Result ⊤ Error) → tell_terms s y (outcome q) ≡ s)
       → (a.state ≡ open· → e (claimed· a.state a.body) ≡ claimed· d b) → (a.state ≡ open· → all' ≡ x ++ (enc c p (cell d 192 0 b) ++ rest))
-      → (Found → Both log' all') → (z : Verdict) → Says z → Keeps c h ks s y (steps log' z)
+      → (Found → Both log' all') → (z : Result ⊤ Error) → Says z → Keeps c h ks s y (steps log' z)
   unfolding Says
-  matched y d b e log' all' l tells turns q g both Pass u =
+  matched y d b e log' all' l tells turns q g both (Ok _) u =
       let still = open-still (omega (arith, u.fit, o.long)) u.shows in
       let two = both u in (
-        subst (λ (m : List Extent). Inv c (record { record· = r; log = log' }) m ks (tell_terms s y (outcome Done))) (sym (tells Done))
-            (subst (Inv c (record { record· = r; log = log' }) (edit c e p h) ks) (sym (turns Done))
+        subst (λ (m : List Extent). Inv c (record { record· = r; log = log' }) m ks (tell_terms s y (outcome (Ok tt)))) (sym (tells (Ok tt)))
+            (subst (Inv c (record { record· = r; log = log' }) (edit c e p h) ks) (sym (turns (Ok tt)))
             (record { tails = t; long = two.long-log'; all = all'; holds = swapped d b e all' l (q still) (g still); window = two.window; marks = marks })),
         tt,
       )
-  matched y d b e log' all' l tells turns q g both (Refuse z) u = (
-    subst (λ (m : List Extent). Inv c w m ks (tell_terms s y (outcome (Refused z)))) (sym (tells (Refused z)))
-        (subst (Inv c w h ks) (sym (turns (Refused z))) (record { tails = t; long = long·; all = all; holds = i; window = win; marks = marks })),
+  matched y d b e log' all' l tells turns q g both (Err z) u = (
+    subst (λ (m : List Extent). Inv c w m ks (tell_terms s y (outcome (Err z)))) (sym (tells (Err z)))
+        (subst (Inv c w h ks) (sym (turns (Err z))) (record { tails = t; long = long·; all = all; holds = i; window = win; marks = marks })),
     tt,
   )
 
@@ -340,27 +336,27 @@ module _ (r : LogRecord) (log : List ℕ) (h : List Extent) (ks : List Claim) (s
   span b = let n : body_end r k - body_start r k ≡ length a.body = omega (arith, f-long) in ap (λ (m : ℕ). take m b) n
 
   -- a writing is checked as a commit is, once its bytes are not too many
-  abbrev fill-check : ℕ → Verdict
-  fill-check n = cond (leb n 2147483647) (claim_check r log k) (Refuse IllegalArgument)
+  abbrev fill-check : ℕ → Result ⊤ Error
+  fill-check n = cond (leb n 2147483647) (claim_check r log k) (Err IllegalArgument)
 
   fill-span : (n : ℕ) → write_span r log k n ≡ located_by (body_start r k) (body_end r k) (fill-check n)
   unfolding write_span locate_of
   fill-span n = go (leb n 2147483647)
     where
-      go : (t : Bool) → cond t (located_by (body_start r k) (body_end r k) (claim_check r log k)) (LocatedRefused IllegalArgument)
-          ≡ located_by (body_start r k) (body_end r k) (cond t (claim_check r log k) (Refuse IllegalArgument))
+      go : (t : Bool) → cond t (located_by (body_start r k) (body_end r k) (claim_check r log k)) (Err IllegalArgument)
+          ≡ located_by (body_start r k) (body_end r k) (cond t (claim_check r log k) (Err IllegalArgument))
       go true = refl
       go false = refl
 
   fill-says : (n : ℕ) → Says (fill-check n)
-  fill-says n = cond-case Says (leb n 2147483647) (claim_check r log k) (Refuse IllegalArgument) (λ e. check-says) (λ e. says-no IllegalArgument)
+  fill-says n = cond-case Says (leb n 2147483647) (claim_check r log k) (Err IllegalArgument) (λ e. check-says) (λ e. says-no IllegalArgument)
 
-  abbrev writes : List ℕ → Located → Step
+  abbrev writes : List ℕ → Result Span Error → Step
   writes b x = record { answer = outcome (write_outcome x); next = record { record· = r; log = write_over log b x } }
 
-  fill-steps : (b : List ℕ) (z : Verdict) → writes b (located_by (body_start r k) (body_end r k) z) ≡ steps (splice log (body_start r k) (take (body_end r k - body_start r k) b)) z
-  fill-steps b Pass = refl
-  fill-steps b (Refuse e) = refl
+  fill-steps : (b : List ℕ) (z : Result ⊤ Error) → writes b (located_by (body_start r k) (body_end r k) z) ≡ steps (splice log (body_start r k) (take (body_end r k - body_start r k) b)) z
+  fill-steps b (Ok _) = refl
+  fill-steps b (Err e) = refl
 
   pub fill-keeps : (b : List ℕ) → Keeps c h ks s (fill k b) (step w (fill k b))
   unfolding step tell tell_terms

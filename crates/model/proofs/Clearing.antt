@@ -1,4 +1,6 @@
 -- Clearings, rises of the slowest reader, limit changes and closes keep the invariant.
+use Rattle.std.specs.Prelude.{Result, Ok, Err, ⊤}
+use Rattle.model.specs.declared.Error.{Error}
 use mathlib.Core.Path.{◌≡◌, refl, sym, ap, ◌∙◌, subst}
 use mathlib.Core.Bool.{Bool, true, false, cond, not, ◌||◌}
 use Prim.Native.Nat.{ℕ, zero, suc, ◌+◌, ◌-◌, ◌*◌, ◌%◌, ◌≤◌, ◌<◌}
@@ -14,9 +16,6 @@ use Rattle.model.specs.declared.RecordReply.{RecordReply}
 use Rattle.model.specs.declared.Claim.{Claim}
 use Rattle.model.specs.declared.Reading.{Reading}
 use Rattle.model.specs.declared.Error.TheVariants.{IllegalArgument, IllegalRecord, PositionOutOfRange, NewPositionOutOfRange, NotDue}
-use Rattle.model.specs.declared.Outcome.TheVariants.{Done, Refused}
-use Rattle.model.specs.declared.Verdict.{Verdict}
-use Rattle.model.specs.declared.Verdict.TheVariants.{Pass, Refuse}
 use Rattle.model.specs.Bytes.{word, long, splice, zeros}
 use Rattle.model.specs.LogBufferDescriptor.{reading_of, reading, greatest, good_position, good_partition, sound_record, sound, due, changed, with_limit, with_closed, noted, with_slowest, with_mark}
 use Rattle.model.specs.Publication.{reply_by, raise_verdict, raise_of, not_due, clear_verdict, clear_of, cleared_by, clear_bytes, change_of}
@@ -135,25 +134,25 @@ unfolding not_due
 due-by v k e = eqb-true k (due v.count) (not-false (eqb k (due v.count)) (or-false (not (eqb k (due v.count))) _ e))
 
 -- what a verdict that passes says
-abbrev Says : Type 0 → Verdict → Type 0
-Says Q Pass = Q
-Says Q (Refuse e) = Unit {0}
+abbrev Says : Type 0 → Result ⊤ Error → Type 0
+Says Q (Ok _) = Q
+Says Q (Err e) = Unit {0}
 
 clear-says : (v : Reading) (n k : ℕ) → Says (k ≡ due v.count) (clear_verdict v n k)
 unfolding clear_verdict
 clear-says v n k =
     let Q = k ≡ due v.count in
-    cond-case (Says Q) (good_partition k) _ (Refuse IllegalArgument)
-    (λ e. cond-case (Says Q) (sound v n) _ (Refuse IllegalRecord)
-    (λ e. cond-case (Says Q) (not_due v k) (Refuse NotDue) Pass (λ e. tt) (λ e. due-by v k e)) (λ e. tt)) (λ e. tt)
+    cond-case (Says Q) (good_partition k) _ (Err IllegalArgument)
+    (λ e. cond-case (Says Q) (sound v n) _ (Err IllegalRecord)
+    (λ e. cond-case (Says Q) (not_due v k) (Err NotDue) (Ok tt) (λ e. tt) (λ e. due-by v k e)) (λ e. tt)) (λ e. tt)
 
 raise-says : (v : Reading) (p : ℕ) → Says (good_position v p ≡ true) (raise_verdict v p)
 unfolding raise_verdict
 raise-says v p =
     let Q = good_position v p ≡ true in
-    cond-case (Says Q) (not (sound_record v)) (Refuse IllegalRecord) _ (λ e. tt)
-    (λ e. cond-case (Says Q) (not (good_position v p)) (Refuse PositionOutOfRange) _ (λ e. tt)
-    (λ g. cond-case (Says Q) (ltb p v.slowest) (Refuse NewPositionOutOfRange) Pass (λ e. tt) (λ e. not-false (good_position v p) g)))
+    cond-case (Says Q) (not (sound_record v)) (Err IllegalRecord) _ (λ e. tt)
+    (λ e. cond-case (Says Q) (not (good_position v p)) (Err PositionOutOfRange) _ (λ e. tt)
+    (λ g. cond-case (Says Q) (ltb p v.slowest) (Err NewPositionOutOfRange) (Ok tt) (λ e. tt) (λ e. not-false (good_position v p) g)))
 
 module _ (r : LogRecord) (log : List ℕ) (h : List Extent) (ks : List Claim) (s : Terms) (t : Tails r) (long· : length log ≡ 3 * (reading r).term) (all : List ℕ)
     (i : Holds (shape_of (reading r)) (reading r) all h ks) (win : Window (reading r).term log all s.cleared) (marks : Marks r s) where
@@ -174,11 +173,11 @@ module _ (r : LogRecord) (log : List ℕ) (h : List Extent) (ks : List Claim) (s
 
   -- ---- clearing
 
-  clear-by : (k : ℕ) (y : ℤ) (x : Verdict) → Says (k ≡ due v.count) x
+  clear-by : (k : ℕ) (y : ℤ) (x : Result ⊤ Error) → Says (k ≡ due v.count) x
       → Keeps c h ks s (clear y) (record { answer = outcome (reply_by r (with_mark r k true) x).answer; next = record { record· = (reply_by r (with_mark r k true) x).next; log = cleared_by v log k x } })
   unfolding tell tell_terms
-  clear-by k y (Refuse e) q = (stays, tt)
-  clear-by k y Pass q =
+  clear-by k y (Err e) q = (stays, tt)
+  clear-by k y (Ok _) q =
       let d : k ≡ due s.turns = q ∙ ap due marks.turns in
       let none : (i : ℕ) → i < T → get_or all ((s.turns + 1) * T + i) 0 ≡ 0 =
       λ j l. ap (λ (n : ℕ). get_or all ((n + 1) * T + j) 0) (sym marks.turns) ∙ unbegun v all h ks i ((v.count + 1) * T + j) (omega arith) in (
@@ -204,11 +203,11 @@ module _ (r : LogRecord) (log : List ℕ) (h : List Extent) (ks : List Claim) (s
   unfolding reading_of with_slowest noted
   raise-marks p = record { three = marks.three; turns = marks.turns; low = marks.low; high = marks.high; are = marks.are }
 
-  raise-by : (p : ℤ) (x : Verdict) → Says (good_position v (long p) ≡ true) x
+  raise-by : (p : ℤ) (x : Result ⊤ Error) → Says (good_position v (long p) ≡ true) x
       → Keeps c h ks s (raise p) (record { answer = outcome (reply_by r (with_slowest r p) x).answer; next = record { record· = (reply_by r (with_slowest r p) x).next; log = log } })
   unfolding tell tell_terms
-  raise-by p (Refuse e) q = (stays, tt)
-  raise-by p Pass q = (
+  raise-by p (Err e) q = (stays, tt)
+  raise-by p (Ok _) q = (
     record {
       tails = raised-tails r t p;
       long = long·;
@@ -229,8 +228,8 @@ module _ (r : LogRecord) (log : List ℕ) (h : List Extent) (ks : List Claim) (s
   abbrev changes : LogRecord → Bool → Step
   changes next b =
       record {
-        answer = outcome (cond {A = RecordReply} b (record { next = next; answer = Done }) (record { next = r; answer = Refused IllegalRecord })).answer;
-        next = record { record· = (cond {A = RecordReply} b (record { next = next; answer = Done }) (record { next = r; answer = Refused IllegalRecord })).next; log = log };
+        answer = outcome (cond {A = RecordReply} b (record { next = next; answer = Ok tt }) (record { next = r; answer = Err IllegalRecord })).answer;
+        next = record { record· = (cond {A = RecordReply} b (record { next = next; answer = Ok tt }) (record { next = r; answer = Err IllegalRecord })).next; log = log };
       }
 
   limit-marks : (n : ℤ) → Marks (with_limit r n) s

@@ -1,4 +1,6 @@
 -- The theorem of specs/ClosedFirst.antt: two rungs that changed places answer alike but where both refuse.
+use Rattle.std.specs.Prelude.{Result, Err, ⊤}
+use Rattle.model.specs.declared.Error.{Error}
 use mathlib.Core.Path.{◌≡◌, refl, ap}
 use mathlib.Core.Bool.{Bool, true, false, ◌&&◌, not}
 use Prim.Native.Nat.{ℕ, ◌*◌}
@@ -10,8 +12,6 @@ use lib.IntN.{ℤ}
 use Rattle.model.specs.declared.LogRecord.{LogRecord}
 use Rattle.model.specs.declared.Reading.{Reading}
 use Rattle.model.specs.declared.Error.TheVariants.{IllegalArgument, IllegalRecord, ExceedsMaxPayloadLength, PublicationClosed}
-use Rattle.model.specs.declared.Verdict.{Verdict}
-use Rattle.model.specs.declared.Verdict.TheVariants.{Refuse}
 use Rattle.model.specs.declared.Claimed.{Claimed}
 use Rattle.model.specs.Bytes.{word}
 use Rattle.model.specs.FrameDescriptor.{space}
@@ -22,20 +22,20 @@ use Rattle.model.specs.ClosedFirst.{claim_verdict_before, claim_before, claim_by
 use Rattle.model.proofs.Anchors as Anchors
 
 -- the two ladders, over what their four tests say: rows 1 and 2, closed, too long
-abbrev closed_rung : Bool → Bool → Bool → Bool → Verdict → Verdict
+abbrev closed_rung : Bool → Bool → Bool → Bool → Result ⊤ Error → Result ⊤ Error
 closed_rung a b c d rest = refuse_if a IllegalArgument (refuse_if (not b) IllegalRecord (refuse_if c PublicationClosed (refuse_if d ExceedsMaxPayloadLength rest)))
 
-abbrev long_rung : Bool → Bool → Bool → Bool → Verdict → Verdict
+abbrev long_rung : Bool → Bool → Bool → Bool → Result ⊤ Error → Result ⊤ Error
 long_rung a b c d rest = refuse_if a IllegalArgument (refuse_if (not b) IllegalRecord (refuse_if d ExceedsMaxPayloadLength (refuse_if c PublicationClosed rest)))
 
-both-refuse : (a b c d : Bool) (rest : Verdict) → not a && (b && (c && d)) ≡ true → (closed_rung a b c d rest ≡ Refuse PublicationClosed) × (long_rung a b c d rest ≡ Refuse ExceedsMaxPayloadLength)
+both-refuse : (a b c d : Bool) (rest : Result ⊤ Error) → not a && (b && (c && d)) ≡ true → (closed_rung a b c d rest ≡ Err PublicationClosed) × (long_rung a b c d rest ≡ Err ExceedsMaxPayloadLength)
 both-refuse true b c d rest h = absurd (let z : ◌≡◌ {A = ℕ} 0 1 = cc in omega arith)
 both-refuse false false c d rest h = absurd (let z : ◌≡◌ {A = ℕ} 0 1 = cc in omega arith)
 both-refuse false true false d rest h = absurd (let z : ◌≡◌ {A = ℕ} 0 1 = cc in omega arith)
 both-refuse false true true false rest h = absurd (let z : ◌≡◌ {A = ℕ} 0 1 = cc in omega arith)
 both-refuse false true true true rest h = (refl, refl)
 
-one-refuses : (a b c d : Bool) (rest : Verdict) → not a && (b && (c && d)) ≡ false → closed_rung a b c d rest ≡ long_rung a b c d rest
+one-refuses : (a b c d : Bool) (rest : Result ⊤ Error) → not a && (b && (c && d)) ≡ false → closed_rung a b c d rest ≡ long_rung a b c d rest
 one-refuses true b c d rest h = refl
 one-refuses false false c d rest h = refl
 one-refuses false true false d rest h = refl
@@ -46,14 +46,14 @@ module _ (r : LogRecord) (log : List ℕ) (m : ℤ) where
   abbrev v : Reading
   v = reading r
 
-  abbrev rest : Verdict
+  abbrev rest : Result ⊤ Error
   rest = after_closed v (word m) (tail_room v (space (word m)))
 
   -- what a claim leaves and answers, by its verdict
-  abbrev reply : Verdict → LogRecord × Claimed
+  abbrev reply : Result ⊤ Error → LogRecord × Result Claimed Error
   reply x = (next_by r v (space (word m)) x, claimed_by r v (word m) x)
 
-  abbrev bytes : Verdict → List ℕ
+  abbrev bytes : Result ⊤ Error → List ℕ
   bytes x = log_by r v log (claimed v log (active r * v.term) (word m)) (space (word m)) x
 
   turned : closed_and_long r log m ≡ true → FiveForFour r log m

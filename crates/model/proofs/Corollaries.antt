@@ -1,4 +1,5 @@
 -- The theorems of specs/Corollaries.antt.
+use Rattle.std.specs.Prelude.{Result, Ok, Err, ⊤}
 use mathlib.Core.Path.{◌≡◌, refl, sym, ap, ◌∙◌, subst}
 use mathlib.Core.Bool.{Bool, true, false, cond, not}
 use mathlib.Core.Logic.{inl, inr}
@@ -7,23 +8,17 @@ use mathlib.Core.List.{List, [], ◌∷◌}
 use native.Mathlib.Omega.{arith}
 use lib.ListN.{length, drop}
 use lib.IntN.{ℤ, pos}
+use Rattle.model.specs.declared.Polled.{Polled}
 use Rattle.model.specs.declared.LogRecord.{LogRecord}
 use Rattle.model.specs.declared.RecordReply.{RecordReply}
 use Rattle.model.specs.declared.Reading.{Reading}
 use Rattle.model.specs.declared.Error.{Error}
 use Rattle.model.specs.declared.Error.TheVariants.{IllegalRecord}
-use Rattle.model.specs.declared.Verdict.{Verdict}
-use Rattle.model.specs.declared.Verdict.TheVariants.{Pass, Refuse}
 use Rattle.model.specs.declared.ReadVerdict.{ReadVerdict}
-use Rattle.model.specs.declared.ReadVerdict.TheVariants.{Read, Closed, Refuse as ReadRefuse}
-use Rattle.model.specs.declared.Outcome.TheVariants.{Done, Refused}
-use Rattle.model.specs.declared.Offered.TheVariants.{Position as OfferPosition, Refused as OfferRefused}
-use Rattle.model.specs.declared.Claimed.TheVariants.{Position as ClaimPosition, Refused as ClaimRefused}
-use Rattle.model.specs.declared.Located.{Located}
-use Rattle.model.specs.declared.Located.TheVariants.{Span, Refused as LocatedRefused}
+use Rattle.model.specs.declared.ReadVerdict.TheVariants.{Read, Closed}
+use Rattle.model.specs.declared.Span.{Span}
 use Rattle.model.specs.declared.Frame.{Frame}
 use Rattle.model.specs.declared.Frame.TheVariants.{Absent, Unsound, Padding, Data}
-use Rattle.model.specs.declared.Polled.TheVariants.{Fragments}
 use Rattle.model.specs.Bytes.{word, long}
 use Rattle.model.specs.FrameDescriptor.{align, space, frame_at, flags_at, ends}
 use Rattle.model.specs.LogBufferDescriptor.{partition_of, reading, active, sound_record, with_limit, with_closed, with_mark, with_slowest, is_ready}
@@ -36,7 +31,7 @@ use Rattle.model.specs.History.{offer, claim, fill, commit, abort, set_limit, cl
 use Rattle.model.specs.Corollaries.{NoTwoAlike, NothingRare, RefusalsChangeNothing, LieTo, bodies_of, PollPassed, PollsCountFrames, NeedArithmetic}
 use Rattle.model.proofs.Cut.{need-sum}
 use Rattle.model.proofs.RuleLaws.{trips_by, offer-trips, claim-trips}
-use Rattle.model.proofs.Choice.{le-case}
+use Rattle.model.proofs.Choice.{le-case, ok-same}
 use Rattle.model.proofs.Season as Season
 use Rattle.model.proofs.Rising.{clash}
 
@@ -60,40 +55,40 @@ module _ (w : World) where
   abbrev Same : LogRecord → List ℕ → Type 0
   Same next log = ◌≡◌ {A = World} (record { record· = next; log = log }) w
 
-  offer-same : (needed : ℕ) (new : List ℕ) (x : Verdict) (e : Error) → trips_by v needed x ≡ false → offered_by r v needed x ≡ OfferRefused e → Same (next_by r v needed x) (log_by r v w.log new needed x)
-  offer-same needed new (Refuse q) e t h = refl
-  offer-same needed new Pass e t h = go (fits v needed) refl
+  offer-same : (needed : ℕ) (new : List ℕ) (x : Result ⊤ Error) (e : Error) → trips_by v needed x ≡ false → offered_by r v needed x ≡ Err e → Same (next_by r v needed x) (log_by r v w.log new needed x)
+  offer-same needed new (Err q) e t h = refl
+  offer-same needed new (Ok _) e t h = go (fits v needed) refl
     where
-      go : (b : Bool) → fits v needed ≡ b → Same (next_by r v needed Pass) (log_by r v w.log new needed Pass)
-      go true f = let z : OfferPosition _ ≡ OfferRefused e = sym (ap (λ (b : Bool). cond b (OfferPosition (pos (place v + needed))) (OfferRefused (trip_error v (is_ready r)))) f) ∙ h in absurd (let y : ◌≡◌ {A = ℕ} 0 1 = cc in omega arith)
+      go : (b : Bool) → fits v needed ≡ b → Same (next_by r v needed (Ok tt)) (log_by r v w.log new needed (Ok tt))
+      go true f = let z : Ok _ ≡ Err e = sym (ap (λ (b : Bool). cond b (Ok (pos (place v + needed))) (Err (trip_error v (is_ready r)))) f) ∙ h in absurd (let y : ◌≡◌ {A = ℕ} 0 1 = cc in omega arith)
       go false f = clash (not (fits v needed)) (ap not f) t
 
-  claim-same : (m : ℕ) (new : List ℕ) (x : Verdict) (e : Error) → trips_by v (space m) x ≡ false → claimed_by r v m x ≡ ClaimRefused e → Same (next_by r v (space m) x) (log_by r v w.log new (space m) x)
-  claim-same m new (Refuse q) e t h = refl
-  claim-same m new Pass e t h = go (fits v (space m)) refl
+  claim-same : (m : ℕ) (new : List ℕ) (x : Result ⊤ Error) (e : Error) → trips_by v (space m) x ≡ false → claimed_by r v m x ≡ Err e → Same (next_by r v (space m) x) (log_by r v w.log new (space m) x)
+  claim-same m new (Err q) e t h = refl
+  claim-same m new (Ok _) e t h = go (fits v (space m)) refl
     where
-      go : (b : Bool) → fits v (space m) ≡ b → Same (next_by r v (space m) Pass) (log_by r v w.log new (space m) Pass)
-      go true f = let z : ClaimPosition _ _ ≡ ClaimRefused e = sym (ap (λ (b : Bool). cond b (ClaimPosition (pos (place v + space m)) (claim_record v (active r) m)) (ClaimRefused (trip_error v (is_ready r)))) f) ∙ h in absurd (let y : ◌≡◌ {A = ℕ} 0 1 = cc in omega arith)
+      go : (b : Bool) → fits v (space m) ≡ b → Same (next_by r v (space m) (Ok tt)) (log_by r v w.log new (space m) (Ok tt))
+      go true f = let z : Ok (record { position = _; claim = _ }) ≡ Err e = sym (ap (λ (b : Bool). cond b (Ok (record { position = pos (place v + space m); claim = claim_record v (active r) m })) (Err (trip_error v (is_ready r)))) f) ∙ h in absurd (let y : ◌≡◌ {A = ℕ} 0 1 = cc in omega arith)
       go false f = clash (not (fits v (space m))) (ap not f) t
 
-  clear-same : (k : ℕ) (x : Verdict) (e : Error) → (reply_by r (with_mark r k true) x).answer ≡ Refused e → Same (reply_by r (with_mark r k true) x).next (cleared_by v w.log k x)
-  clear-same k Pass e h = absurd (let z : ◌≡◌ {A = ℕ} 0 1 = cc in omega arith)
-  clear-same k (Refuse q) e h = refl
+  clear-same : (k : ℕ) (x : Result ⊤ Error) (e : Error) → (reply_by r (with_mark r k true) x).answer ≡ Err e → Same (reply_by r (with_mark r k true) x).next (cleared_by v w.log k x)
+  clear-same k (Ok _) e h = absurd (let z : ◌≡◌ {A = ℕ} 0 1 = cc in omega arith)
+  clear-same k (Err q) e h = refl
 
-  raise-same : (p : ℤ) (x : Verdict) (e : Error) → (reply_by r (with_slowest r p) x).answer ≡ Refused e → Same (reply_by r (with_slowest r p) x).next w.log
-  raise-same p Pass e h = absurd (let z : ◌≡◌ {A = ℕ} 0 1 = cc in omega arith)
-  raise-same p (Refuse q) e h = refl
+  raise-same : (p : ℤ) (x : Result ⊤ Error) (e : Error) → (reply_by r (with_slowest r p) x).answer ≡ Err e → Same (reply_by r (with_slowest r p) x).next w.log
+  raise-same p (Ok _) e h = absurd (let z : ◌≡◌ {A = ℕ} 0 1 = cc in omega arith)
+  raise-same p (Err q) e h = refl
 
-  check-same : (new : List ℕ) (x : Verdict) (e : Error) → outcome_of x ≡ Refused e → Same r (changed_by w.log new x)
-  check-same new (Refuse q) e h = refl
-  check-same new Pass e h = absurd (let z : ◌≡◌ {A = ℕ} 0 1 = cc in omega arith)
+  check-same : (new : List ℕ) (x : Result ⊤ Error) (e : Error) → outcome_of x ≡ Err e → Same r (changed_by w.log new x)
+  check-same new (Err q) e h = refl
+  check-same new (Ok _) e h = absurd (let z : ◌≡◌ {A = ℕ} 0 1 = cc in omega arith)
 
-  fill-same : (b : List ℕ) (x : Located) (e : Error) → write_outcome x ≡ Refused e → Same r (write_over w.log b x)
-  fill-same b (Span from to) e h = absurd (let z : ◌≡◌ {A = ℕ} 0 1 = cc in omega arith)
-  fill-same b (LocatedRefused q) e h = refl
+  fill-same : (b : List ℕ) (x : Result Span Error) (e : Error) → write_outcome x ≡ Err e → Same r (write_over w.log b x)
+  fill-same b (Ok span) e h = absurd (let z : ◌≡◌ {A = ℕ} 0 1 = cc in omega arith)
+  fill-same b (Err q) e h = refl
 
-  change-same : (next : LogRecord) (b : Bool) (e : Error) → (cond {A = RecordReply} b (record { next = next; answer = Done }) (record { next = r; answer = Refused IllegalRecord })).answer ≡ Refused e
-      → Same (cond {A = RecordReply} b (record { next = next; answer = Done }) (record { next = r; answer = Refused IllegalRecord })).next w.log
+  change-same : (next : LogRecord) (b : Bool) (e : Error) → (cond {A = RecordReply} b (record { next = next; answer = Ok tt }) (record { next = r; answer = Err IllegalRecord })).answer ≡ Err e
+      → Same (cond {A = RecordReply} b (record { next = next; answer = Ok tt }) (record { next = r; answer = Err IllegalRecord })).next w.log
   change-same next true e h = absurd (let z : ◌≡◌ {A = ℕ} 0 1 = cc in omega arith)
   change-same next false e h = refl
 
@@ -178,11 +173,12 @@ module _ (r : LogRecord) (log : List ℕ) (i : Image) (slots : List ℤ) (limit 
       record { frames = []; moved = 0; lie = omega arith; fragments = sym a; entries = sym b ∙ a; written = s ∙ sym laid_none; next = inr (q, refl) }
 
   -- by what the poll is let do
-  counts : (x : ReadVerdict) (n m : ℕ) → poll_of r log i slots limit ≡ poll_reply i slots w· x → (poll_reply i slots w· x).answer ≡ Fragments n m → PollPassed r log i slots limit n m
-  counts Read n m q h =
+  counts : (x : Result ReadVerdict Error) (n m : ℕ) → poll_of r log i slots limit ≡ poll_reply i slots w· x → (poll_reply i slots w· x).answer ≡ Ok (record { fragments = n; entries = m }) → PollPassed r log i slots limit n m
+  counts (Ok Read) n m q h =
       let g = passes log (partition_of p· T * T) T T T (p· % T) (natural limit) in
-      let a : w·.fragments ≡ n = cc in
-      let b : length w·.entries ≡ m = cc in
+      let same = ok-same h in
+      let a : w·.fragments ≡ n = ap (λ (y : Polled). y.fragments) same in
+      let b : length w·.entries ≡ m = ap (λ (y : Polled). y.entries) same in
       record {
         frames = g.frames;
         moved = w·.moved;
@@ -192,8 +188,8 @@ module _ (r : LogRecord) (log : List ℕ) (i : Image) (slots : List ℤ) (limit 
         written = ap (λ (y : PollReply). y.slots) q ∙ ap (laid slots) g.entries;
         next = inl (ap (λ (y : PollReply). y.next) q);
       }
-  counts Closed n m q h = quiet n m (ap (λ (y : PollReply). y.slots) q) (ap (λ (y : PollReply). y.next) q) (cc) (cc)
-  counts (ReadRefuse e) n m q h = absurd (let z : ◌≡◌ {A = ℕ} 0 1 = cc in omega arith)
+  counts (Ok Closed) n m q h = quiet n m (ap (λ (y : PollReply). y.slots) q) (ap (λ (y : PollReply). y.next) q) (ap (λ (y : Polled). y.fragments) (ok-same h)) (ap (λ (y : Polled). y.entries) (ok-same h))
+  counts (Err e) n m q h = absurd (let z : ◌≡◌ {A = ℕ} 0 1 = cc in omega arith)
 
 pub polls-count-frames : PollsCountFrames
 unfolding PollsCountFrames poll_of

@@ -1,4 +1,6 @@
 -- The theorem of R-10: the rule answered is the first in the order that applies, for every input, and tells the number and whether the tail has moved.
+use Rattle.std.specs.Prelude.{Result, Ok, Err, ⊤}
+use Rattle.model.specs.declared.Error.{Error}
 use mathlib.Core.Path.{◌≡◌, refl, sym, ap, ◌∙◌}
 use mathlib.Core.Bool.{Bool, true, false, cond}
 use Prim.Native.Nat.{ℕ, suc, ◌+◌, ◌-◌, ◌*◌, ◌%◌, ◌≤◌, ◌<◌}
@@ -12,10 +14,6 @@ use lib.IntN.{ℤ, pos}
 use Rattle.model.specs.declared.LogRecord.{LogRecord}
 use Rattle.model.specs.declared.Reading.{Reading}
 use Rattle.model.specs.declared.Error.TheVariants.{MaxPositionExceeded, LastTerm, NotCleared, AdminAction}
-use Rattle.model.specs.declared.Verdict.{Verdict}
-use Rattle.model.specs.declared.Verdict.TheVariants.{Pass, Refuse}
-use Rattle.model.specs.declared.Offered.TheVariants.{Position as OfferPosition, Refused as OfferRefused}
-use Rattle.model.specs.declared.Claimed.TheVariants.{Position as ClaimPosition, Refused as ClaimRefused}
 use Rattle.model.specs.declared.Rule.{Rule}
 use Rattle.model.specs.declared.Rule.TheVariants.{IllegalArgument as ByArgument, IllegalRecord as ByRecord, PublicationClosed as ByClosed, ExceedsMaxPayloadLength as ByPayload, CountOutOfStep, LimitPastMaxPosition, BackPressured as ByPressure, NotConnected as ByConnection, ExceedsMaxMessageLength as ByMessage, TailOverflow as ByTail, TripPastMaxPosition, LastTerm as ByLastTerm, NotCleared as ByNotCleared, TermRotated, Unfragmented, Fragmented, Claimed}
 use Rattle.model.specs.Bytes.{word, long}
@@ -153,24 +151,24 @@ offered-numbered v m = go (leb m (payload_limit v))
     go false = (refl, refl)
 
 -- the answer's number
-abbrev told : Reading → Bool → ℕ → Verdict → ℤ
-told v ready needed Pass = cond (fits v needed) (pos 0) (number_of (trip_error v ready))
-told v ready needed (Refuse e) = number_of e
+abbrev told : Reading → Bool → ℕ → Result ⊤ Error → ℤ
+told v ready needed (Ok _) = cond (fits v needed) (pos 0) (number_of (trip_error v ready))
+told v ready needed (Err e) = number_of e
 
-offered-told : (r : LogRecord) (v : Reading) (needed : ℕ) (y : Verdict) → (offered_told (offered_by r v needed y)).number ≡ told v (is_ready r) needed y
-offered-told r v needed (Refuse e) = refl
-offered-told r v needed Pass = go (fits v needed)
+offered-told : (r : LogRecord) (v : Reading) (needed : ℕ) (y : Result ⊤ Error) → (offered_told (offered_by r v needed y)).number ≡ told v (is_ready r) needed y
+offered-told r v needed (Err e) = refl
+offered-told r v needed (Ok _) = go (fits v needed)
   where
-    go : (b : Bool) → (offered_told (cond b (OfferPosition (pos (place v + needed))) (OfferRefused (trip_error v (is_ready r))))).number ≡ cond b (pos 0) (number_of (trip_error v (is_ready r)))
+    go : (b : Bool) → (offered_told (cond b (Ok (pos (place v + needed))) (Err (trip_error v (is_ready r))))).number ≡ cond b (pos 0) (number_of (trip_error v (is_ready r)))
     go true = refl
     go false = refl
 
-claimed-told : (r : LogRecord) (v : Reading) (m : ℕ) (y : Verdict) → (claimed_told (claimed_by r v m y)).number ≡ told v (is_ready r) (space m) y
-claimed-told r v m (Refuse e) = refl
-claimed-told r v m Pass = go (fits v (space m))
+claimed-told : (r : LogRecord) (v : Reading) (m : ℕ) (y : Result ⊤ Error) → (claimed_told (claimed_by r v m y)).number ≡ told v (is_ready r) (space m) y
+claimed-told r v m (Err e) = refl
+claimed-told r v m (Ok _) = go (fits v (space m))
   where
     go : (b : Bool)
-        → (claimed_told (cond b (ClaimPosition (pos (place v + space m)) (claim_record v (active r) m)) (ClaimRefused (trip_error v (is_ready r))))).number ≡ cond b (pos 0) (number_of (trip_error v (is_ready r)))
+        → (claimed_told (cond b (Ok (record { position = pos (place v + space m); claim = claim_record v (active r) m })) (Err (trip_error v (is_ready r))))).number ≡ cond b (pos 0) (number_of (trip_error v (is_ready r)))
     go true = refl
     go false = refl
 
@@ -182,13 +180,13 @@ module _ (r : LogRecord) (log new : List ℕ) (needed : ℕ) (accepted : Rule) (
   passes true = good
   passes false = trip-numbered v· (is_ready r)
 
-  record Left (y : Verdict) (x : Rule) : Type 0 where
+  record Left (y : Result ⊤ Error) (x : Rule) : Type 0 where
     numbered : told v· (is_ready r) needed y ≡ rule_number x
     moved : moves x ≡ true → (reading_of (next_by r v· needed y) (active r)).offset ≡ v·.offset + needed
     still : moves x ≡ false → (next_by r v· needed y ≡ r) × (log_by r v· log new needed y ≡ log)
 
-  by-verdict : (y : Verdict) (x : Rule) → Named (cond (fits v· needed) accepted (trip_rule v· (is_ready r))) y x → Lets v· (length log) needed y → Left y x
-  by-verdict Pass x h l =
+  by-verdict : (y : Result ⊤ Error) (x : Rule) → Named (cond (fits v· needed) accepted (trip_rule v· (is_ready r))) y x → Lets v· (length log) needed y → Left y x
+  by-verdict (Ok _) x h l =
       let p = passes (fits v· needed) in
       let t = lets-through v· (length log) needed l in
       record {
@@ -196,7 +194,7 @@ module _ (r : LogRecord) (log new : List ℕ) (needed : ℕ) (accepted : Rule) (
         moved = λ e. appended-at r needed three (omega (arith, t.room));
         still = λ e. clash (moves x) (ap moves (sym h) ∙ p.1) e;
       }
-  by-verdict (Refuse d) x h l = record { numbered = h.1.0; moved = λ e. clash (moves x) e h.1.1; still = λ e. (refl, refl) }
+  by-verdict (Err d) x h l = record { numbered = h.1.0; moved = λ e. clash (moves x) e h.1.1; still = λ e. (refl, refl) }
 
 -- ---- the theorem
 

@@ -1,4 +1,5 @@
 -- The entries of a poll over frames, given to the assembler one by one: it takes in what the frames hold.
+use Rattle.std.specs.Prelude.{Ok, Err}
 use mathlib.Core.Path.{◌≡◌, refl, sym, ap, ap₂, ◌∙◌, subst}
 use mathlib.Core.Bool.{Bool, true, cond, ◌&&◌, ◌||◌}
 use Prim.Native.Nat.{ℕ, ◌+◌, ◌-◌, ◌*◌, ◌/◌, ◌%◌, ◌≤◌, ◌<◌}
@@ -15,8 +16,6 @@ use Rattle.model.specs.declared.LogRecord.{LogRecord}
 use Rattle.model.specs.declared.Error.{Error}
 use Rattle.model.specs.declared.Joining.{Joining}
 use Rattle.model.specs.declared.Joining.TheVariants.{Through, Ignore, Full, TooLong, Join, Complete}
-use Rattle.model.specs.declared.Assembled.TheVariants.{Refused as AssemblyRefused}
-use Rattle.model.specs.declared.Verdict.TheVariants.{Pass, Refuse}
 use Rattle.model.specs.declared.Error.TheVariants.{IllegalArgument, IllegalRecord}
 use Rattle.model.specs.Bytes.{zeros, le2, le4, le8, u32, i32}
 use Rattle.model.specs.FrameDescriptor.{align, is_finished, unsound_frame_at, flags_at}
@@ -41,7 +40,7 @@ first-of [] = 0
 first-of (e ∷ es) = e.0
 
 -- only a frame that is dropped is refused
-dropped : (at n part : ℕ) (x : Joining) (e : Error) → assembled_by at n part x ≡ AssemblyRefused e → drops x ≡ true
+dropped : (at n part : ℕ) (x : Joining) (e : Error) → assembled_by at n part x ≡ Err e → drops x ≡ true
 dropped at n part Through e h = absurd (let z : ◌≡◌ {A = ℕ} 0 1 = cc in omega arith)
 dropped at n part Ignore e h = absurd (let z : ◌≡◌ {A = ℕ} 0 1 = cc in omega arith)
 dropped at n part Full e h = refl
@@ -109,14 +108,14 @@ module _ (r : LogRecord) (log : List ℕ) (snd : Sound (reading r) (length log))
         both_true (le-leb (k * T + at + 4) (length log) reaches)
         (sym (ap is_finished (length-finished (u32 (drop (k * T + at) log)) (λ z. omega (arith, shows)) (omega (arith, shows, short)))))
 
-    passes : assemble_verdict (reading r) log (length buffer) k at ≡ Pass
+    passes : assemble_verdict (reading r) log (length buffer) k at ≡ Ok tt
     unfolding assemble_verdict
     passes =
-        cond-true (leb (length buffer) 2147483647 && _) _ (Refuse IllegalArgument)
+        cond-true (leb (length buffer) 2147483647 && _) _ (Err IllegalArgument)
         (both_true (le-leb (length buffer) 2147483647 small) (both_true (le-leb k 2 third)
         (both_true (both_true (eq-eqb (at % 32) 0 on) (both_true (le-leb (at + 1) T (omega (arith, aligned))) (le-leb T 2147483647 (omega (arith, snd.term-high))))) framed)))
-        ∙ cond-true (sound (reading r) (length log)) _ (Refuse IllegalRecord) good
-        ∙ ap₂ (λ (x y : Bool). cond (x || y) (Refuse (unsound_frame_at log (k * T) at)) Pass) (le-ltb (u32 (drop (k * T + at) log)) 32 (omega (arith, shows))) (le-ltb (T - at) (align (u32 (drop (k * T + at) log))) (omega (arith, shows, aligned)))
+        ∙ cond-true (sound (reading r) (length log)) _ (Err IllegalRecord) good
+        ∙ ap₂ (λ (x y : Bool). cond (x || y) (Err (unsound_frame_at log (k * T) at)) (Ok tt)) (le-ltb (u32 (drop (k * T + at) log)) 32 (omega (arith, shows))) (le-ltb (T - at) (align (u32 (drop (k * T + at) log))) (omega (arith, shows, aligned)))
 
     -- what the call says, by the frame's own numbers
     abbrev says : ℕ → ℤ → ℕ → List ℕ → Assembly
@@ -217,7 +216,7 @@ module _ (r : LogRecord) (log : List ℕ) (snd : Sound (reading r) (length log))
     -- a frame that the real assembler refuses is one that the other lost
     refused-lost : (at fl re : ℕ) (b rest : List ℕ) (p : Replaying) (a : Asm) (on : at % 32 ≡ 0)
         (frame : drop (k * T + at) log ≡ enc c· (base + at) (cell committed fl re b) ++ rest) (tiny : Small (cell committed fl re b)) (room : fsize (cell committed fl re b) ≤ T - at)
-        (l : Like size p a) (e : Error) → (assemble_of r log p.sessions p.buffer (pos k) (pos at)).answer ≡ AssemblyRefused e → (take_in part a (fl, b)).lost ≡ true
+        (l : Like size p a) (e : Error) → (assemble_of r log p.sessions p.buffer (pos k) (pos at)).answer ≡ Err e → (take_in part a (fl, b)).lost ≡ true
     refused-lost at fl re b rest p a on frame tiny room l e h =
         let g = given k base at fl re b rest p.sessions p.buffer (omega (arith, l.same.long)) third on frame tiny room in
         let j = joins-alike c· size p.sessions p.buffer a.held l.same a.out a.lost log (k * T) (at + 32) fl b (body_at k base at fl re b rest p.sessions p.buffer (omega (arith, l.same.long)) third on frame tiny room) in
@@ -227,7 +226,7 @@ module _ (r : LogRecord) (log : List ℕ) (snd : Sound (reading r) (length log))
     -- of frames with one body to hand out
     pub one-lost : (at : ℕ) (fs : List Cell) (t : List ℕ) (p : Replaying) (a : Asm) → at % 32 ≡ 0 → Clear fs → AllSmall fs → sizes fs ≤ T - at
         → drop (k * T + at) log ≡ bytes c· (base + at) fs ++ t → Like size p a
-        → (m n : ℕ) → ents_of at fs ≡ (m, n) ∷ [] → (e : Error) → (assemble_of r log p.sessions p.buffer (pos k) (pos (m - 32))).answer ≡ AssemblyRefused e
+        → (m n : ℕ) → ents_of at fs ≡ (m, n) ∷ [] → (e : Error) → (assemble_of r log p.sessions p.buffer (pos k) (pos (m - 32))).answer ≡ Err e
         → (takes-in part a (frags_of fs)).lost ≡ true
     unfolding ents_of frags_of takes-in Clear AllSmall sizes bytes
     one-lost at [] t p a on clear tiny room e l m n s q h = absurd (let z : ◌≡◌ {A = ℕ} 0 1 = cc in omega arith)

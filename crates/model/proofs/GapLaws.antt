@@ -1,4 +1,6 @@
 -- `scan_for_gap`, turn by turn: the walk to the first free place (`Rebuilding`), and the gap's length (`Measuring`).
+use Rattle.std.specs.Prelude.{Result, Ok, Err}
+use Rattle.model.specs.declared.Error.{Error}
 use mathlib.Core.Path.{◌≡◌, refl, sym, ap, ◌∙◌}
 use mathlib.Core.Logic.{◌⊎◌, inl, inr, ⊎_elim}
 use mathlib.Core.Bool.{Bool, true, false, cond, ◌||◌}
@@ -9,11 +11,10 @@ use borrow.Author.Tests.{le-leb, lt-leb, eq-eqb, ne_eqb}
 use lib.Dec.{leb}
 use lib.ListN.{length, drop}
 use lib.IntN.{ℤ}
-use Rattle.model.specs.declared.Verdict.TheVariants.{Pass, Refuse}
 use Rattle.model.specs.declared.Frame.{Frame}
 use Rattle.model.specs.declared.Frame.TheVariants.{Absent, Unsound, Padding, Data}
 use Rattle.model.specs.declared.GapScanned.{GapScanned}
-use Rattle.model.specs.declared.GapScanned.TheVariants.{Gap, NoGap, Refused}
+use Rattle.model.specs.declared.GapScanned.TheVariants.{Gap, NoGap}
 use Rattle.model.specs.Bytes.{u32}
 use Rattle.model.specs.FrameDescriptor.{align, is_writing, length_at, frame_at, is_unsound, unsound_frame, unsound_frame_at}
 use Rattle.model.specs.TermScan.{Rebuilt, gap_over, rebuild, gap_length, gap_by}
@@ -83,8 +84,8 @@ module _ (log : List ℕ) (base term high at : ℕ) where
 -- ---- the walk
 
 -- what is found where the walk came to w
-abbrev pub gap_found : ℤ → List ℕ → ℕ → ℕ → ℕ → Rebuilt → GapScanned
-gap_found id log base term high w = cond (w.stopped || leb high w.at) (NoGap w.at) (Gap id w.at (gap_length term log base high w.at) (is_writing (length_at (drop (base + w.at) log))))
+abbrev pub gap_found : ℤ → List ℕ → ℕ → ℕ → ℕ → Rebuilt → Result GapScanned Error
+gap_found id log base term high w = cond (w.stopped || leb high w.at) (Ok (NoGap w.at)) (Ok (Gap id w.at (gap_length term log base high w.at) (is_writing (length_at (drop (base + w.at) log)))))
 
 module _ (log : List ℕ) (base term high at : ℕ) where
   abbrev seen : ℕ → Frame
@@ -94,8 +95,8 @@ module _ (log : List ℕ) (base term high at : ℕ) where
   abbrev first : Bool
   first = is_unsound (seen at)
 
-  abbrev answer : ℤ → GapScanned
-  answer id = gap_by (gap_found id log base term high (rebuild term log base term high at)) (cond first (Refuse (unsound_frame_at log base at)) Pass)
+  abbrev answer : ℤ → Result GapScanned Error
+  answer id = gap_by (gap_found id log base term high (rebuild term log base term high at)) (cond first (Err (unsound_frame_at log base at)) (Ok tt))
 
   pub record Rebuilding (offset : ℕ) : Type 0 where
     pub fuel : ℕ
@@ -116,7 +117,7 @@ module _ (log : List ℕ) (base term high at : ℕ) where
   -- it comes to w, and the first frame was not unsound
   comes : (id : ℤ) (w : Rebuilt) → rebuild term log base term high at ≡ w → first ≡ false → gap_found id log base term high w ≡ answer id
   comes id w e f =
-      ap (gap_found id log base term high) (sym e) ∙ ap (λ (b : Bool). gap_by (gap_found id log base term high (rebuild term log base term high at)) (cond b (Refuse (unsound_frame_at log base at)) Pass)) (sym f)
+      ap (gap_found id log base term high) (sym e) ∙ ap (λ (b : Bool). gap_by (gap_found id log base term high (rebuild term log base term high at)) (cond b (Err (unsound_frame_at log base at)) (Ok tt))) (sym f)
 
   -- one frame, with fuel for it
   turn : (f offset : ℕ) (g : Rebuilding offset) (x : Frame) → g.fuel ≡ f → seen offset ≡ x
@@ -129,29 +130,29 @@ module _ (log : List ℕ) (base term high at : ℕ) where
       ∙ ap (λ (y : ℕ). gap_over x offset high (λ a. rebuild y log base term high a)) (sym q)
 
   -- a free place, at or past the mark, or before it
-  pub gap-none : (id : ℤ) (offset : ℕ) → Rebuilding offset → seen offset ≡ Absent → high ≤ offset → NoGap offset ≡ answer id
+  pub gap-none : (id : ℤ) (offset : ℕ) → Rebuilding offset → seen offset ≡ Absent → high ≤ offset → Ok (NoGap offset) ≡ answer id
   gap-none id offset g e h =
       let w : Rebuilt = record { at = offset; stopped = false } in
-      let q : NoGap offset ≡ gap_found id log base term high w = rw (le-leb high offset h) in
+      let q : Ok (NoGap offset) ≡ gap_found id log base term high w = rw (le-leb high offset h) in
       q ∙ comes id w (turn g.fuel offset g Absent refl e) (first-seen offset Absent g.begun e refl)
 
-  pub gap_here : (id : ℤ) (offset : ℕ) → Rebuilding offset → seen offset ≡ Absent → offset < high → Gap id offset (gap_length term log base high offset) (is_writing (length_at (drop (base + offset) log))) ≡ answer id
+  pub gap_here : (id : ℤ) (offset : ℕ) → Rebuilding offset → seen offset ≡ Absent → offset < high → Ok (Gap id offset (gap_length term log base high offset) (is_writing (length_at (drop (base + offset) log)))) ≡ answer id
   gap_here id offset g e h =
       let w : Rebuilt = record { at = offset; stopped = false } in
-      let q : Gap id offset (gap_length term log base high offset) (is_writing (length_at (drop (base + offset) log))) ≡ gap_found id log base term high w = rw (lt-leb high offset h) in
+      let q : Ok (Gap id offset (gap_length term log base high offset) (is_writing (length_at (drop (base + offset) log)))) ≡ gap_found id log base term high w = rw (lt-leb high offset h) in
       q ∙ comes id w (turn g.fuel offset g Absent refl e) (first-seen offset Absent g.begun e refl)
 
   -- an unsound frame, later or first
-  pub gap-unsound : (id : ℤ) (offset m : ℕ) → Rebuilding offset → seen offset ≡ Unsound m → (offset ≡ at → ⊥) → NoGap offset ≡ answer id
+  pub gap-unsound : (id : ℤ) (offset m : ℕ) → Rebuilding offset → seen offset ≡ Unsound m → (offset ≡ at → ⊥) → Ok (NoGap offset) ≡ answer id
   gap-unsound id offset m g e n =
       comes id (record { at = offset; stopped = true }) (turn g.fuel offset g (Unsound m) refl e)
       (⊎_elim (λ (p : offset ≡ at). absurd (n p)) (λ (f : first ≡ false). f) g.begun)
 
-  pub gap-first : (id : ℤ) (offset m : ℕ) → offset ≡ at → seen offset ≡ Unsound m → Refused (unsound_frame m at) ≡ answer id
+  pub gap-first : (id : ℤ) (offset m : ℕ) → offset ≡ at → seen offset ≡ Unsound m → Err (unsound_frame m at) ≡ answer id
   gap-first id offset m p e =
       let q : seen at ≡ Unsound m = ap seen (sym p) ∙ e in
       let f : first ≡ true = ap is_unsound q in
-      ap Refused (unsound-refusal log base term at m q) ∙ sym (ap (λ (b : Bool). gap_by (gap_found id log base term high (rebuild term log base term high at)) (cond b (Refuse (unsound_frame_at log base at)) Pass)) f)
+      ap Err (unsound-refusal log base term at m q) ∙ sym (ap (λ (b : Bool). gap_by (gap_found id log base term high (rebuild term log base term high at)) (cond b (Err (unsound_frame_at log base at)) (Ok tt))) f)
 
   over-frame : (x : Frame) (offset : ℕ) (go : ℕ → Rebuilt) → is_frame x ≡ true
       → gap_over x offset high go ≡ cond (leb high (offset + align (length_of x))) (record { at = offset + align (length_of x); stopped = false }) (go (offset + align (length_of x)))
@@ -167,10 +168,10 @@ module _ (log : List ℕ) (base term high at : ℕ) where
   not-unsound (Data n) h = refl
 
   -- a frame that ends at or past the mark
-  pub gap-past : (id : ℤ) (offset n : ℕ) (x : Frame) → Rebuilding offset → seen offset ≡ x → is_frame x ≡ true → length_of x ≡ n → high ≤ offset + align n → NoGap (offset + align n) ≡ answer id
+  pub gap-past : (id : ℤ) (offset n : ℕ) (x : Frame) → Rebuilding offset → seen offset ≡ x → is_frame x ≡ true → length_of x ≡ n → high ≤ offset + align n → Ok (NoGap (offset + align n)) ≡ answer id
   gap-past id offset n x g e f el h =
       let w : Rebuilt = record { at = offset + align n; stopped = false } in
-      let q : NoGap (offset + align n) ≡ gap_found id log base term high w = rw (le-leb high (offset + align n) h) in
+      let q : Ok (NoGap (offset + align n)) ≡ gap_found id log base term high w = rw (le-leb high (offset + align n) h) in
       let t : cond (leb high (offset + align n)) w (rebuild (g.fuel - 1) log base term high (offset + align n)) ≡ w = rw (le-leb high (offset + align n) h) in
       q
       ∙ comes id w

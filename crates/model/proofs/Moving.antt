@@ -1,5 +1,6 @@
 -- For callers of the appenders and of `rotate_log`: the record after the active tail has moved is still sound, and handed its own count
 -- and term id it is rotated.
+use Rattle.std.specs.Prelude.{Ok}
 use mathlib.Core.Path.{◌≡◌, refl, sym, ap, ap₂, ◌∙◌}
 use mathlib.Core.Bool.{true, false}
 use Prim.Native.Nat.{ℕ, ◌+◌, ◌/◌, ◌%◌, ◌≤◌, ◌<◌}
@@ -12,7 +13,6 @@ use mir.Val.{SFits}
 use mir.Facts.{of_z-to_z, Fits-of_z}
 use Rattle.model.specs.declared.LogRecord.{LogRecord}
 use Rattle.model.specs.declared.Reading.{Reading}
-use Rattle.model.specs.declared.Outcome.TheVariants.{Done}
 use Rattle.model.specs.Bytes.{word, long}
 use Rattle.model.specs.LogBufferDescriptor.{id_of, offset_of, term_id_of, tail_of, reading_of, active, reading, sound_record, changed, with_tail, last_term, rotated, rotate_log_of, Sound}
 use Rattle.model.proofs.RawTail.{raw-id, raw-offset, moved-tail}
@@ -65,7 +65,7 @@ module _ (r : LogRecord) (id offset : ℕ) (three : length r.tails ≡ 3) (hi : 
 pub rotate-moved : (r : LogRecord) (n needed : ℕ) (id : ℤ) → length r.tails ≡ 3 → Sound (reading r) n → (reading r).id < 4294967296 → needed % 32 ≡ 0 → (reading r).offset + needed ≤ 2147483647
     → word id ≡ (reading r).id → last_term (reading r).count ≡ false
     → rotate_log_of (with_tail r (active r) (reading r).id ((reading r).offset + needed)) r.active_term_count id
-    ≡ record { next = rotated (with_tail r (active r) (reading r).id ((reading r).offset + needed)) (reading r).count (reading r).id; answer = Done }
+    ≡ record { next = rotated (with_tail r (active r) (reading r).id ((reading r).offset + needed)) (reading r).count (reading r).id; answer = Ok tt }
 unfolding reading_of with_tail changed
 rotate-moved r n needed id three s hi m h ei l =
     let v = reading r in

@@ -1,4 +1,6 @@
 -- R-14: an accepted append is answered its place and its need, and what one byte more needs is known by the frames alone.
+use Rattle.std.specs.Prelude.{Result, Ok, Err, ⊤}
+use Rattle.model.specs.declared.Error.{Error}
 use mathlib.Core.Path.{◌≡◌, refl, sym, ap, ap₂, ◌∙◌, subst}
 use Prim.Native.Nat.{ℕ, zero, suc, ◌+◌, ◌-◌, ◌*◌, ◌/◌, ◌%◌, ◌≤◌, ◌<◌}
 use mathlib.Core.Bool.{Bool, true, false, cond}
@@ -11,18 +13,15 @@ use lib.ListN.{length, drop, length-drop}
 use lib.IntN.{ℤ, pos, ◌+ℤ◌}
 use Rattle.model.specs.declared.LogRecord.{LogRecord}
 use Rattle.model.specs.declared.Claim.{Claim}
+use Rattle.model.specs.declared.Claimed.{Claimed}
 use Rattle.model.specs.declared.Reading.{Reading}
-use Rattle.model.specs.declared.Verdict.{Verdict}
-use Rattle.model.specs.declared.Verdict.TheVariants.{Pass, Refuse}
-use Rattle.model.specs.declared.Offered.TheVariants.{Position as OfferPosition, Refused as OfferRefused}
-use Rattle.model.specs.declared.Claimed.TheVariants.{Position as ClaimPosition, Refused as ClaimRefused}
 use Rattle.model.specs.Bytes.{word}
 use Rattle.model.specs.FrameDescriptor.{align, space}
 use Rattle.model.specs.LogBufferDescriptor.{reading, active, payload_limit, is_ready}
 use Rattle.model.specs.TermAppender.{cut_from, cut, need, claim_record}
 use Rattle.model.specs.Publication.{place, fits, trip_error, need_of, offer_verdict, offered_by, offer_of, claim_verdict, claimed_by, claim_of}
 use Rattle.model.specs.OneByteMore.{rise, OneByteMore, OneByteMoreClaimed}
-use Rattle.model.proofs.Choice.{split}
+use Rattle.model.proofs.Choice.{split, ok-same}
 use Rattle.model.proofs.Cut.{cut-last, cut-more, need-one, times_32, whole-up, rest_up, need-sum}
 use Rattle.model.proofs.Rising.{Lets, lets-through, offer-lets}
 
@@ -111,20 +110,20 @@ message-need pay m longer l d e = go (length m) refl
 
 -- ---- what an accepted append is answered
 
-offered-at : (r : LogRecord) (v : Reading) (needed : ℕ) (x : Verdict) (p : ℤ) → offered_by r v needed x ≡ OfferPosition p → (x ≡ Pass) × (p ≡ pos (place v + needed))
-offered-at r v needed (Refuse e) p h = absurd (let y : ◌≡◌ {A = ℕ} 0 1 = cc in omega arith)
-offered-at r v needed Pass p h = (refl, go (fits v needed) h)
+offered-at : (r : LogRecord) (v : Reading) (needed : ℕ) (x : Result ⊤ Error) (p : ℤ) → offered_by r v needed x ≡ Ok p → (x ≡ Ok tt) × (p ≡ pos (place v + needed))
+offered-at r v needed (Err e) p h = absurd (let y : ◌≡◌ {A = ℕ} 0 1 = cc in omega arith)
+offered-at r v needed (Ok _) p h = (refl, go (fits v needed) h)
   where
-    go : (b : Bool) → cond b (OfferPosition (pos (place v + needed))) (OfferRefused (trip_error v (is_ready r))) ≡ OfferPosition p → p ≡ pos (place v + needed)
+    go : (b : Bool) → cond b (Ok (pos (place v + needed))) (Err (trip_error v (is_ready r))) ≡ Ok p → p ≡ pos (place v + needed)
     go true h = cc
     go false h = absurd (let y : ◌≡◌ {A = ℕ} 0 1 = cc in omega arith)
 
-claimed-at : (r : LogRecord) (v : Reading) (n : ℕ) (x : Verdict) (p : ℤ) (k : Claim) → claimed_by r v n x ≡ ClaimPosition p k → p ≡ pos (place v + space n)
-claimed-at r v n (Refuse e) p k h = absurd (let y : ◌≡◌ {A = ℕ} 0 1 = cc in omega arith)
-claimed-at r v n Pass p k h = go (fits v (space n)) h
+claimed-at : (r : LogRecord) (v : Reading) (n : ℕ) (x : Result ⊤ Error) (p : ℤ) (k : Claim) → claimed_by r v n x ≡ Ok (record { position = p; claim = k }) → p ≡ pos (place v + space n)
+claimed-at r v n (Err e) p k h = absurd (let y : ◌≡◌ {A = ℕ} 0 1 = cc in omega arith)
+claimed-at r v n (Ok _) p k h = go (fits v (space n)) h
   where
-    go : (b : Bool) → cond b (ClaimPosition (pos (place v + space n)) (claim_record v (active r) n)) (ClaimRefused (trip_error v (is_ready r))) ≡ ClaimPosition p k → p ≡ pos (place v + space n)
-    go true h = cc
+    go : (b : Bool) → cond {A = Result Claimed Error} b (Ok (record { position = pos (place v + space n); claim = claim_record v (active r) n })) (Err (trip_error v (is_ready r))) ≡ Ok (record { position = p; claim = k }) → p ≡ pos (place v + space n)
+    go true h = ap (λ (x : Claimed). x.position) (sym (ok-same h))
     go false h = absurd (let y : ◌≡◌ {A = ℕ} 0 1 = cc in omega arith)
 
 -- two positions by their numbers

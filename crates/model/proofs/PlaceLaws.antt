@@ -1,4 +1,5 @@
 -- The place of a frame in a partition of a sound log: what rows 1 and 2 say of it together.
+use Rattle.std.specs.Prelude.{Ok}
 use mathlib.Core.Path.{◌≡◌, ap₂}
 use mathlib.Core.Bool.{Bool, true, ◌&&◌}
 use Prim.Native.Nat.{ℕ, ◌+◌, ◌*◌, ◌%◌, ◌≤◌, ◌<◌}
@@ -7,7 +8,6 @@ use borrow.Author.Tests.{leb-true, eqb-true}
 use lib.Dec.{eqb, leb}
 use Rattle.model.specs.declared.Reading.{Reading}
 use Rattle.model.specs.declared.Place.{Place}
-use Rattle.model.specs.declared.Verdict.TheVariants.{Pass}
 use Rattle.model.specs.LogBufferDescriptor.{first_rows, sound, Sound, good_partition, good_offset, within_term}
 use Rattle.model.specs.TermReader.{good_start}
 use Rattle.model.proofs.Sound.{sound-true, term-32}
@@ -72,13 +72,13 @@ started v n k at g h =
     }
 
 -- the place of a frame by the rows' verdict, and with what else row 1 asks
-pub passed-place : (p : Place) (n : ℕ) → first_rows (good_partition p.partition && good_offset p.offset p.read) (sound p.read n) Pass ≡ Pass
+pub passed-place : (p : Place) (n : ℕ) → first_rows (good_partition p.partition && good_offset p.offset p.read) (sound p.read n) (Ok tt) ≡ Ok tt
     → Placed p.read n p.partition p.offset
 passed-place p n h =
     let g = rows_pass (good_partition p.partition && good_offset p.offset p.read) (sound p.read n) h in placed p.read n p.partition p.offset g.0 g.1
 
 pub rows-placed : (p : Place) (n : ℕ) (more : Bool)
-    → first_rows (good_partition p.partition && (good_offset p.offset p.read && more)) (sound p.read n) Pass ≡ Pass
+    → first_rows (good_partition p.partition && (good_offset p.offset p.read && more)) (sound p.read n) (Ok tt) ≡ Ok tt
     → Placed p.read n p.partition p.offset × (more ≡ true)
 rows-placed p n more h =
     let g = rows_pass (good_partition p.partition && (good_offset p.offset p.read && more)) (sound p.read n) h in

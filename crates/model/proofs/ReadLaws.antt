@@ -1,4 +1,5 @@
 -- `read` by way of the walk that the leaf library offers: what each of its rows answers, at the place that its code reads.
+use Rattle.std.specs.Prelude.{Result, Ok, Err, ⊤}
 use mathlib.Core.Path.{◌≡◌, refl, sym, ap, ap₂, ◌∙◌}
 use mathlib.Core.Bool.{Bool, true, false, cond, ◌&&◌, ◌||◌}
 use mathlib.Core.List.{List, [], ◌∷◌}
@@ -13,11 +14,8 @@ use Rattle.model.specs.declared.Place.{Place}
 use Rattle.model.specs.declared.Error.{Error}
 use Rattle.model.specs.declared.Frame.{Frame}
 use Rattle.model.specs.declared.Frame.TheVariants.{Absent, Unsound, Padding, Data}
-use Rattle.model.specs.declared.Verdict.{Verdict}
-use Rattle.model.specs.declared.Verdict.TheVariants.{Pass, Refuse}
 use Rattle.model.specs.declared.Walk.{Walk}
 use Rattle.model.specs.declared.FramesRead.TheVariants.{Walked as AllWalked}
-use Rattle.model.specs.declared.TermRead.TheVariants.{Refused}
 use Rattle.model.specs.FrameDescriptor.{align, frame_at, unsound_frame_at}
 use Rattle.model.specs.LogBufferDescriptor.{sound, good_partition, place_of, first_rows, frame_row}
 use Rattle.model.specs.TermReader.{Walked, still, over, handed, good_walk, good_handler, good_start, next_action, rest_actions, walk, walk_of, first_unsound, natural, good_entries, frames_by, frames_of, frames_entries, read_from, read_walk, read_verdict, read_by, read_of, read_entries, entries_by}
@@ -102,11 +100,11 @@ module _ (r : LogRecord) (log : List ℕ) (partition offset limit : ℤ) (slots 
   abbrev walk_at : Place → ℕ → Walked
   walk_at x l = read_walk x.read log x.partition x.offset l
 
-  abbrev judged_at : Place → ℕ → Verdict
+  abbrev judged_at : Place → ℕ → Result ⊤ Error
   judged_at x l = read_verdict x.read log x.partition x.offset l (length slots)
 
   -- both answers by one verdict, at the place and with the limit that the code reads
-  by-verdict : {v : Verdict} → v ≡ judged_at p most
+  by-verdict : {v : Result ⊤ Error} → v ≡ judged_at p most
       → (read_by p.offset (walk_at p most) v ≡ read_of r log partition offset limit slots) × (entries_by slots (walk_at p most) v ≡ read_entries r log partition offset limit slots)
   unfolding read_of read_entries
   by-verdict h = (
@@ -114,8 +112,8 @@ module _ (r : LogRecord) (log : List ℕ) (partition offset limit : ℤ) (slots 
     ap (entries_by slots (walk_at p most)) h ∙ ap₂ (λ (x : Place) (l : ℕ). entries_by slots (walk_at x l) (judged_at x l)) ep em,
   )
 
-  abbrev rows : Verdict
-  rows = first_rows (good_read p most (length slots)) (sound p.read (length log)) Pass
+  abbrev rows : Result ⊤ Error
+  rows = first_rows (good_read p most (length slots)) (sound p.read (length log)) (Ok tt)
 
   abbrev first : Bool
   first = first_unsound log (p.partition * p.read.term) p.read.term p.read.term p.offset most
@@ -123,7 +121,7 @@ module _ (r : LogRecord) (log : List ℕ) (partition offset limit : ℤ) (slots 
   abbrev refusal : Error
   refusal = unsound_frame_at log (p.partition * p.read.term) p.offset
 
-  pub read-refused : {e : Error} → rows ≡ Refuse e → (Refused e ≡ read_of r log partition offset limit slots) × (slots ≡ read_entries r log partition offset limit slots)
+  pub read-refused : {e : Error} → rows ≡ Err e → (Err e ≡ read_of r log partition offset limit slots) × (slots ≡ read_entries r log partition offset limit slots)
   unfolding read_verdict
   read-refused h = by-verdict (rows-refuse (good_read p most (length slots)) (sound p.read (length log)) (frame_row first refusal) h)
 
@@ -132,7 +130,7 @@ module _ (r : LogRecord) (log : List ℕ) (partition offset limit : ℤ) (slots 
   by_first false w = refl
 
   -- after rows 1 and 2: the walk
-  pub read_goes : rows ≡ Pass
+  pub read_goes : rows ≡ Ok tt
       → (read_from p.offset (frames_of log (p.partition * p.read.term) p.read.term p.read.term p.offset most [] slots) ≡ read_of r log partition offset limit slots)
       × (frames_entries log (p.partition * p.read.term) p.read.term p.read.term p.offset most [] slots ≡ read_entries r log partition offset limit slots)
   unfolding read_verdict
@@ -147,6 +145,6 @@ module _ (log : List ℕ) (base term end at limit : ℕ) (acts : List ℕ) (slot
   pub frames-moved : (w : Walk) → frames_of log base term end at limit acts slots ≡ AllWalked w → w.moved ≤ term - at
   frames-moved w q = go (first_unsound log base term end at limit) ((frames-by log base term end at limit acts slots h g).0 ∙ q)
     where
-      go : (b : Bool) → frames_by (walk term log base term end at limit acts) (cond b (Refuse (unsound_frame_at log base at)) Pass) ≡ AllWalked w → w.moved ≤ term - at
+      go : (b : Bool) → frames_by (walk term log base term end at limit acts) (cond b (Err (unsound_frame_at log base at)) (Ok tt)) ≡ AllWalked w → w.moved ≤ term - at
       go true t = absurd (let z : ◌≡◌ {A = ℕ} 0 1 = cc in omega arith)
       go false t = let e : walk_of (walk term log base term end at limit acts) ≡ w = cc in omega (arith, ap (λ (x : Walk). x.moved) e, walk-moved term log base term end at limit acts)

@@ -1,4 +1,5 @@
 -- Row 1 of a walk over frames, in words, and both ways; and the walk's own answer once row 1 is met.
+use Rattle.std.specs.Prelude.{Ok, Err}
 use mathlib.Core.Path.{◌≡◌, refl, sym, ap, ◌∙◌}
 use mathlib.Core.Bool.{Bool, true, false, cond, ◌&&◌, ◌||◌}
 use mathlib.Core.List.{List}
@@ -10,7 +11,6 @@ use lib.ListN.{length}
 use lib.IntN.{ℤ}
 use Rattle.model.specs.declared.FramesRead.TheVariants.{Walked as AllWalked, Refused as WalkRefused}
 use Rattle.model.specs.declared.Error.TheVariants.{IllegalArgument}
-use Rattle.model.specs.declared.Verdict.TheVariants.{Pass, Refuse}
 use Rattle.model.proofs.WalkLoop.{Came, walk_by}
 use Rattle.model.specs.FrameDescriptor.{unsound_frame_at}
 use Rattle.model.specs.TermReader.{walk, first_unsound, good_walk, good_control, good_handler, frames_verdict, frames_by, frames_of, frames_entries, entries_by}
@@ -85,25 +85,25 @@ module _ (log : List ℕ) (base term end at limit : ℕ) (acts : List ℕ) (slot
   frames-refused h = (rw h, rw h)
 
   pub frames-by : good_walk (length log) base term end at limit (length slots) ≡ true → good_handler acts limit ≡ true
-      → (frames_by (walk term log base term end at limit acts) (cond (first_unsound log base term end at limit) (Refuse (unsound_frame_at log base at)) Pass) ≡ frames_of log base term end at limit acts slots)
-      × (entries_by slots (walk term log base term end at limit acts) (cond (first_unsound log base term end at limit) (Refuse (unsound_frame_at log base at)) Pass) ≡ frames_entries log base term end at limit acts slots)
+      → (frames_by (walk term log base term end at limit acts) (cond (first_unsound log base term end at limit) (Err (unsound_frame_at log base at)) (Ok tt)) ≡ frames_of log base term end at limit acts slots)
+      × (entries_by slots (walk term log base term end at limit acts) (cond (first_unsound log base term end at limit) (Err (unsound_frame_at log base at)) (Ok tt)) ≡ frames_entries log base term end at limit acts slots)
   unfolding frames_of frames_entries frames_verdict
   frames-by h g = (rw (h, g), rw (h, g))
 
   -- what a loop came to is the answer, once the first frame is judged; `moved` is the loop's own number
   pub frames-came : (out : List ℤ) (e f m moved s : ℕ) → Came log base term end at limit acts slots out (walk_by e f m s) → moved ≡ m
-      → (AllWalked (walk_by e f moved s) ≡ frames_by (walk term log base term end at limit acts) (cond (first_unsound log base term end at limit) (Refuse (unsound_frame_at log base at)) Pass))
-      × (out ≡ entries_by slots (walk term log base term end at limit acts) (cond (first_unsound log base term end at limit) (Refuse (unsound_frame_at log base at)) Pass))
+      → (AllWalked (walk_by e f moved s) ≡ frames_by (walk term log base term end at limit acts) (cond (first_unsound log base term end at limit) (Err (unsound_frame_at log base at)) (Ok tt)))
+      × (out ≡ entries_by slots (walk term log base term end at limit acts) (cond (first_unsound log base term end at limit) (Err (unsound_frame_at log base at)) (Ok tt)))
   frames-came out e f m moved s k q = (
     ap (λ (x : ℕ). AllWalked (walk_by e f x s)) q ∙ ap AllWalked k.numbers
-        ∙ ap (λ (t : Bool). frames_by (walk term log base term end at limit acts) (cond t (Refuse (unsound_frame_at log base at)) Pass)) (sym k.first),
-    k.written ∙ ap (λ (t : Bool). entries_by slots (walk term log base term end at limit acts) (cond t (Refuse (unsound_frame_at log base at)) Pass)) (sym k.first),
+        ∙ ap (λ (t : Bool). frames_by (walk term log base term end at limit acts) (cond t (Err (unsound_frame_at log base at)) (Ok tt))) (sym k.first),
+    k.written ∙ ap (λ (t : Bool). entries_by slots (walk term log base term end at limit acts) (cond t (Err (unsound_frame_at log base at)) (Ok tt))) (sym k.first),
   )
 
   pub frames-first : (out : List ℤ) → (first_unsound log base term end at limit ≡ true) × (out ≡ slots)
-      → (WalkRefused (unsound_frame_at log base at) ≡ frames_by (walk term log base term end at limit acts) (cond (first_unsound log base term end at limit) (Refuse (unsound_frame_at log base at)) Pass))
-      × (out ≡ entries_by slots (walk term log base term end at limit acts) (cond (first_unsound log base term end at limit) (Refuse (unsound_frame_at log base at)) Pass))
+      → (WalkRefused (unsound_frame_at log base at) ≡ frames_by (walk term log base term end at limit acts) (cond (first_unsound log base term end at limit) (Err (unsound_frame_at log base at)) (Ok tt)))
+      × (out ≡ entries_by slots (walk term log base term end at limit acts) (cond (first_unsound log base term end at limit) (Err (unsound_frame_at log base at)) (Ok tt)))
   frames-first out h = (
-    ap (λ (t : Bool). frames_by (walk term log base term end at limit acts) (cond t (Refuse (unsound_frame_at log base at)) Pass)) (sym h.0),
-    h.1 ∙ ap (λ (t : Bool). entries_by slots (walk term log base term end at limit acts) (cond t (Refuse (unsound_frame_at log base at)) Pass)) (sym h.0),
+    ap (λ (t : Bool). frames_by (walk term log base term end at limit acts) (cond t (Err (unsound_frame_at log base at)) (Ok tt))) (sym h.0),
+    h.1 ∙ ap (λ (t : Bool). entries_by slots (walk term log base term end at limit acts) (cond t (Err (unsound_frame_at log base at)) (Ok tt))) (sym h.0),
   )

@@ -1,5 +1,6 @@
 -- Any replay from a position of a term in the window, only while below the publisher's position, comes to an end, having taken in what
 -- the frames from there on hold up to the first claim still open.
+use Rattle.std.specs.Prelude.{Result, Ok, Err}
 use mathlib.Core.Path.{◌≡◌, refl, sym, ap, ap₂, ◌∙◌, subst}
 use mathlib.Core.Bool.{Bool, true, false, cond, not, ◌&&◌}
 use mathlib.Core.Logic.{◌⊎◌, inl, inr, ⊎_elim}
@@ -15,13 +16,12 @@ use lib.Seq.{drop_at, drop-drop}
 use lib.IntN.{ℤ, pos}
 use Rattle.model.specs.declared.LogRecord.{LogRecord}
 use Rattle.model.specs.declared.Polled.{Polled}
-use Rattle.model.specs.declared.Polled.TheVariants.{Fragments, Refused as PollRefused}
-use Rattle.model.specs.declared.Replayed.{Replayed as Given}
-use Rattle.model.specs.declared.Replayed.TheVariants.{End, Refused as ReplayRefused}
+use Rattle.model.specs.declared.Replayed.{Replayed as ReplayedMessage}
+use Rattle.model.specs.declared.Replayed.TheVariants.{End}
 use Rattle.model.specs.declared.Assembled.{Assembled}
-use Rattle.model.specs.declared.Assembled.TheVariants.{Nothing, Fragment, Message, Refused as AssemblyRefused}
+use Rattle.model.specs.declared.Assembled.TheVariants.{Nothing, Fragment, Message}
 use Rattle.model.specs.declared.Error.{Error}
-use Rattle.model.specs.declared.ReadVerdict.TheVariants.{Read, Refuse}
+use Rattle.model.specs.declared.ReadVerdict.TheVariants.{Read}
 use Rattle.model.specs.declared.Error.TheVariants.{IllegalArgument, IllegalRecord, PositionOutOfRange}
 use Rattle.model.specs.Bytes.{zeros, long}
 use Rattle.model.specs.FrameDescriptor.{frame_at, is_unsound, unsound_frame_at}
@@ -44,6 +44,10 @@ use Rattle.model.proofs.Rising.{clash}
 use Rattle.model.proofs.OneSession.{frags_of, Asm, empty, takes-in, takes-append, takes-lost, takes-grow}
 use Rattle.model.proofs.Assembling.{fresh-same}
 use Rattle.model.proofs.Feeding.{feed_each, feed-all, Like, all-fed, one-lost}
+
+-- a poll's answer by its two numbers
+polled_as : ℕ → ℕ → Result Polled Error
+polled_as n m = Ok (record { fragments = n; entries = m })
 
 fits-small : (T r : ℕ) (fs gs : List Cell) → Fits T r (fs ++ gs) → AllSmall fs
 unfolding Fits AllSmall
@@ -204,21 +208,21 @@ module _ (r : LogRecord) (log : List ℕ) (snd : Sound (reading r) (length log))
       abbrev p· : ℕ
       p· = at· front
 
-      reads : poll_verdict (reading r) log image (good_entries (length slots) (natural limit)) T (natural limit) ≡ Read
+      reads : poll_verdict (reading r) log image (good_entries (length slots) (natural limit)) T (natural limit) ≡ Ok Read
       unfolding poll_verdict readable
       reads =
-          cond-false (not (good_entries (length slots) (natural limit))) (Refuse IllegalArgument) _ (ap not lent)
-          ∙ cond-false (not (sound (reading r) (length log))) (Refuse IllegalRecord) _ (ap not good)
-          ∙ cond-false (not (leb p· (greatest (reading r)) && eqb (p· % 32) 0)) (Refuse PositionOutOfRange) _
+          cond-false (not (good_entries (length slots) (natural limit))) (Err IllegalArgument) _ (ap not lent)
+          ∙ cond-false (not (sound (reading r) (length log))) (Err IllegalRecord) _ (ap not good)
+          ∙ cond-false (not (leb p· (greatest (reading r)) && eqb (p· % 32) 0)) (Err PositionOutOfRange) _
           (ap not (both_true (le-leb p· (greatest (reading r)) (omega (arith, ap sizes q, sizes-append front back))) (eq-eqb (p· % 32) 0 (omega (arith, sizes-32 front)))))
-          ∙ cond-false (first_unsound log (base p·) T T (p· % T) (natural limit)) (Refuse (unsound_frame_at log (base p·) (p· % T))) Read
+          ∙ cond-false (first_unsound log (base p·) T T (p· % T) (natural limit)) (Err (unsound_frame_at log (base p·) (p· % T))) (Ok Read)
           (neither (ltb (p· % T) T) (ltb 0 (natural limit)) _ (sees front back q b))
 
-      polls : poll_of r log image slots limit ≡ poll_reply image slots (walked p· (natural limit)) Read
+      polls : poll_of r log image slots limit ≡ poll_reply image slots (walked p· (natural limit)) (Ok Read)
       unfolding poll_of
       polls =
           ap (poll_reply image slots (walk T log (base p·) T T (p· % T) (natural limit) [])) reads
-          ∙ ap (λ (w : Walked). poll_reply image slots w Read) (same-walk front (natural limit) b)
+          ∙ ap (λ (w : Walked). poll_reply image slots w (Ok Read)) (same-walk front (natural limit) b)
 
     -- ---- where a replay stands: over the frames `front`, all taken in
 
@@ -238,7 +242,7 @@ module _ (r : LogRecord) (log : List ℕ) (snd : Sound (reading r) (length log))
         w = walks front back (natural limit) s.cut
 
         abbrev reply : PollReply
-        reply = poll_reply (new_image (pos (at· front)) session) slots (walked (at· front) (natural limit)) Read
+        reply = poll_reply (new_image (pos (at· front)) session) slots (walked (at· front) (natural limit)) (Ok Read)
 
         polled : poll_of r log p.image slots limit ≡ reply
         polled = ap (λ (i : Image). poll_of r log i slots limit) s.image ∙ polls session front back s.cut b slots limit lent
@@ -362,13 +366,13 @@ module _ (r : LogRecord) (log : List ℕ) (snd : Sound (reading r) (length log))
 
         -- a walk that does not move is quiet
         quiet : (n : ℕ) (front back : List Cell) → Stands (at n) front back → at· front < (low + 3) * T → (walked (at· front) (natural (ps.limit n))).moved ≡ 0 → QuietPoll r log ps (at n) n
-        unfolding ents_of
+        unfolding ents_of polled_as
         quiet n front back s b m =
             let v = walks front back (natural (ps.limit n)) s.cut in
             let none : (walked (at· front) (natural (ps.limit n))).entries ≡ [] = v.entries ∙ ap (ents_of (at· front % T)) (sizes-zero v.front (sym v.moved ∙ m)) in
             let q = polled (at n) front back s b (ps.slots n) (ps.limit n) (allowed.slots n) in
             record {
-              comes = ap (λ (y : PollReply). y.answer) q ∙ ap₂ Fragments (v.fragments ∙ ap length none) (ap length none);
+              comes = ap (λ (y : PollReply). y.answer) q ∙ ap₂ (λ (x y : ℕ). polled_as x y) (v.fragments ∙ ap length none) (ap length none);
               moves = ap (λ (y : PollReply). y.next) q ∙ ap (λ (k : ℕ). new_image (pos k) session) (ap (λ (k : ℕ). at· front + k) m ∙ omega arith) ∙ sym s.image;
             }
 
@@ -494,7 +498,7 @@ module _ (r : LogRecord) (log : List ℕ) (snd : Sound (reading r) (length log))
         grown : at.out ≡ p.out ++ (message ∷ [])
 
       record Ended (p : Replaying) (y : NextReply) : Type 0 where
-        answer : y.answer ≡ End
+        answer : y.answer ≡ Ok End
         given : p.out ≡ (takes-in part empty (frags_of fs)).out
         at : Replaying
         front' : List Cell
@@ -514,18 +518,18 @@ module _ (r : LogRecord) (log : List ℕ) (snd : Sound (reading r) (length log))
           inr (record { at = x.at; front' = x.front'; back' = x.back'; stands_on = x.stands_on; less = omega (arith, x.less); is = x.is; message = x.message; gives = x.gives; grown = x.grown ∙ ap (λ (o : List (List ℕ)). o ++ (x.message ∷ [])) e })
 
       -- the turn, by the poll's reply at a position
-      abbrev turning : ReplayState → ℕ → PollReply → Polled → (ReplayState → NextReply) → NextReply
-      turning s q y (PollRefused e) go = giving s (ReplayRefused e)
-      turning s q y (Fragments n m) go =
-          cond (eqb m 0)
-          (cond (eqb (long y.next.position) q) (giving s End) (go (record { image = y.next; sessions = s.sessions; buffer = s.buffer })))
+      abbrev turning : ReplayState → ℕ → PollReply → Result Polled Error → (ReplayState → NextReply) → NextReply
+      turning s q y (Err e) go = giving s (Err e)
+      turning s q y (Ok polled) go =
+          cond (eqb polled.entries 0)
+          (cond (eqb (long y.next.position) q) (giving s (Ok End)) (go (record { image = y.next; sessions = s.sessions; buffer = s.buffer })))
           (given_by (partition_of q T * T) s
           (assembled_to y.next (assemble_of r log s.sessions s.buffer (pos (partition_of q T)) (pos (natural (get_or y.slots 0 (pos 0)) - 32))))
           (assemble_of r log s.sessions s.buffer (pos (partition_of q T)) (pos (natural (get_or y.slots 0 (pos 0)) - 32))).answer go)
 
-      turn_is : (s : ReplayState) (x : Polled) (go : ReplayState → NextReply) → turn_by r log s x go ≡ turning s (long s.image.position) (poll_one r log s.image) x go
-      turn_is s (PollRefused e) go = refl
-      turn_is s (Fragments n m) go = refl
+      turn_is : (s : ReplayState) (x : Result Polled Error) (go : ReplayState → NextReply) → turn_by r log s x go ≡ turning s (long s.image.position) (poll_one r log s.image) x go
+      turn_is s (Err e) go = refl
+      turn_is s (Ok _) go = refl
 
       module _ (kept : (takes-in part empty (frags_of fs)).lost ≡ false) (p : Replaying) (front back : List Cell) (s : Stands p front back) (b : at· front < (low + 3) * T) (go : ReplayState → NextReply) where
         abbrev v : Goes T (at· front % T) back (walked (at· front) 1)
@@ -535,7 +539,7 @@ module _ (r : LogRecord) (log : List ℕ) (snd : Sound (reading r) (length log))
         q· = at· front
 
         abbrev reply· : PollReply
-        reply· = poll_reply (new_image (pos (at· front)) session) two (walked (at· front) 1) Read
+        reply· = poll_reply (new_image (pos (at· front)) session) two (walked (at· front) 1) (Ok Read)
 
         -- the poll's reply, where the replay stands
         turns : turn_by r log (state p) (poll_one r log p.image).answer go ≡ turning (state p) q· reply· reply·.answer go
@@ -574,13 +578,13 @@ module _ (r : LogRecord) (log : List ℕ) (snd : Sound (reading r) (length log))
 
         -- no message came
         none_came : (walked q· 1).entries ≡ [] → ((x : Replaying) (f b : List Cell) → Stands x f b → length b < length back → Said x b (go (state x)))
-            → Said p back (cond (eqb (q· + (walked q· 1).moved) q·) (giving (state p) End) (go (record { image = image'; sessions = p.sessions; buffer = p.buffer })))
+            → Said p back (cond (eqb (q· + (walked q· 1).moved) q·) (giving (state p) (Ok End)) (go (record { image = image'; sessions = p.sessions; buffer = p.buffer })))
         none_came e ih =
             same? (walked q· 1).moved 0
             (λ m.
             subst (Said p back) (sym (eq_yes (q· + (walked q· 1).moved) q· _ _ (omega arith))) (inl (record { answer = refl; given = complete p front back s (stops front back 1 s.cut (omega arith) m); at = p; front' = front; back' = back; stands_on = s; is = refl; same = refl })))
             (λ m.
-            subst (Said p back) (ap (λ (x : Replaying). go (state x)) (quiet-round e) ∙ sym (eq_no (q· + (walked q· 1).moved) q· (giving (state p) End) _ (λ (z : q· + (walked q· 1).moved ≡ q·). m (omega arith))))
+            subst (Said p back) (ap (λ (x : Replaying). go (state x)) (quiet-round e) ∙ sym (eq_no (q· + (walked q· 1).moved) q· (giving (state p) (Ok End)) _ (λ (z : q· + (walked q· 1).moved ≡ q·). m (omega arith))))
             (said-on p (onto p) back v.back (go (state (onto p))) (ap (λ (x : Replaying). x.out) (quiet-round e)) (omega (arith, less m)) (ih (onto p) (front ++ v.front) v.back s' (less m))))
 
         -- a body came: what the assembler was given
@@ -592,7 +596,7 @@ module _ (r : LogRecord) (log : List ℕ) (snd : Sound (reading r) (length log))
         came m n e = one-round m n e
 
         -- the assembler never refuses: it would have lost a message
-        kept-all : (m n : ℕ) → (walked q· 1).entries ≡ (m, n) ∷ [] → (e : Error) → (a· m).answer ≡ AssemblyRefused e → ⊥
+        kept-all : (m n : ℕ) → (walked q· 1).entries ≡ (m, n) ∷ [] → (e : Error) → (a· m).answer ≡ Err e → ⊥
         kept-all m n e x h =
             let k = partition_of q· T in
             let lost : (takes-in part (takes-in part empty (frags_of front)) (frags_of v.front)).lost ≡ true =
@@ -609,13 +613,13 @@ module _ (r : LogRecord) (log : List ℕ) (snd : Sound (reading r) (length log))
 
         one-came : (m n : ℕ) → (walked q· 1).entries ≡ (m, n) ∷ [] → ¬ ((walked q· 1).moved ≡ 0)
             → ((x : Replaying) (f b : List Cell) → Stands x f b → length b < length back → Said x b (go (state x)))
-            → (o : Assembled) → (a· m).answer ≡ o → Said p back (given_by (partition_of q· T * T) (state p) (assembled_to image' (a· m)) o go)
-        one-came m n e u ih Nothing h =
+            → (o : Result Assembled Error) → (a· m).answer ≡ o → Said p back (given_by (partition_of q· T * T) (state p) (assembled_to image' (a· m)) o go)
+        one-came m n e u ih (Ok Nothing) h =
             subst (λ (x : ReplayState). Said p back (go x)) (ap state (came m n e))
             (said-on p (onto p) back v.back (go (state (onto p)))
-            (ap (λ (x : Replaying). x.out) (came m n e) ∙ ap (λ (o : Assembled). p.out ++ handed_out log (partition_of q· T * T) (a· m).buffer o) h ∙ append-nil p.out)
+            (ap (λ (x : Replaying). x.out) (came m n e) ∙ ap (λ (o : Result Assembled Error). p.out ++ handed_out log (partition_of q· T * T) (a· m).buffer o) h ∙ append-nil p.out)
             (omega (arith, less u)) (ih (onto p) (front ++ v.front) v.back s' (less u)))
-        one-came m n e u ih (Fragment at k) h =
+        one-came m n e u ih (Ok (Fragment at k)) h =
             inr (record {
               at = onto p;
               front' = front ++ v.front;
@@ -625,9 +629,9 @@ module _ (r : LogRecord) (log : List ℕ) (snd : Sound (reading r) (length log))
               is = sym (ap state (came m n e));
               message = take k (drop (partition_of q· T * T + at) log);
               gives = λ rest. refl;
-              grown = ap (λ (x : Replaying). x.out) (came m n e) ∙ ap (λ (o : Assembled). p.out ++ handed_out log (partition_of q· T * T) (a· m).buffer o) h;
+              grown = ap (λ (x : Replaying). x.out) (came m n e) ∙ ap (λ (o : Result Assembled Error). p.out ++ handed_out log (partition_of q· T * T) (a· m).buffer o) h;
             })
-        one-came m n e u ih (Message at k) h =
+        one-came m n e u ih (Ok (Message at k)) h =
             inr (record {
               at = onto p;
               front' = front ++ v.front;
@@ -637,9 +641,9 @@ module _ (r : LogRecord) (log : List ℕ) (snd : Sound (reading r) (length log))
               is = sym (ap state (came m n e));
               message = take k (drop at (a· m).buffer);
               gives = λ rest. refl;
-              grown = ap (λ (x : Replaying). x.out) (came m n e) ∙ ap (λ (o : Assembled). p.out ++ handed_out log (partition_of q· T * T) (a· m).buffer o) h;
+              grown = ap (λ (x : Replaying). x.out) (came m n e) ∙ ap (λ (o : Result Assembled Error). p.out ++ handed_out log (partition_of q· T * T) (a· m).buffer o) h;
             })
-        one-came m n e u ih (AssemblyRefused x) h = absurd (kept-all m n e x h)
+        one-came m n e u ih (Err x) h = absurd (kept-all m n e x h)
 
         -- what moved where a body came
         moves-some : (m n : ℕ) (es : List (ℕ × ℕ)) → (walked q· 1).entries ≡ (m, n) ∷ es → ¬ ((walked q· 1).moved ≡ 0)
@@ -652,7 +656,7 @@ module _ (r : LogRecord) (log : List ℕ) (snd : Sound (reading r) (length log))
         abbrev by_entries : List (ℕ × ℕ) → NextReply
         by_entries es =
             cond (eqb (length es) 0)
-            (cond (eqb (q· + (walked q· 1).moved) q·) (giving (state p) End) (go (record { image = image'; sessions = p.sessions; buffer = p.buffer })))
+            (cond (eqb (q· + (walked q· 1).moved) q·) (giving (state p) (Ok End)) (go (record { image = image'; sessions = p.sessions; buffer = p.buffer })))
             (given_by (partition_of q· T * T) (state p)
             (assembled_to image' (assemble_of r log p.sessions p.buffer (pos (partition_of q· T)) (pos (natural (get_or (laid two es) 0 (pos 0)) - 32))))
             (assemble_of r log p.sessions p.buffer (pos (partition_of q· T)) (pos (natural (get_or (laid two es) 0 (pos 0)) - 32))).answer go)
@@ -721,7 +725,7 @@ module _ (r : LogRecord) (log : List ℕ) (snd : Sound (reading r) (length log))
           let y = next_from (suc (3 * T)) r log (state p) in
           ap (λ (x : NextReply). p.out ++ message_by log x.next x.answer (replayed most r log x.next)) (next-is-from p front back s)
           ∙ ⊎_elim
-          (λ x. ap (λ (a : Given). p.out ++ message_by log y.next a (replayed most r log y.next)) x.answer ∙ append-nil p.out ∙ x.given ∙ found)
+          (λ x. ap (λ (a : Result ReplayedMessage Error). p.out ++ message_by log y.next a (replayed most r log y.next)) x.answer ∙ append-nil p.out ∙ x.given ∙ found)
           (λ x.
           ap (λ (l : List (List ℕ)). p.out ++ l) (x.gives (replayed most r log y.next) ∙ ap (λ (t : ReplayState). x.message ∷ replayed most r log t) x.is)
           ∙ sym (append_assoc p.out (x.message ∷ []) (replayed most r log (state x.at)))
@@ -732,7 +736,7 @@ module _ (r : LogRecord) (log : List ℕ) (snd : Sound (reading r) (length log))
       -- after as many replies as there are messages, or more, comes the end
       ended : (ms : List (List ℕ)) → (takes-in part empty (frags_of fs)).lost ≡ false → (takes-in part empty (frags_of fs)).out ≡ ms
           → (n : ℕ) (p : Replaying) (front back : List Cell) → Stands p front back → length ms ≤ length p.out + n
-          → (next_of r log (standing n r log (state p))).answer ≡ End
+          → (next_of r log (standing n r log (state p))).answer ≡ Ok End
       unfolding standing
       ended ms kept found zero p front back s l =
           ap (λ (x : NextReply). x.answer) (next-is-from p front back s)
@@ -742,10 +746,10 @@ module _ (r : LogRecord) (log : List ℕ) (snd : Sound (reading r) (length log))
       ended ms kept found (suc n) p front back s l =
           ⊎_elim
           (λ x.
-          subst (λ (t : ReplayState). (next_of r log (standing n r log t)).answer ≡ End) (sym (ap (λ (y : NextReply). y.next) (next-is-from p front back s) ∙ x.is))
+          subst (λ (t : ReplayState). (next_of r log (standing n r log t)).answer ≡ Ok End) (sym (ap (λ (y : NextReply). y.next) (next-is-from p front back s) ∙ x.is))
           (ended ms kept found n x.at x.front' x.back' x.stands_on (omega (arith, ap length x.same, ap length x.given, ap length found))))
           (λ x.
-          subst (λ (t : ReplayState). (next_of r log (standing n r log t)).answer ≡ End) (sym (ap (λ (y : NextReply). y.next) (next-is-from p front back s) ∙ x.is))
+          subst (λ (t : ReplayState). (next_of r log (standing n r log t)).answer ≡ Ok End) (sym (ap (λ (y : NextReply). y.next) (next-is-from p front back s) ∙ x.is))
           (ended ms kept found n x.at x.front' x.back' x.stands_on (omega (arith, ap length x.grown, length-append p.out (x.message ∷ [])))))
           (next-says kept (suc (3 * T)) p front back s (enough front back s.cut))
 

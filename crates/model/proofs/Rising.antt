@@ -1,5 +1,6 @@
 -- Every call keeps the tails in step, and the publisher's position does not fall; an accepted offer or claim answers the position that
 -- it reaches, and that one is greater. All of it from the tails alone, whatever the log holds, and past the third term.
+use Rattle.std.specs.Prelude.{Result, Ok, Err, ⊤, ℤ}
 use mathlib.Core.Path.{◌≡◌, refl, sym, ap, ap₂, ◌∙◌, subst}
 use mathlib.Core.Bool.{Bool, true, false, cond, not}
 use Prim.Native.Nat.{ℕ, ◌+◌, ◌*◌, ◌≤◌, ◌<◌, min}
@@ -14,14 +15,8 @@ use Rattle.model.specs.declared.LogRecord.{LogRecord}
 use Rattle.model.specs.declared.Reading.{Reading}
 use Rattle.model.specs.declared.Error.{Error}
 use Rattle.model.specs.declared.Error.TheVariants.{IllegalArgument, IllegalRecord, ExceedsMaxPayloadLength, PublicationClosed, AdminAction, ExceedsMaxMessageLength, TailOverflow}
-use Rattle.model.specs.declared.Verdict.{Verdict}
-use Rattle.model.specs.declared.Verdict.TheVariants.{Pass, Refuse}
-use Rattle.model.specs.declared.Outcome.TheVariants.{Done, Refused}
 use Rattle.model.specs.declared.RecordReply.{RecordReply}
-use Rattle.model.specs.declared.Offered.{Offered}
-use Rattle.model.specs.declared.Offered.TheVariants.{Position as OfferPosition, Refused as OfferRefused}
 use Rattle.model.specs.declared.Claimed.{Claimed}
-use Rattle.model.specs.declared.Claimed.TheVariants.{Position as ClaimPosition, Refused as ClaimRefused}
 use Rattle.model.specs.Bytes.{word, long}
 use Rattle.model.specs.FrameDescriptor.{space}
 use Rattle.model.specs.LogBufferDescriptor.{id_plus, id_minus, reading, active, payload_limit, greatest, sound_record, sound, Sound, last_term, with_tail, with_limit, with_closed, with_slowest, with_mark, is_ready, rotated}
@@ -45,32 +40,32 @@ pub record Through (v : Reading) (n needed : ℕ) : Type 0 where
   pub is-sound : Sound v n
   pub room : v.offset + needed ≤ 2147483647
 
-pub Lets : Reading → ℕ → ℕ → Verdict → Type 0
-Lets v n needed Pass = Through v n needed
-Lets v n needed (Refuse e) = Unit {0}
+pub Lets : Reading → ℕ → ℕ → Result ⊤ Error → Type 0
+Lets v n needed (Ok _) = Through v n needed
+Lets v n needed (Err e) = Unit {0}
 
-lets-no : (v : Reading) (n needed : ℕ) (e : Error) → Lets v n needed (Refuse e)
+lets-no : (v : Reading) (n needed : ℕ) (e : Error) → Lets v n needed (Err e)
 unfolding Lets
 lets-no v n needed e = tt
 
-lets-pass : (v : Reading) (n needed : ℕ) → Through v n needed → Lets v n needed Pass
+lets-pass : (v : Reading) (n needed : ℕ) → Through v n needed → Lets v n needed (Ok tt)
 unfolding Lets
 lets-pass v n needed t = t
 
-pub lets-through : (v : Reading) (n needed : ℕ) → Lets v n needed Pass → Through v n needed
+pub lets-through : (v : Reading) (n needed : ℕ) → Lets v n needed (Ok tt) → Through v n needed
 unfolding Lets
 lets-through v n needed t = t
 
-after-lets : (v : Reading) (n m needed : ℕ) (x : Verdict) → Lets v n needed x → Lets v n needed (after_closed v m x)
+after-lets : (v : Reading) (n m needed : ℕ) (x : Result ⊤ Error) → Lets v n needed x → Lets v n needed (after_closed v m x)
 unfolding after_closed
 after-lets v n m needed x h =
     let no = lets-no v n needed in
-    cond-case (Lets v n needed) (not (eqb (id_minus v.id v.initial) v.count)) (Refuse AdminAction) _ (λ e. no AdminAction)
-    (λ e. cond-case (Lets v n needed) (leb v.limit (place v)) (Refuse (pressed v m)) x (λ e. no (pressed v m)) (λ e. h))
+    cond-case (Lets v n needed) (not (eqb (id_minus v.id v.initial) v.count)) (Err AdminAction) _ (λ e. no AdminAction)
+    (λ e. cond-case (Lets v n needed) (leb v.limit (place v)) (Err (pressed v m)) x (λ e. no (pressed v m)) (λ e. h))
 
 room-lets : (v : Reading) (n needed : ℕ) → sound v n ≡ true → Lets v n needed (tail_room v needed)
 room-lets v n needed s =
-    cond-case (Lets v n needed) (ltb 2147483647 (v.offset + needed)) (Refuse TailOverflow) Pass (λ e. lets-no v n needed TailOverflow)
+    cond-case (Lets v n needed) (ltb 2147483647 (v.offset + needed)) (Err TailOverflow) (Ok tt) (λ e. lets-no v n needed TailOverflow)
     (λ e. lets-pass v n needed (record { is-sound = sound-true v n s; room = ltb-false 2147483647 (v.offset + needed) e }))
 
 pub offer-lets : (v : Reading) (n m : ℕ) → Lets v n (need_of v m) (offer_verdict v n m)
@@ -78,31 +73,31 @@ unfolding before_append
 offer-lets v n m =
     let P = Lets v n (need_of v m) in
     let no = lets-no v n (need_of v m) in
-    cond-case P (ltb 2147483647 m) (Refuse IllegalArgument) _ (λ e. no IllegalArgument)
-    (λ e. cond-case P (not (sound v n)) (Refuse IllegalRecord) _ (λ e. no IllegalRecord)
-    (λ s. cond-case P v.closed (Refuse PublicationClosed) _ (λ e. no PublicationClosed)
-    (λ e. after-lets v n m (need_of v m) _ (cond-case P (too_long v m) (Refuse ExceedsMaxMessageLength) _ (λ e. no ExceedsMaxMessageLength) (λ e. room-lets v n (need_of v m) (not-false (sound v n) s))))))
+    cond-case P (ltb 2147483647 m) (Err IllegalArgument) _ (λ e. no IllegalArgument)
+    (λ e. cond-case P (not (sound v n)) (Err IllegalRecord) _ (λ e. no IllegalRecord)
+    (λ s. cond-case P v.closed (Err PublicationClosed) _ (λ e. no PublicationClosed)
+    (λ e. after-lets v n m (need_of v m) _ (cond-case P (too_long v m) (Err ExceedsMaxMessageLength) _ (λ e. no ExceedsMaxMessageLength) (λ e. room-lets v n (need_of v m) (not-false (sound v n) s))))))
 
 pub claim-lets : (v : Reading) (n m : ℕ) → Lets v n (space m) (claim_verdict v n m)
 unfolding claim_verdict
 claim-lets v n m =
     let P = Lets v n (space m) in
     let no = lets-no v n (space m) in
-    cond-case P (ltb 2147483647 m) (Refuse IllegalArgument) _ (λ e. no IllegalArgument)
-    (λ e. cond-case P (not (sound v n)) (Refuse IllegalRecord) _ (λ e. no IllegalRecord)
-    (λ s. cond-case P v.closed (Refuse PublicationClosed) _ (λ e. no PublicationClosed)
-    (λ e. cond-case P (ltb (payload_limit v) m) (Refuse ExceedsMaxPayloadLength) _ (λ e. no ExceedsMaxPayloadLength) (λ e. after-lets v n m (space m) _ (room-lets v n (space m) (not-false (sound v n) s))))))
+    cond-case P (ltb 2147483647 m) (Err IllegalArgument) _ (λ e. no IllegalArgument)
+    (λ e. cond-case P (not (sound v n)) (Err IllegalRecord) _ (λ e. no IllegalRecord)
+    (λ s. cond-case P v.closed (Err PublicationClosed) _ (λ e. no PublicationClosed)
+    (λ e. cond-case P (ltb (payload_limit v) m) (Err ExceedsMaxPayloadLength) _ (λ e. no ExceedsMaxPayloadLength) (λ e. after-lets v n m (space m) _ (room-lets v n (space m) (not-false (sound v n) s))))))
 
 -- ---- the record goes up
 
 -- what an answer says of the position reached
-abbrev OfferReaches : ℕ → ℕ → Offered → Type 0
-OfferReaches low high (OfferPosition p) = (p ≡ pos high) × (low < high)
-OfferReaches low high (OfferRefused e) = Unit {0}
+abbrev OfferReaches : ℕ → ℕ → Result ℤ Error → Type 0
+OfferReaches low high (Ok p) = (p ≡ pos high) × (low < high)
+OfferReaches low high (Err e) = Unit {0}
 
-abbrev ClaimReaches : ℕ → ℕ → Claimed → Type 0
-ClaimReaches low high (ClaimPosition p k) = (p ≡ pos high) × (low < high)
-ClaimReaches low high (ClaimRefused e) = Unit {0}
+abbrev ClaimReaches : ℕ → ℕ → Result Claimed Error → Type 0
+ClaimReaches low high (Ok given) = (given.position ≡ pos high) × (low < high)
+ClaimReaches low high (Err e) = Unit {0}
 
 abbrev pub Reaches : ℕ → ℕ → Answer → Type 0
 Reaches low high (offered t a) = OfferReaches low high a
@@ -191,43 +186,43 @@ module _ (r : LogRecord) (log : List ℕ) (h : Tails r) where
   pay-low n s = omega (arith, s.mtu-low)
 
   offer-fits : (m : ℕ) (b : Bool) → fits v· (need_of v· m) ≡ b → Through v· (length log) (need_of v· m)
-      → Up r (offered (not b) (cond b (OfferPosition (pos (place v· + need_of v· m))) (OfferRefused (trip_error v· (is_ready r)))))
+      → Up r (offered (not b) (cond b (Ok (pos (place v· + need_of v· m))) (Err (trip_error v· (is_ready r)))))
       (cond b (with_tail r (active r) v·.id (v·.offset + need_of v· m)) (trip_next (with_tail r (active r) v·.id (v·.offset + need_of v· m)) v· (is_ready r)))
   offer-fits m true f t =
       let u = fits-up r (length log) (need_of v· m) h t (need-some (payload_limit v·) m) (leb-true _ _ f) in
-      moved_up r (length log) (need_of v· m) h t (offered false (OfferPosition (pos (place v· + need_of v· m)))) (ap pos (sym u.0), u.1)
-  offer-fits m false f t = trip-up r (length log) (need_of v· m) h t (is_ready r) (offered true (OfferRefused (trip_error v· (is_ready r)))) (λ n. tt)
+      moved_up r (length log) (need_of v· m) h t (offered false (Ok (pos (place v· + need_of v· m)))) (ap pos (sym u.0), u.1)
+  offer-fits m false f t = trip-up r (length log) (need_of v· m) h t (is_ready r) (offered true (Err (trip_error v· (is_ready r)))) (λ n. tt)
 
-  offer-by : (m : ℕ) (x : Verdict) → Lets v· (length log) (need_of v· m) x → Up r (offered (trips_by v· (need_of v· m) x) (offered_by r v· (need_of v· m) x)) (next_by r v· (need_of v· m) x)
+  offer-by : (m : ℕ) (x : Result ⊤ Error) → Lets v· (length log) (need_of v· m) x → Up r (offered (trips_by v· (need_of v· m) x) (offered_by r v· (need_of v· m) x)) (next_by r v· (need_of v· m) x)
   unfolding append_next
-  offer-by m Pass l = offer-fits m (fits v· (need_of v· m)) refl (lets-through v· (length log) (need_of v· m) l)
-  offer-by m (Refuse e) l = stays r (offered false (OfferRefused e)) h tt
+  offer-by m (Ok _) l = offer-fits m (fits v· (need_of v· m)) refl (lets-through v· (length log) (need_of v· m) l)
+  offer-by m (Err e) l = stays r (offered false (Err e)) h tt
 
   claim-fits : (m : ℕ) (b : Bool) → fits v· (space m) ≡ b → Through v· (length log) (space m)
-      → Up r (claimed (not b) (cond b (ClaimPosition (pos (place v· + space m)) (claim_record v· (active r) m)) (ClaimRefused (trip_error v· (is_ready r)))))
+      → Up r (claimed (not b) (cond b (Ok (record { position = pos (place v· + space m); claim = claim_record v· (active r) m })) (Err (trip_error v· (is_ready r)))))
       (cond b (with_tail r (active r) v·.id (v·.offset + space m)) (trip_next (with_tail r (active r) v·.id (v·.offset + space m)) v· (is_ready r)))
   claim-fits m true f t =
       let u = fits-up r (length log) (space m) h t (omega arith) (leb-true _ _ f) in
-      moved_up r (length log) (space m) h t (claimed false (ClaimPosition (pos (place v· + space m)) (claim_record v· (active r) m))) (ap pos (sym u.0), u.1)
-  claim-fits m false f t = trip-up r (length log) (space m) h t (is_ready r) (claimed true (ClaimRefused (trip_error v· (is_ready r)))) (λ n. tt)
+      moved_up r (length log) (space m) h t (claimed false (Ok (record { position = pos (place v· + space m); claim = claim_record v· (active r) m }))) (ap pos (sym u.0), u.1)
+  claim-fits m false f t = trip-up r (length log) (space m) h t (is_ready r) (claimed true (Err (trip_error v· (is_ready r)))) (λ n. tt)
 
-  claim-by : (m : ℕ) (x : Verdict) → Lets v· (length log) (space m) x → Up r (claimed (trips_by v· (space m) x) (claimed_by r v· m x)) (next_by r v· (space m) x)
+  claim-by : (m : ℕ) (x : Result ⊤ Error) → Lets v· (length log) (space m) x → Up r (claimed (trips_by v· (space m) x) (claimed_by r v· m x)) (next_by r v· (space m) x)
   unfolding append_next
-  claim-by m Pass l = claim-fits m (fits v· (space m)) refl (lets-through v· (length log) (space m) l)
-  claim-by m (Refuse e) l = stays r (claimed false (ClaimRefused e)) h tt
+  claim-by m (Ok _) l = claim-fits m (fits v· (space m)) refl (lets-through v· (length log) (space m) l)
+  claim-by m (Err e) l = stays r (claimed false (Err e)) h tt
 
   change-up : (next : LogRecord) → Tails next → reached v· ≤ reached (reading next) → Up r (outcome (change_of r next).answer) (change_of r next).next
   unfolding change_of
   change-up next t l = go (sound_record (reading next))
     where
-      go : (b : Bool) → Up r (outcome (cond {A = RecordReply} b (record { next = next; answer = Done }) (record { next = r; answer = Refused IllegalRecord })).answer)
-          (cond {A = RecordReply} b (record { next = next; answer = Done }) (record { next = r; answer = Refused IllegalRecord })).next
+      go : (b : Bool) → Up r (outcome (cond {A = RecordReply} b (record { next = next; answer = Ok tt }) (record { next = r; answer = Err IllegalRecord })).answer)
+          (cond {A = RecordReply} b (record { next = next; answer = Ok tt }) (record { next = r; answer = Err IllegalRecord })).next
       go true = record { tails = t; above = l; reaches = tt }
-      go false = stays r (outcome (Refused IllegalRecord)) h tt
+      go false = stays r (outcome (Err IllegalRecord)) h tt
 
-  reply-up : (next : LogRecord) (x : Verdict) → Tails next → reached v· ≤ reached (reading next) → Up r (outcome (reply_by r next x).answer) (reply_by r next x).next
-  reply-up next Pass t l = record { tails = t; above = l; reaches = tt }
-  reply-up next (Refuse e) t l = stays r (outcome (Refused e)) h tt
+  reply-up : (next : LogRecord) (x : Result ⊤ Error) → Tails next → reached v· ≤ reached (reading next) → Up r (outcome (reply_by r next x).answer) (reply_by r next x).next
+  reply-up next (Ok _) t l = record { tails = t; above = l; reaches = tt }
+  reply-up next (Err e) t l = stays r (outcome (Err e)) h tt
 
   pub step-up : (y : Call) → Up r (step (record { record· = r; log = log }) y).answer (step (record { record· = r; log = log }) y).next.record·
   unfolding step offer_of claim_of clear_of raise_of
@@ -259,14 +254,14 @@ run_up w (x ∷ xs) t = let s = step-up w.record· w.log t x in le_trans s.above
 lowered : (low low' : ℕ) (a : Answer) (P : ℕ → Type 0) → low' ≤ low → (P low → P low') → RisesBy low a P → RisesBy low' a P
 lowered low low' (offered t a) P l f q = go a q
   where
-    go : (b : Offered) → RisesBy low (offered t b) P → RisesBy low' (offered t b) P
-    go (OfferPosition p) q = (q.0, q.1, omega (arith, q.2), q.3)
-    go (OfferRefused e) q = f q
+    go : (b : Result ℤ Error) → RisesBy low (offered t b) P → RisesBy low' (offered t b) P
+    go (Ok p) q = (q.0, q.1, omega (arith, q.2), q.3)
+    go (Err e) q = f q
 lowered low low' (claimed t a) P l f q = go a q
   where
-    go : (b : Claimed) → RisesBy low (claimed t b) P → RisesBy low' (claimed t b) P
-    go (ClaimPosition p k) q = (q.0, q.1, omega (arith, q.2), q.3)
-    go (ClaimRefused e) q = f q
+    go : (b : Result Claimed Error) → RisesBy low (claimed t b) P → RisesBy low' (claimed t b) P
+    go (Ok given) q = (q.0, q.1, omega (arith, q.2), q.3)
+    go (Err e) q = f q
 lowered low low' (outcome a) P l f q = f q
 
 pub rises-from : (low low' : ℕ) (ts : List (Call × Answer)) → low' ≤ low → Rising low ts → Rising low' ts
@@ -278,14 +273,14 @@ rises-from low low' (t ∷ ts) l r = lowered low low' t.1 (λ (n : ℕ). Rising 
 rises_by : (low high : ℕ) (a : Answer) (ts : List (Call × Answer)) → low ≤ high → Reaches low high a → Rising high ts → RisesBy low a (λ n. Rising n ts)
 rises_by low high (offered t a) ts l q r = go a q
   where
-    go : (b : Offered) → OfferReaches low high b → RisesBy low (offered t b) (λ n. Rising n ts)
-    go (OfferPosition p) q = (high, q.0, q.1, r)
-    go (OfferRefused e) q = rises-from high low ts l r
+    go : (b : Result ℤ Error) → OfferReaches low high b → RisesBy low (offered t b) (λ n. Rising n ts)
+    go (Ok p) q = (high, q.0, q.1, r)
+    go (Err e) q = rises-from high low ts l r
 rises_by low high (claimed t a) ts l q r = go a q
   where
-    go : (b : Claimed) → ClaimReaches low high b → RisesBy low (claimed t b) (λ n. Rising n ts)
-    go (ClaimPosition p k) q = (high, q.0, q.1, r)
-    go (ClaimRefused e) q = rises-from high low ts l r
+    go : (b : Result Claimed Error) → ClaimReaches low high b → RisesBy low (claimed t b) (λ n. Rising n ts)
+    go (Ok given) q = (high, q.0, q.1, r)
+    go (Err e) q = rises-from high low ts l r
 rises_by low high (outcome a) ts l q r = rises-from high low ts l r
 
 -- in any list of calls the answered positions rise

@@ -1,4 +1,5 @@
 -- The deciding rule beside the ladder of refusals: what the verdict and the trip say of it. The code names a rule by these laws.
+use Rattle.std.specs.Prelude.{Result, Ok, Err, ⊤}
 use mathlib.Core.Path.{◌≡◌, refl, sym, ap, ◌∙◌}
 use mathlib.Core.Bool.{Bool, true, false, cond, ◌&&◌, not}
 use Prim.Native.Nat.{ℕ, ◌+◌}
@@ -8,8 +9,6 @@ use lib.Dec.{eqb, leb, ltb}
 use Rattle.model.specs.declared.Reading.{Reading}
 use Rattle.model.specs.declared.Error.{Error}
 use Rattle.model.specs.declared.Error.TheVariants.{IllegalArgument, IllegalRecord, PositionOutOfRange, ExceedsMaxPayloadLength, PublicationClosed, AdminAction, MaxPositionExceeded, BackPressured, NotConnected, ExceedsMaxMessageLength, TailOverflow, LastTerm, ActionPossiblyDelayed, ClaimMismatch, NewPositionOutOfRange, NewPositionNotAligned, AssemblyFull, NotCleared, NotDue, FrameTooShort, FramePastTerm}
-use Rattle.model.specs.declared.Verdict.{Verdict}
-use Rattle.model.specs.declared.Verdict.TheVariants.{Pass, Refuse}
 use Rattle.model.specs.declared.Rule.{Rule}
 use Rattle.model.specs.declared.Rule.TheVariants.{IllegalArgument as ByArgument, IllegalRecord as ByRecord, PublicationClosed as ByClosed, ExceedsMaxPayloadLength as ByPayload, CountOutOfStep, LimitPastMaxPosition, BackPressured as ByPressure, NotConnected as ByConnection, ExceedsMaxMessageLength as ByMessage, TailOverflow as ByTail, TripPastMaxPosition, LastTerm as ByLastTerm, NotCleared as ByNotCleared, TermRotated, Unfragmented, Fragmented, Claimed}
 use Rattle.model.specs.Errors.{number_of}
@@ -51,9 +50,9 @@ abbrev pub offered_rule : Reading → ℕ → Rule
 offered_rule v m = cond (leb m (payload_limit v)) Unfragmented Fragmented
 
 -- The rule x goes with the verdict: it has the refusal's number and moves nothing; or it is the one of an append that nothing refuses.
-abbrev pub Named : Rule → Verdict → Rule → Type 0
-Named passed (Refuse e) x = (refused_rule e ≡ x) × ((number_of e ≡ rule_number x) × (moves x ≡ false))
-Named passed Pass x = passed ≡ x
+abbrev pub Named : Rule → Result ⊤ Error → Rule → Type 0
+Named passed (Err e) x = (refused_rule e ≡ x) × ((number_of e ≡ rule_number x) × (moves x ≡ false))
+Named passed (Ok _) x = passed ≡ x
 
 -- ---- rung by rung
 
@@ -66,12 +65,12 @@ other a b = go (leb a b) refl
     go false e = sym (ap not (lt-ltb b a (leb-false a b e)))
 
 module _ (passed : Rule) where
-  rung : (b : Bool) (e : Error) (x : Rule) (y : Verdict) (z : Rule) → Named passed (Refuse e) x → Named passed y z → Named passed (refuse_if b e y) (cond b x z)
+  rung : (b : Bool) (e : Error) (x : Rule) (y : Result ⊤ Error) (z : Rule) → Named passed (Err e) x → Named passed y z → Named passed (refuse_if b e y) (cond b x z)
   rung true e x y z h k = h
   rung false e x y z h k = k
 
   -- 6 (count), 7/8/9
-  middle : (d p q k : Bool) (y : Verdict) (z : Rule) → Named passed y z
+  middle : (d p q k : Bool) (y : Result ⊤ Error) (z : Rule) → Named passed y z
       → Named passed (refuse_if (not d) AdminAction (refuse_if p (cond q MaxPositionExceeded (cond k BackPressured NotConnected)) y))
       (cond (not d) CountOutOfStep (cond (p && q) LimitPastMaxPosition (cond (p && k) ByPressure (cond (p && not k) ByConnection z))))
   middle false p q k y z h = (refl, (refl, refl))
@@ -82,7 +81,7 @@ module _ (passed : Rule) where
 
 -- 11, and then whether the append fits (s) or trips (t); on a trip 7 (g), 12 (l), and 19 unless the next partition is marked (f)
 last : (accepted rest : Rule) (o t g l f s : Bool) → accepted ≡ rest → s ≡ not t
-    → Named (cond s accepted (cond g TripPastMaxPosition (cond l ByLastTerm (cond f TermRotated ByNotCleared)))) (refuse_if o TailOverflow Pass)
+    → Named (cond s accepted (cond g TripPastMaxPosition (cond l ByLastTerm (cond f TermRotated ByNotCleared)))) (refuse_if o TailOverflow (Ok tt))
     (cond o ByTail (cond (t && g) TripPastMaxPosition (cond (t && l) ByLastTerm (cond (t && not f) ByNotCleared (cond t TermRotated rest)))))
 last accepted rest true t g l f s e h = (refl, (refl, refl))
 last accepted rest false true true l f s e h = ap (λ (b : Bool). cond b accepted TripPastMaxPosition) h
@@ -125,27 +124,27 @@ module _ (v : Reading) (ready : Bool) (n m : ℕ) where
 
 -- ---- for the code: by the refusal, or by whether the append fits
 
-named-refused : (passed x : Rule) (e : Error) (y : Verdict) → y ≡ Refuse e → Named passed y x → refused_rule e ≡ x
-named-refused passed x e Pass q h = absurd (let z : ◌≡◌ {A = ℕ} 0 1 = cc in omega arith)
-named-refused passed x e (Refuse d) q h = let z : d ≡ e = cc in ap refused_rule (sym z) ∙ h.0
+named-refused : (passed x : Rule) (e : Error) (y : Result ⊤ Error) → y ≡ Err e → Named passed y x → refused_rule e ≡ x
+named-refused passed x e (Ok _) q h = absurd (let z : ◌≡◌ {A = ℕ} 0 1 = cc in omega arith)
+named-refused passed x e (Err d) q h = let z : d ≡ e = cc in ap refused_rule (sym z) ∙ h.0
 
-named-passed : (passed x : Rule) (y : Verdict) → y ≡ Pass → Named passed y x → passed ≡ x
-named-passed passed x Pass q h = h
-named-passed passed x (Refuse e) q h = absurd (let z : ◌≡◌ {A = ℕ} 0 1 = cc in omega arith)
+named-passed : (passed x : Rule) (y : Result ⊤ Error) → y ≡ Ok tt → Named passed y x → passed ≡ x
+named-passed passed x (Ok _) q h = h
+named-passed passed x (Err e) q h = absurd (let z : ◌≡◌ {A = ℕ} 0 1 = cc in omega arith)
 
 module _ (v : Reading) (ready : Bool) (n m : ℕ) where
-  pub offer-rule-refused : (e : Error) → offer_verdict v n m ≡ Refuse e → refused_rule e ≡ decided v ready n (message m)
+  pub offer-rule-refused : (e : Error) → offer_verdict v n m ≡ Err e → refused_rule e ≡ decided v ready n (message m)
   offer-rule-refused e h = named-refused (cond (fits v (need_of v m)) (offered_rule v m) (trip_rule v ready)) (decided v ready n (message m)) e (offer_verdict v n m) h (offer-named v ready n m)
 
-  pub offer-rule-passed : (b : Bool) → fits v (need_of v m) ≡ b → offer_verdict v n m ≡ Pass → cond b (offered_rule v m) (trip_rule v ready) ≡ decided v ready n (message m)
+  pub offer-rule-passed : (b : Bool) → fits v (need_of v m) ≡ b → offer_verdict v n m ≡ Ok tt → cond b (offered_rule v m) (trip_rule v ready) ≡ decided v ready n (message m)
   offer-rule-passed b e h =
       ap (λ (t : Bool). cond t (offered_rule v m) (trip_rule v ready)) (sym e)
       ∙ named-passed (cond (fits v (need_of v m)) (offered_rule v m) (trip_rule v ready)) (decided v ready n (message m)) (offer_verdict v n m) h (offer-named v ready n m)
 
-  pub claim-rule-refused : (e : Error) → claim_verdict v n m ≡ Refuse e → refused_rule e ≡ decided v ready n (claim m)
+  pub claim-rule-refused : (e : Error) → claim_verdict v n m ≡ Err e → refused_rule e ≡ decided v ready n (claim m)
   claim-rule-refused e h = named-refused (cond (fits v (space m)) Claimed (trip_rule v ready)) (decided v ready n (claim m)) e (claim_verdict v n m) h (claim-named v ready n m)
 
-  pub claim-rule-passed : (b : Bool) → fits v (space m) ≡ b → claim_verdict v n m ≡ Pass → cond b Claimed (trip_rule v ready) ≡ decided v ready n (claim m)
+  pub claim-rule-passed : (b : Bool) → fits v (space m) ≡ b → claim_verdict v n m ≡ Ok tt → cond b Claimed (trip_rule v ready) ≡ decided v ready n (claim m)
   claim-rule-passed b e h =
       ap (λ (t : Bool). cond t Claimed (trip_rule v ready)) (sym e)
       ∙ named-passed (cond (fits v (space m)) Claimed (trip_rule v ready)) (decided v ready n (claim m)) (claim_verdict v n m) h (claim-named v ready n m)
@@ -153,9 +152,9 @@ module _ (v : Reading) (ready : Bool) (n m : ℕ) where
 -- ---- whether the rule is one of a trip
 
 -- an append that nothing refuses trips where it does not fit
-abbrev pub trips_by : Reading → ℕ → Verdict → Bool
-trips_by v needed (Refuse e) = false
-trips_by v needed Pass = not (fits v needed)
+abbrev pub trips_by : Reading → ℕ → Result ⊤ Error → Bool
+trips_by v needed (Err e) = false
+trips_by v needed (Ok _) = not (fits v needed)
 
 trip-trips : (v : Reading) (ready : Bool) → is_trip (trip_rule v ready) ≡ true
 unfolding on_trip
@@ -179,9 +178,9 @@ module _ (v : Reading) (ready : Bool) (needed : ℕ) (accepted : Rule) (stays : 
   passed-trips true = stays
   passed-trips false = trip-trips v ready
 
-  named-trips : (x : Rule) (y : Verdict) → Named (cond (fits v needed) accepted (trip_rule v ready)) y x → is_trip x ≡ trips_by v needed y
-  named-trips x (Refuse e) h = ap (λ (b : Bool). b && leb (rule_place x) (rule_place TermRotated)) h.1.1
-  named-trips x Pass h = ap is_trip (sym h) ∙ passed-trips (fits v needed)
+  named-trips : (x : Rule) (y : Result ⊤ Error) → Named (cond (fits v needed) accepted (trip_rule v ready)) y x → is_trip x ≡ trips_by v needed y
+  named-trips x (Err e) h = ap (λ (b : Bool). b && leb (rule_place x) (rule_place TermRotated)) h.1.1
+  named-trips x (Ok _) h = ap is_trip (sym h) ∙ passed-trips (fits v needed)
 
 module _ (v : Reading) (ready : Bool) (n m : ℕ) where
   pub offer-trips : is_trip (decided v ready n (message m)) ≡ trips_by v (need_of v m) (offer_verdict v n m)

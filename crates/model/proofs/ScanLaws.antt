@@ -1,4 +1,6 @@
 -- `scan`, turn by turn and row by row. `Scanning` is what its loop keeps, with the fuel hidden.
+use Rattle.std.specs.Prelude.{Result, Ok, Err}
+use Rattle.model.specs.declared.Error.{Error}
 use mathlib.Core.Path.{◌≡◌, refl, sym, ap, ◌∙◌}
 use mathlib.Core.Logic.{◌⊎◌, inl, inr, ⊎_elim}
 use mathlib.Core.Bool.{Bool, true, false, cond, ◌&&◌}
@@ -8,11 +10,8 @@ use native.Mathlib.Omega.{arith}
 use borrow.Author.Tests.{le-leb, lt-leb, lt-ltb, le-ltb, eq-eqb, ne_eqb}
 use lib.Dec.{eqb, leb, ltb}
 use lib.ListN.{drop}
-use Rattle.model.specs.declared.Verdict.TheVariants.{Pass, Refuse}
 use Rattle.model.specs.declared.Frame.{Frame}
 use Rattle.model.specs.declared.Frame.TheVariants.{Absent, Unsound, Padding, Data}
-use Rattle.model.specs.declared.Scanned.{Scanned}
-use Rattle.model.specs.declared.Scanned.TheVariants.{Offset, Refused}
 use Rattle.model.specs.FrameDescriptor.{align, frame_at, is_unsound, unsound_frame, unsound_frame_at}
 use Rattle.model.specs.TermScan.{scan_over, scan_from, scan_by}
 use Rattle.model.proofs.FrameLaws.{Lies, lies, unsound-refusal}
@@ -26,8 +25,8 @@ module _ (log : List ℕ) (base term limit at : ℕ) where
   abbrev first : Bool
   first = ltb at limit && is_unsound (seen at)
 
-  abbrev answer : Scanned
-  answer = scan_by (scan_from term log base term limit true at) (cond first (Refuse (unsound_frame_at log base at)) Pass)
+  abbrev answer : Result ℕ Error
+  answer = scan_by (scan_from term log base term limit true at) (cond first (Err (unsound_frame_at log base at)) (Ok tt))
 
   -- the scan from here is the whole scan; it is at its first frame, or that one is not unsound
   pub record Scanning (offset : ℕ) : Type 0 where
@@ -54,8 +53,8 @@ module _ (log : List ℕ) (base term limit at : ℕ) where
       rw q (and-false (ltb at limit))
 
   -- it comes to an offset, and the first frame was not unsound
-  comes : (offset : ℕ) → scan_from term log base term limit true at ≡ offset → first ≡ false → Offset offset ≡ answer
-  comes offset e f = ap Offset (sym e) ∙ ap (λ (b : Bool). scan_by (scan_from term log base term limit true at) (cond b (Refuse (unsound_frame_at log base at)) Pass)) (sym f)
+  comes : (offset : ℕ) → scan_from term log base term limit true at ≡ offset → first ≡ false → Ok offset ≡ answer
+  comes offset e f = ap Ok (sym e) ∙ ap (λ (b : Bool). scan_by (scan_from term log base term limit true at) (cond b (Err (unsound_frame_at log base at)) (Ok tt))) (sym f)
 
   either : (b : Bool) (n : ℕ) → cond b n n ≡ n
   either true n = refl
@@ -72,29 +71,29 @@ module _ (log : List ℕ) (base term limit at : ℕ) where
   full_from zero offset b h = refl
   full_from (suc fuel) offset b h = rw (le-leb limit offset h)
 
-  pub scan-full : (offset : ℕ) → Scanning offset → limit ≤ offset → Offset offset ≡ answer
+  pub scan-full : (offset : ℕ) → Scanning offset → limit ≤ offset → Ok offset ≡ answer
   scan-full offset s h = comes offset (s.same ∙ full_from s.fuel offset (eqb offset at) h) (none s.begun)
     where
       none : (offset ≡ at) ⊎ (first ≡ false) → first ≡ false
       none (inr f) = f
       none (inl p) = rw (le-ltb at limit (omega arith))
 
-  pub scan-absent : (offset : ℕ) → Scanning offset → seen offset ≡ Absent → Offset offset ≡ answer
+  pub scan-absent : (offset : ℕ) → Scanning offset → seen offset ≡ Absent → Ok offset ≡ answer
   scan-absent offset s e = comes offset (s.same ∙ stays s.fuel offset (eqb offset at) Absent e (λ go. refl)) (first-seen offset Absent s.begun e refl)
 
-  pub scan-unsound : (offset m : ℕ) → Scanning offset → seen offset ≡ Unsound m → (offset ≡ at → ⊥) → Offset offset ≡ answer
+  pub scan-unsound : (offset m : ℕ) → Scanning offset → seen offset ≡ Unsound m → (offset ≡ at → ⊥) → Ok offset ≡ answer
   scan-unsound offset m s e n =
       comes offset (s.same ∙ stays s.fuel offset (eqb offset at) (Unsound m) e (λ go. refl))
       (⊎_elim (λ (p : offset ≡ at). absurd (n p)) (λ (f : first ≡ false). f) s.begun)
 
-  pub scan-first : (offset m : ℕ) → offset ≡ at → offset < limit → seen offset ≡ Unsound m → Refused (unsound_frame m at) ≡ answer
+  pub scan-first : (offset m : ℕ) → offset ≡ at → offset < limit → seen offset ≡ Unsound m → Err (unsound_frame m at) ≡ answer
   scan-first offset m p h e =
       let q : seen at ≡ Unsound m = ap seen (sym p) ∙ e in
       let f : first ≡ true = rw (lt-ltb at limit (omega arith), q) in
-      ap Refused (unsound-refusal log base term at m q) ∙ sym (ap (λ (b : Bool). scan_by (scan_from term log base term limit true at) (cond b (Refuse (unsound_frame_at log base at)) Pass)) f)
+      ap Err (unsound-refusal log base term at m q) ∙ sym (ap (λ (b : Bool). scan_by (scan_from term log base term limit true at) (cond b (Err (unsound_frame_at log base at)) (Ok tt))) f)
 
   -- padding that is not the first frame
-  pub scan-padding : (offset n : ℕ) → Scanning offset → seen offset ≡ Padding n → (offset ≡ at → ⊥) → Offset offset ≡ answer
+  pub scan-padding : (offset n : ℕ) → Scanning offset → seen offset ≡ Padding n → (offset ≡ at → ⊥) → Ok offset ≡ answer
   scan-padding offset n s e k =
       comes offset (s.same ∙ stays s.fuel offset (eqb offset at) (Padding n) e (λ go. rw (ne_eqb offset at k))) (first-seen offset (Padding n) s.begun e refl)
 
@@ -105,12 +104,12 @@ module _ (log : List ℕ) (base term limit at : ℕ) where
   padding-from (suc fuel) offset n en h p e = rw (lt-leb limit offset h, e, eq-eqb offset at p)
 
   -- and that is
-  pub scan-past : (offset n : ℕ) → Scanning offset → offset < limit → seen offset ≡ Padding n → offset ≡ at → Offset (at + align n) ≡ answer
+  pub scan-past : (offset n : ℕ) → Scanning offset → offset < limit → seen offset ≡ Padding n → offset ≡ at → Ok (at + align n) ≡ answer
   scan-past offset n s h e p =
       let q : offset + align n ≡ at + align n = omega arith in
       comes (at + align n) (s.same ∙ padding-from s.fuel offset n s.enough h p e ∙ q) (first-seen offset (Padding n) s.begun e refl)
 
-  pub scan-long : (offset n : ℕ) → Scanning offset → seen offset ≡ Data n → limit < offset + align n → Offset offset ≡ answer
+  pub scan-long : (offset n : ℕ) → Scanning offset → seen offset ≡ Data n → limit < offset + align n → Ok offset ≡ answer
   scan-long offset n s e h =
       comes offset (s.same ∙ stays s.fuel offset (eqb offset at) (Data n) e (λ go. rw (lt-leb (offset + align n) limit h))) (first-seen offset (Data n) s.begun e refl)
 

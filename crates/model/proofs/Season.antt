@@ -1,5 +1,7 @@
 -- A season, proved: opening starts the invariant, every call keeps it, and from any answered position of a term not cleared a log that it
 -- holds of replays to what the history tells from there on.
+use Rattle.std.specs.Prelude.{Result, Ok, Err, ⊤}
+use Rattle.model.specs.declared.Error.{Error}
 use mathlib.Core.Path.{◌≡◌, refl, sym, ap, ap₂, ◌∙◌, subst}
 use mathlib.Core.Logic.{◌⊎◌, inl, inr}
 use mathlib.Core.Bool.{Bool, true, false, cond, not}
@@ -17,14 +19,7 @@ use Rattle.model.specs.declared.LogRecord.{LogRecord}
 use Rattle.model.specs.declared.Claim.{Claim}
 use Rattle.model.specs.declared.Reading.{Reading}
 use Rattle.model.specs.declared.Error.TheVariants.{IllegalRecord}
-use Rattle.model.specs.declared.Outcome.{Outcome}
-use Rattle.model.specs.declared.Outcome.TheVariants.{Done, Refused}
-use Rattle.model.specs.declared.Offered.{Offered}
-use Rattle.model.specs.declared.Offered.TheVariants.{Position as OfferPosition, Refused as OfferRefused}
 use Rattle.model.specs.declared.Claimed.{Claimed}
-use Rattle.model.specs.declared.Claimed.TheVariants.{Position as ClaimPosition, Refused as ClaimRefused}
-use Rattle.model.specs.declared.Verdict.{Verdict}
-use Rattle.model.specs.declared.Verdict.TheVariants.{Pass, Refuse}
 use Rattle.model.specs.Bytes.{word, zeros}
 use Rattle.model.specs.FrameDescriptor.{space}
 use Rattle.model.specs.LogBufferDescriptor.{id_bits, id_plus, id_minus, active, id_of, tail_of, reading_of, reading, publisher_position, sound, Sound, is_marked}
@@ -156,19 +151,19 @@ turned-size c s (message re m) = refl
 turned-size c s (claimed· t body) = refl
 turned-size c s (padding n) = refl
 
-done-bound : (c : Shape) (p : ℕ) (h g : List Extent) (a : Outcome) → Boundary c p h → Boundary c p g → Boundary c p (after_done h g a)
-done-bound c p h g Done b d = d
-done-bound c p h g (Refused e) b d = b
+done-bound : (c : Shape) (p : ℕ) (h g : List Extent) (a : Result ⊤ Error) → Boundary c p h → Boundary c p g → Boundary c p (after_done h g a)
+done-bound c p h g (Ok _) b d = d
+done-bound c p h g (Err e) b d = b
 
-offer-bound : (c : Shape) (p : ℕ) (h : List Extent) (m : List ℕ) (re : ℤ) (t : Bool) (a : Offered) → Boundary c p h → Boundary c p (tell c h (offer m re) (offered t a))
+offer-bound : (c : Shape) (p : ℕ) (h : List Extent) (m : List ℕ) (re : ℤ) (t : Bool) (a : Result ℤ Error) → Boundary c p h → Boundary c p (tell c h (offer m re) (offered t a))
 unfolding tell
-offer-bound c p h m re t (OfferPosition q) b = bound-more c p h (message re m ∷ []) b
-offer-bound c p h m re t (OfferRefused e) b = bound-if c p h t b
+offer-bound c p h m re t (Ok q) b = bound-more c p h (message re m ∷ []) b
+offer-bound c p h m re t (Err e) b = bound-if c p h t b
 
-claim-bound : (c : Shape) (p : ℕ) (h : List Extent) (n : ℤ) (t : Bool) (a : Claimed) → Boundary c p h → Boundary c p (tell c h (claim n) (claimed t a))
+claim-bound : (c : Shape) (p : ℕ) (h : List Extent) (n : ℤ) (t : Bool) (a : Result Claimed Error) → Boundary c p h → Boundary c p (tell c h (claim n) (claimed t a))
 unfolding tell
-claim-bound c p h n t (ClaimPosition q k) b = bound-more c p h _ b
-claim-bound c p h n t (ClaimRefused e) b = bound-if c p h t b
+claim-bound c p h n t (Ok given) b = bound-more c p h _ b
+claim-bound c p h n t (Err e) b = bound-if c p h t b
 
 tell-bound : (c : Shape) (p : ℕ) (h : List Extent) (y : Call) (a : Answer) → Boundary c p h → Boundary c p (tell c h y a)
 unfolding tell
@@ -197,13 +192,13 @@ unfolding told
 told-bound c p h [] b = b
 told-bound c p h (t ∷ ts) b = told-bound c p (tell c h t.0 t.1) ts (tell-bound c p h t.0 t.1 b)
 
-same-offered : (p n : ℕ) (a : Offered) → Demand.IsOffered p a → Demand.EndOffered n a → n ≡ p
-same-offered p n (OfferPosition q) i e = cc
-same-offered p n (OfferRefused x) i e = absurd i
+same-offered : (p n : ℕ) (a : Result ℤ Error) → Demand.IsOffered p a → Demand.EndOffered n a → n ≡ p
+same-offered p n (Ok q) i e = cc
+same-offered p n (Err x) i e = absurd i
 
-same-claimed : (p n : ℕ) (a : Claimed) → Demand.IsClaimed p a → Demand.EndClaimed n a → n ≡ p
-same-claimed p n (ClaimPosition q k) i e = cc
-same-claimed p n (ClaimRefused x) i e = absurd i
+same-claimed : (p n : ℕ) (a : Result Claimed Error) → Demand.IsClaimed p a → Demand.EndClaimed n a → n ≡ p
+same-claimed p n (Ok given) i e = cc
+same-claimed p n (Err x) i e = absurd i
 
 same_answer : (p n : ℕ) (a : Answer) → IsAnswer p a → EndAt n a → n ≡ p
 same_answer p n (offered t a) i e = same-offered p n a i e
@@ -402,26 +397,26 @@ position-end c w h ks s i =
 
 -- ---- opening
 
-module _ (log : List ℕ) (term mtu initial session stream : ℤ) (fresh : (open_of log term mtu initial session stream).answer ≡ Done) where
+module _ (log : List ℕ) (term mtu initial session stream : ℤ) (fresh : (open_of log term mtu initial session stream).answer ≡ Ok tt) where
   abbrev r₀ : LogRecord
   r₀ = opened_record term mtu initial session stream
 
   abbrev w₀ : World
   w₀ = opened log term mtu initial session stream
 
-  passes : open_verdict r₀ (length log) ≡ Pass
+  passes : open_verdict r₀ (length log) ≡ Ok tt
   unfolding open_of
   passes = go (open_verdict r₀ (length log)) fresh
     where
-      go : (x : Verdict) → (open_by r₀ x).answer ≡ Done → x ≡ Pass
-      go Pass e = refl
-      go (Refuse q) e = absurd (let z : ◌≡◌ {A = ℕ} 0 1 = cc in omega arith)
+      go : (x : Result ⊤ Error) → (open_by r₀ x).answer ≡ Ok tt → x ≡ Ok tt
+      go (Ok _) e = refl
+      go (Err q) e = absurd (let z : ◌≡◌ {A = ℕ} 0 1 = cc in omega arith)
 
   sound₀ : sound (reading r₀) (length log) ≡ true
   unfolding open_verdict
   sound₀ = go (sound (reading r₀) (length log)) passes
     where
-      go : (b : Bool) → cond (not b) (Refuse IllegalRecord) Pass ≡ Pass → b ≡ true
+      go : (b : Bool) → ◌≡◌ {A = Result ⊤ Error} (cond (not b) (Err IllegalRecord) (Ok tt)) (Ok tt) → b ≡ true
       go true e = refl
       go false e = absurd (let z : ◌≡◌ {A = ℕ} 0 1 = cc in omega arith)
 
@@ -430,7 +425,7 @@ module _ (log : List ℕ) (term mtu initial session stream : ℤ) (fresh : (open
 
   record_is : w₀.record· ≡ r₀
   unfolding open_of
-  record_is = ap (λ (x : Verdict). (open_by r₀ x).next) passes
+  record_is = ap (λ (x : Result ⊤ Error). (open_by r₀ x).next) passes
 
   log_is : w₀.log ≡ zeros (length log)
   unfolding open_bytes

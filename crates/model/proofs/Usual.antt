@@ -1,4 +1,5 @@
 -- Where the invariant holds, no call is refused with what cannot come.
+use Rattle.std.specs.Prelude.{Result, Ok, Err, ⊤}
 use mathlib.Core.Path.{◌≡◌, refl, sym, ap, ◌∙◌, subst}
 use mathlib.Core.Bool.{Bool, true, false, cond, not}
 use Prim.Native.Nat.{ℕ, ◌+◌}
@@ -13,13 +14,7 @@ use Rattle.model.specs.declared.Claim.{Claim}
 use Rattle.model.specs.declared.Reading.{Reading}
 use Rattle.model.specs.declared.Error.{Error}
 use Rattle.model.specs.declared.Error.TheVariants.{IllegalArgument, IllegalRecord, PositionOutOfRange, ExceedsMaxPayloadLength, PublicationClosed, AdminAction, MaxPositionExceeded, BackPressured, NotConnected, ExceedsMaxMessageLength, TailOverflow, LastTerm, ClaimMismatch, NewPositionOutOfRange, NotCleared, NotDue}
-use Rattle.model.specs.declared.Verdict.{Verdict}
-use Rattle.model.specs.declared.Verdict.TheVariants.{Pass, Refuse}
-use Rattle.model.specs.declared.Outcome.TheVariants.{Done, Refused}
-use Rattle.model.specs.declared.Offered.TheVariants.{Position as OfferPosition, Refused as OfferRefused}
-use Rattle.model.specs.declared.Located.{Located}
-use Rattle.model.specs.declared.Located.TheVariants.{Refused as LocatedRefused}
-use Rattle.model.specs.declared.Claimed.TheVariants.{Position as ClaimPosition, Refused as ClaimRefused}
+use Rattle.model.specs.declared.Span.{Span}
 use Rattle.model.specs.Bytes.{word, long}
 use Rattle.model.specs.FrameDescriptor.{space}
 use Rattle.model.specs.Parts.{located_by}
@@ -38,36 +33,36 @@ use Rattle.model.proofs.Keeping.{sound-is, own-count}
 use Rattle.model.proofs.Kept.{Inv}
 
 -- a verdict that passes, or refuses with what may come
-Fine : Verdict → Type 0
-Fine Pass = Unit {0}
-Fine (Refuse e) = rare false e ≡ false
+Fine : Result ⊤ Error → Type 0
+Fine (Ok _) = Unit {0}
+Fine (Err e) = rare false e ≡ false
 
-fine-pass : Fine Pass
+fine-pass : Fine (Ok tt)
 unfolding Fine
 fine-pass = tt
 
-fine-no : (e : Error) → rare false e ≡ false → Fine (Refuse e)
+fine-no : (e : Error) → rare false e ≡ false → Fine (Err e)
 unfolding Fine
 fine-no e q = q
 
-outcome-fine : (x : Verdict) → Fine x → UsualOutcome (outcome_of x)
+outcome-fine : (x : Result ⊤ Error) → Fine x → UsualOutcome (outcome_of x)
 unfolding Fine
-outcome-fine Pass f = tt
-outcome-fine (Refuse e) f = f
+outcome-fine (Ok _) f = tt
+outcome-fine (Err e) f = f
 
-reply-fine : (r next : LogRecord) (x : Verdict) → Fine x → UsualOutcome (reply_by r next x).answer
+reply-fine : (r next : LogRecord) (x : Result ⊤ Error) → Fine x → UsualOutcome (reply_by r next x).answer
 unfolding Fine
-reply-fine r next Pass f = tt
-reply-fine r next (Refuse e) f = f
+reply-fine r next (Ok _) f = tt
+reply-fine r next (Err e) f = f
 
-located-fine : (from to : ℕ) (x : Verdict) → Fine x → UsualOutcome (write_outcome (located_by from to x))
+located-fine : (from to : ℕ) (x : Result ⊤ Error) → Fine x → UsualOutcome (write_outcome (located_by from to x))
 unfolding Fine
-located-fine from to Pass f = tt
-located-fine from to (Refuse e) f = f
+located-fine from to (Ok _) f = tt
+located-fine from to (Err e) f = f
 
-fill-fine : (from to n : ℕ) (x : Verdict) → Fine x → UsualOutcome (write_outcome (cond (leb n 2147483647) (located_by from to x) (LocatedRefused IllegalArgument)))
+fill-fine : (from to n : ℕ) (x : Result ⊤ Error) → Fine x → UsualOutcome (write_outcome (cond (leb n 2147483647) (located_by from to x) (Err IllegalArgument)))
 fill-fine from to n x f =
-    cond-case (λ (l : Located). UsualOutcome (write_outcome l)) (leb n 2147483647) (located_by from to x) (LocatedRefused IllegalArgument) (λ e. located-fine from to x f) (λ e. refl)
+    cond-case (λ (l : Result Span Error). UsualOutcome (write_outcome l)) (leb n 2147483647) (located_by from to x) (Err IllegalArgument) (λ e. located-fine from to x f) (λ e. refl)
 
 sound-closed : (v : Reading) (n : ℕ) → sound v n ≡ true → sound_record (with_rest v v.limit true) ≡ true
 unfolding sound sound_record
@@ -87,11 +82,11 @@ module _ (r : LogRecord) (log : List ℕ) (h : List Extent) (ks : List Claim) (s
   is-sound· : sound v (length log) ≡ true
   is-sound· = sound-is v i.all h ks i.holds (length log) i.long
 
-  rung : (b : Bool) (e : Error) (x : Verdict) → rare false e ≡ false → Fine x → Fine (cond b (Refuse e) x)
-  rung b e x q f = cond-case Fine b (Refuse e) x (λ z. fine-no e q) (λ z. f)
+  rung : (b : Bool) (e : Error) (x : Result ⊤ Error) → rare false e ≡ false → Fine x → Fine (cond b (Err e) x)
+  rung b e x q f = cond-case Fine b (Err e) x (λ z. fine-no e q) (λ z. f)
 
-  sound-rung : (x : Verdict) → Fine x → Fine (cond (not (sound v (length log))) (Refuse IllegalRecord) x)
-  sound-rung x f = cond-case Fine (not (sound v (length log))) (Refuse IllegalRecord) x (λ e. clash (sound v (length log)) is-sound· (not-true _ e)) (λ e. f)
+  sound-rung : (x : Result ⊤ Error) → Fine x → Fine (cond (not (sound v (length log))) (Err IllegalRecord) x)
+  sound-rung x f = cond-case Fine (not (sound v (length log))) (Err IllegalRecord) x (λ e. clash (sound v (length log)) is-sound· (not-true _ e)) (λ e. f)
 
   pressed-fine : (m : ℕ) → rare false (pressed v m) ≡ false
   unfolding pressed
@@ -100,10 +95,10 @@ module _ (r : LogRecord) (log : List ℕ) (h : List Extent) (ks : List Claim) (s
       (λ q. cond-case (λ (e : Error). rare false e ≡ false) (eqb v.connected 1) BackPressured NotConnected (λ e. refl)
       (λ e. clash (eqb v.connected 1) (eq-eqb v.connected 1 i.holds.fixed.live) e))
 
-  after-fine : (m : ℕ) (x : Verdict) → Fine x → Fine (after_closed v m x)
+  after-fine : (m : ℕ) (x : Result ⊤ Error) → Fine x → Fine (after_closed v m x)
   unfolding after_closed
   after-fine m x f =
-      cond-case Fine (not (eqb (id_minus v.id v.initial) v.count)) (Refuse AdminAction) _
+      cond-case Fine (not (eqb (id_minus v.id v.initial) v.count)) (Err AdminAction) _
       (λ e. clash (eqb (id_minus v.id v.initial) v.count) (eq-eqb _ _ (own-count v i.all h ks i.holds)) (not-true _ e))
       (λ e. rung (leb v.limit (place v)) (pressed v m) x (pressed-fine m) f)
 
@@ -115,7 +110,7 @@ module _ (r : LogRecord) (log : List ℕ) (h : List Extent) (ks : List Claim) (s
       (rung v.closed PublicationClosed _ refl
       (after-fine m _
       (rung (too_long v m) ExceedsMaxMessageLength _ refl
-      (rung (ltb 2147483647 (v.offset + need_of v m)) TailOverflow Pass refl fine-pass)))))
+      (rung (ltb 2147483647 (v.offset + need_of v m)) TailOverflow (Ok tt) refl fine-pass)))))
 
   claim-fine : (m : ℕ) → Fine (claim_verdict v (length log) m)
   unfolding claim_verdict
@@ -125,7 +120,7 @@ module _ (r : LogRecord) (log : List ℕ) (h : List Extent) (ks : List Claim) (s
       (rung v.closed PublicationClosed _ refl
       (rung (ltb (payload_limit v) m) ExceedsMaxPayloadLength _ refl
       (after-fine m _
-      (rung (ltb 2147483647 (v.offset + space m)) TailOverflow Pass refl fine-pass)))))
+      (rung (ltb 2147483647 (v.offset + space m)) TailOverflow (Ok tt) refl fine-pass)))))
 
   trip-fine : rare true (trip_error v (is_ready r)) ≡ false
   unfolding on_trip
@@ -137,47 +132,47 @@ module _ (r : LogRecord) (log : List ℕ) (h : List Extent) (ks : List Claim) (s
       go false false true = refl
       go false false false = refl
 
-  offered-fine : (n : ℕ) (x : Verdict) → Fine x → UsualOffered (trips_by v n x) (offered_by r v n x)
+  offered-fine : (n : ℕ) (x : Result ⊤ Error) → Fine x → UsualOffered (trips_by v n x) (offered_by r v n x)
   unfolding Fine
-  offered-fine n (Refuse e) f = f
-  offered-fine n Pass f = go (fits v n)
+  offered-fine n (Err e) f = f
+  offered-fine n (Ok _) f = go (fits v n)
     where
-      go : (b : Bool) → UsualOffered (not b) (cond b (OfferPosition (pos (place v + n))) (OfferRefused (trip_error v (is_ready r))))
+      go : (b : Bool) → UsualOffered (not b) (cond b (Ok (pos (place v + n))) (Err (trip_error v (is_ready r))))
       go true = tt
       go false = trip-fine
 
-  claimed-fine : (m : ℕ) (x : Verdict) → Fine x → UsualClaimed (trips_by v (space m) x) (claimed_by r v m x)
+  claimed-fine : (m : ℕ) (x : Result ⊤ Error) → Fine x → UsualClaimed (trips_by v (space m) x) (claimed_by r v m x)
   unfolding Fine
-  claimed-fine m (Refuse e) f = f
-  claimed-fine m Pass f = go (fits v (space m))
+  claimed-fine m (Err e) f = f
+  claimed-fine m (Ok _) f = go (fits v (space m))
     where
-      go : (b : Bool) → UsualClaimed (not b) (cond b (ClaimPosition (pos (place v + space m)) (claim_record v (active r) m)) (ClaimRefused (trip_error v (is_ready r))))
+      go : (b : Bool) → UsualClaimed (not b) (cond b (Ok (record { position = pos (place v + space m); claim = claim_record v (active r) m })) (Err (trip_error v (is_ready r))))
       go true = tt
       go false = trip-fine
 
   check-fine : (k : Claim) → Fine (claim_check r log k)
   unfolding claim_check
   check-fine k =
-      cond-case Fine (good_claim v k) _ (Refuse IllegalArgument)
-      (λ g. cond-case Fine (sound v (length log)) _ (Refuse IllegalRecord)
-      (λ e. cond-case Fine (matches log (claim_start v k) k) Pass (Refuse ClaimMismatch) (λ q. fine-pass) (λ q. fine-no ClaimMismatch refl))
+      cond-case Fine (good_claim v k) _ (Err IllegalArgument)
+      (λ g. cond-case Fine (sound v (length log)) _ (Err IllegalRecord)
+      (λ e. cond-case Fine (matches log (claim_start v k) k) (Ok tt) (Err ClaimMismatch) (λ q. fine-pass) (λ q. fine-no ClaimMismatch refl))
       (λ e. clash (sound v (length log)) is-sound· e))
       (λ e. fine-no IllegalArgument refl)
 
   clear-fine : (k : ℕ) → Fine (clear_verdict v (length log) k)
   unfolding clear_verdict
   clear-fine k =
-      cond-case Fine (good_partition k) _ (Refuse IllegalArgument)
-      (λ g. cond-case Fine (sound v (length log)) _ (Refuse IllegalRecord) (λ e. rung (not_due v k) NotDue Pass refl fine-pass) (λ e. clash (sound v (length log)) is-sound· e))
+      cond-case Fine (good_partition k) _ (Err IllegalArgument)
+      (λ g. cond-case Fine (sound v (length log)) _ (Err IllegalRecord) (λ e. rung (not_due v k) NotDue (Ok tt) refl fine-pass) (λ e. clash (sound v (length log)) is-sound· e))
       (λ e. fine-no IllegalArgument refl)
 
   raise-fine : (p : ℕ) → Fine (raise_verdict v p)
   unfolding raise_verdict
   raise-fine p =
-      cond-case Fine (not (sound_record v)) (Refuse IllegalRecord) _ (λ e. clash (sound_record v) (sound-alone v (length log) is-sound·) (not-true _ e))
-      (λ e. rung (not (good_position v p)) PositionOutOfRange _ refl (rung (ltb p v.slowest) NewPositionOutOfRange Pass refl fine-pass))
+      cond-case Fine (not (sound_record v)) (Err IllegalRecord) _ (λ e. clash (sound_record v) (sound-alone v (length log) is-sound·) (not-true _ e))
+      (λ e. rung (not (good_position v p)) PositionOutOfRange _ refl (rung (ltb p v.slowest) NewPositionOutOfRange (Ok tt) refl fine-pass))
 
-  close-fine : (b : Bool) → b ≡ true → UsualOutcome (cond {A = RecordReply} b (record { next = with_closed r; answer = Done }) (record { next = r; answer = Refused IllegalRecord })).answer
+  close-fine : (b : Bool) → b ≡ true → UsualOutcome (cond {A = RecordReply} b (record { next = with_closed r; answer = Ok tt }) (record { next = r; answer = Err IllegalRecord })).answer
   close-fine true e = tt
   close-fine false e = clash false e refl
 

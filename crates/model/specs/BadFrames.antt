@@ -1,18 +1,13 @@
 -- R-7 of document 02: bad frames by place. The ladders of the reading calls as document 01 had them, with 17 for any unsound frame, stand here beside
 -- those of TermReader, TermScan, Image and FragmentAssembler, and `BadFrames` says that a call answers now what it answered then, with 17 replaced.
 -- Proved in proofs/BadFrames.antt.
-use Rattle.std.specs.Prelude.{◌≡◌, ◌⊎◌, ℕ, ◌+◌, ◌-◌, ◌*◌, ◌%◌, ◌≤◌, min, Bool, true, cond, ◌&&◌, ◌||◌, not, List, [], eqb, leb, ltb, length, drop, ℤ, pos}
+use Rattle.std.specs.Prelude.{◌≡◌, ◌⊎◌, ℕ, ◌+◌, ◌-◌, ◌*◌, ◌%◌, ◌≤◌, min, Bool, true, cond, ◌&&◌, ◌||◌, not, List, [], eqb, leb, ltb, length, drop, ℤ, pos, Result, Ok, Err, ⊤}
 use Rattle.model.specs.declared.LogRecord.{LogRecord}
 use Rattle.model.specs.declared.Reading.{Reading}
 use Rattle.model.specs.declared.Error.{Error}
 use Rattle.model.specs.declared.Error.TheVariants.{IllegalArgument, IllegalRecord, PositionOutOfRange, NewPositionOutOfRange, NewPositionNotAligned}
-use Rattle.model.specs.declared.Verdict.{Verdict}
-use Rattle.model.specs.declared.Verdict.TheVariants.{Pass, Refuse}
 use Rattle.model.specs.declared.ReadVerdict.{ReadVerdict}
-use Rattle.model.specs.declared.ReadVerdict.TheVariants.{Read, Closed, Refuse as ReadRefuse}
-use Rattle.model.specs.declared.Polled.TheVariants.{Refused as PollRefused}
-use Rattle.model.specs.declared.Assembled.TheVariants.{Refused as AssemblyRefused}
-use Rattle.model.specs.declared.Replayed.TheVariants.{Refused as ReplayRefused}
+use Rattle.model.specs.declared.ReadVerdict.TheVariants.{Read, Closed}
 use Rattle.model.specs.Bytes.{word, long}
 use Rattle.model.specs.Answers.{Told, refused, frames_told, read_told, scanned_told, gap_told, availability_told, polled_told, peeked_told, block_told, assembled_told}
 use Rattle.model.specs.DataFrameHeader.{header_at}
@@ -148,13 +143,13 @@ before r log (assemble s buffer partition offset) =
 -- ---- the answers
 
 -- only an image is ever closed
-abbrev pub as_verdict : ReadVerdict → Verdict
-as_verdict Read = Pass
-as_verdict Closed = Pass
-as_verdict (ReadRefuse e) = Refuse e
+abbrev pub as_verdict : Result ReadVerdict Error → Result ⊤ Error
+as_verdict (Ok Read) = Ok tt
+as_verdict (Ok Closed) = Ok tt
+as_verdict (Err e) = Err e
 
 -- what a call answers by its verdict: R-7 changed nothing here
-abbrev pub answer_by : LogRecord → List ℕ → Reads → ReadVerdict → Told
+abbrev pub answer_by : LogRecord → List ℕ → Reads → Result ReadVerdict Error → Told
 answer_by r log (frames base term end at limit acts slots) x = frames_told (frames_by (walk term log base term end at limit acts) (as_verdict x))
 answer_by r log (read partition offset limit slots) x =
     read_told (read_by (word offset) (read_walk (reading r) log (word partition) (word offset) (natural limit)) (as_verdict x))
@@ -178,9 +173,9 @@ answer_by r log (assemble s buffer partition offset) x =
     assembled_told (assemble_by s buffer (drop (word partition * (reading r).term + word offset) log) (word offset) (as_verdict x)).answer
 
 -- the old verdict answered, with what is said for 17
-abbrev pub saying : Told → (ReadVerdict → Told) → Before → Told
-saying for17 by passed = by Read
-saying for17 by shut = by Closed
+abbrev pub saying : Told → (Result ReadVerdict Error → Told) → Before → Told
+saying for17 by passed = by (Ok Read)
+saying for17 by shut = by (Ok Closed)
 saying for17 by seventeen = for17
 saying for17 by (refused_by e) = refused e
 
@@ -201,5 +196,5 @@ BadFrames =
 -- A replay makes no refusal of a frame itself: what it refuses behind row 1 of its lent buffer, one of its polls or the assembler refused.
 unfoldable pub ReplaysPassOn : Type 0
 ReplaysPassOn =
-    (r : LogRecord) (log : List ℕ) (s : ReplayState) (e : Error) → length s.buffer ≤ 2147483647 → (next_of r log s).answer ≡ ReplayRefused e
-    → (t : ReplayState) × (((poll_one r log t.image).answer ≡ PollRefused e) ⊎ ((assemble_one r log t).answer ≡ AssemblyRefused e))
+    (r : LogRecord) (log : List ℕ) (s : ReplayState) (e : Error) → length s.buffer ≤ 2147483647 → (next_of r log s).answer ≡ Err e
+    → (t : ReplayState) × (((poll_one r log t.image).answer ≡ Err e) ⊎ ((assemble_one r log t).answer ≡ Err e))

@@ -1,11 +1,8 @@
 -- Blocks apart: the bytes [position - need, position) of the stream that an accepted offer or claim took are nobody else's, so blocks of
 -- numbers that are worked out from positions never overlap. `blocks-apart` (proofs/BlocksApart.antt) proves it for every list of calls.
-use Rattle.std.specs.Prelude.{◌≡◌, ℕ, ◌+◌, ◌-◌, ◌*◌, ◌/◌, ◌%◌, ◌≤◌, List, [], ◌∷◌, length, ℤ, pos}
-use Rattle.model.specs.declared.Outcome.TheVariants.{Done}
-use Rattle.model.specs.declared.Offered.{Offered}
-use Rattle.model.specs.declared.Offered.TheVariants.{Position as OfferPosition, Refused as OfferRefused}
+use Rattle.std.specs.Prelude.{◌≡◌, ℕ, ◌+◌, ◌-◌, ◌*◌, ◌/◌, ◌%◌, ◌≤◌, List, [], ◌∷◌, length, ℤ, pos, Result, Ok, Err}
+use Rattle.model.specs.declared.Error.{Error}
 use Rattle.model.specs.declared.Claimed.{Claimed}
-use Rattle.model.specs.declared.Claimed.TheVariants.{Position as ClaimPosition, Refused as ClaimRefused}
 use Rattle.model.specs.Bytes.{word}
 use Rattle.model.specs.FrameDescriptor.{space}
 use Rattle.model.specs.TermAppender.{need}
@@ -31,13 +28,13 @@ takes payload (raise p) = 0
 abbrev pub Takes : ℕ → ℕ → ℕ → Type 0
 Takes size low n = (size % 32 ≡ 0) × (32 ≤ size) × (n % 32 ≡ 0) × (low + size ≤ n)
 
-abbrev pub ApartOffered : ℕ → ℕ → Offered → (ℕ → Type 0) → Type 0
-ApartOffered size low (OfferPosition p) rest = (n : ℕ) × (p ≡ pos n) × Takes size low n × rest n
-ApartOffered size low (OfferRefused e) rest = rest low
+abbrev pub ApartOffered : ℕ → ℕ → Result ℤ Error → (ℕ → Type 0) → Type 0
+ApartOffered size low (Ok p) rest = (n : ℕ) × (p ≡ pos n) × Takes size low n × rest n
+ApartOffered size low (Err e) rest = rest low
 
-abbrev pub ApartClaimed : ℕ → ℕ → Claimed → (ℕ → Type 0) → Type 0
-ApartClaimed size low (ClaimPosition p k) rest = (n : ℕ) × (p ≡ pos n) × Takes size low n × rest n
-ApartClaimed size low (ClaimRefused e) rest = rest low
+abbrev pub ApartClaimed : ℕ → ℕ → Result Claimed Error → (ℕ → Type 0) → Type 0
+ApartClaimed size low (Ok given) rest = (n : ℕ) × (given.position ≡ pos n) × Takes size low n × rest n
+ApartClaimed size low (Err e) rest = rest low
 
 abbrev pub ApartBy : ℕ → ℕ → Answer → (ℕ → Type 0) → Type 0
 ApartBy size low (offered t a) rest = ApartOffered size low a rest
@@ -55,13 +52,13 @@ abbrev pub block_at : ℕ → ℕ → ℕ
 block_at each p = (p - 32) / 32 * each
 
 -- Each accepted request's block begins at the first number that no block before it has, or later.
-abbrev pub FreeOffered : ℕ → ℕ → Offered → (ℕ → Type 0) → Type 0
-FreeOffered each free (OfferPosition p) rest = (n : ℕ) × (p ≡ pos n) × (free ≤ block_at each n) × rest (block_at each n + each)
-FreeOffered each free (OfferRefused e) rest = rest free
+abbrev pub FreeOffered : ℕ → ℕ → Result ℤ Error → (ℕ → Type 0) → Type 0
+FreeOffered each free (Ok p) rest = (n : ℕ) × (p ≡ pos n) × (free ≤ block_at each n) × rest (block_at each n + each)
+FreeOffered each free (Err e) rest = rest free
 
-abbrev pub FreeClaimed : ℕ → ℕ → Claimed → (ℕ → Type 0) → Type 0
-FreeClaimed each free (ClaimPosition p k) rest = (n : ℕ) × (p ≡ pos n) × (free ≤ block_at each n) × rest (block_at each n + each)
-FreeClaimed each free (ClaimRefused e) rest = rest free
+abbrev pub FreeClaimed : ℕ → ℕ → Result Claimed Error → (ℕ → Type 0) → Type 0
+FreeClaimed each free (Ok given) rest = (n : ℕ) × (given.position ≡ pos n) × (free ≤ block_at each n) × rest (block_at each n + each)
+FreeClaimed each free (Err e) rest = rest free
 
 abbrev pub FreeBy : ℕ → ℕ → Answer → (ℕ → Type 0) → Type 0
 FreeBy each free (offered t a) rest = FreeOffered each free a rest
@@ -75,7 +72,7 @@ Free each free (t ∷ ts) = FreeBy each free t.1 (λ n. Free each n ts)
 -- From a log fresh from opening, for every list of calls, whatever claim records they are given, and however far the stream goes.
 unfoldable pub BlocksApart : Type 0
 BlocksApart =
-    (log : List ℕ) (term mtu initial session stream : ℤ) → (open_of log term mtu initial session stream).answer ≡ Done
+    (log : List ℕ) (term mtu initial session stream : ℤ) → (open_of log term mtu initial session stream).answer ≡ Ok tt
     → (calls : List Call)
     → Apart (shape (opened log term mtu initial session stream)).payload 0 (answers (opened log term mtu initial session stream) calls)
     × ((each : ℕ) → Free each 0 (answers (opened log term mtu initial session stream) calls))

@@ -1,12 +1,11 @@
 -- R-3 of document 02: closed decides before too long. The claim's ladder as document 01 had it stands here beside the one in Publication, and
 -- `ClosedFirst` says that one kind of answer differs. Proved in proofs/ClosedFirst.antt.
-use Rattle.std.specs.Prelude.{◌≡◌, ℕ, ◌*◌, Bool, true, false, ◌&&◌, not, List, ltb, length, ℤ}
+use Rattle.std.specs.Prelude.{◌≡◌, ℕ, ◌*◌, Bool, true, false, ◌&&◌, not, List, ltb, length, ℤ, Result, Err, ⊤}
+use Rattle.model.specs.declared.Error.{Error}
 use Rattle.model.specs.declared.LogRecord.{LogRecord}
 use Rattle.model.specs.declared.Reading.{Reading}
 use Rattle.model.specs.declared.Error.TheVariants.{IllegalArgument, IllegalRecord, ExceedsMaxPayloadLength, PublicationClosed}
-use Rattle.model.specs.declared.Verdict.{Verdict}
 use Rattle.model.specs.declared.Claimed.{Claimed}
-use Rattle.model.specs.declared.Claimed.TheVariants.{Refused as ClaimRefused}
 use Rattle.model.specs.Bytes.{word}
 use Rattle.model.specs.FrameDescriptor.{space}
 use Rattle.model.specs.LogBufferDescriptor.{active, reading, payload_limit, sound}
@@ -15,7 +14,7 @@ use Rattle.model.specs.Publication.{refuse_if, after_closed, tail_room, next_by,
 
 -- ---- the claim as document 01 had it: 1, 2, 4, 5, then as an offer without 10
 
-unfoldable pub claim_verdict_before : Reading → ℕ → ℕ → Verdict
+unfoldable pub claim_verdict_before : Reading → ℕ → ℕ → Result ⊤ Error
 claim_verdict_before v n m =
     refuse_if (ltb 2147483647 m) IllegalArgument
     (refuse_if (not (sound v n)) IllegalRecord
@@ -25,7 +24,7 @@ claim_verdict_before v n m =
     (tail_room v (space m))))))
 
 -- the next record, and the answer
-unfoldable pub claim_before : LogRecord → List ℕ → ℤ → LogRecord × Claimed
+unfoldable pub claim_before : LogRecord → List ℕ → ℤ → LogRecord × Result Claimed Error
 claim_before r log m = (
   next_by r (reading r) (space (word m)) (claim_verdict_before (reading r) (length log) (word m)),
   claimed_by r (reading r) (word m) (claim_verdict_before (reading r) (length log) (word m)),
@@ -39,7 +38,7 @@ claim_bytes_before r log m =
 -- ---- what R-3 changes
 
 -- next record and answer as they are now
-abbrev pub claim_now : LogRecord → List ℕ → ℤ → LogRecord × Claimed
+abbrev pub claim_now : LogRecord → List ℕ → ℤ → LogRecord × Result Claimed Error
 claim_now r log m = ((claim_of r log m).next, (claim_of r log m).answer)
 
 -- the one kind: rows 1 and 2 let the claim pass, the publication is closed, and the claim is over the payload limit
@@ -49,8 +48,8 @@ closed_and_long r log m =
 
 -- a claim of that kind: 5 for 4, and record and log as they were, now as before
 pub record FiveForFour (r : LogRecord) (log : List ℕ) (m : ℤ) : Type 0 where
-  pub before : claim_before r log m ≡ (r, ClaimRefused ExceedsMaxPayloadLength)
-  pub now : claim_now r log m ≡ (r, ClaimRefused PublicationClosed)
+  pub before : claim_before r log m ≡ (r, Err ExceedsMaxPayloadLength)
+  pub now : claim_now r log m ≡ (r, Err PublicationClosed)
   pub log-before : claim_bytes_before r log m ≡ log
   pub log-now : claim_bytes r log m ≡ log
 

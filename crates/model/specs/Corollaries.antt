@@ -1,18 +1,12 @@
 -- What else holds of every list of calls on a log fresh from opening, and of every call and poll, each by itself. Proved in
 -- proofs/Corollaries.antt.
-use Rattle.std.specs.Prelude.{◌≡◌, ◌⊎◌, ℕ, ◌+◌, ◌-◌, ◌*◌, ◌/◌, ◌%◌, ◌<◌, ◌≤◌, Bool, true, false, not, List, [], ◌∷◌, length, drop, ℤ, pos}
+use Rattle.std.specs.Prelude.{◌≡◌, ◌⊎◌, ℕ, ◌+◌, ◌-◌, ◌*◌, ◌/◌, ◌%◌, ◌<◌, ◌≤◌, Bool, true, false, not, List, [], ◌∷◌, length, drop, ℤ, pos, Result, Ok, Err, ⊤}
 use Rattle.model.specs.declared.LogRecord.{LogRecord}
 use Rattle.model.specs.declared.Frame.{Frame}
 use Rattle.model.specs.declared.Frame.TheVariants.{Absent, Unsound, Padding, Data}
-use Rattle.model.specs.declared.Polled.TheVariants.{Fragments}
 use Rattle.model.specs.declared.Error.{Error}
 use Rattle.model.specs.declared.Error.TheVariants.{IllegalArgument, IllegalRecord, PositionOutOfRange, ExceedsMaxPayloadLength, PublicationClosed, AdminAction, MaxPositionExceeded, BackPressured, NotConnected, ExceedsMaxMessageLength, TailOverflow, LastTerm, ActionPossiblyDelayed, ClaimMismatch, NewPositionOutOfRange, NewPositionNotAligned, AssemblyFull, NotCleared, NotDue, FrameTooShort, FramePastTerm}
-use Rattle.model.specs.declared.Outcome.{Outcome}
-use Rattle.model.specs.declared.Outcome.TheVariants.{Done, Refused}
-use Rattle.model.specs.declared.Offered.{Offered}
-use Rattle.model.specs.declared.Offered.TheVariants.{Position as OfferPosition, Refused as OfferRefused}
 use Rattle.model.specs.declared.Claimed.{Claimed}
-use Rattle.model.specs.declared.Claimed.TheVariants.{Position as ClaimPosition, Refused as ClaimRefused}
 use Rattle.model.specs.Bytes.{long}
 use Rattle.model.specs.FrameDescriptor.{align, frame_at}
 use Rattle.model.specs.LogBufferDescriptor.{partition_of, reading}
@@ -25,13 +19,13 @@ use Rattle.model.specs.Demand.{opened, shape}
 
 -- ---- no two alike: each position answered to an accepted offer or claim is greater than all before it
 
-abbrev pub RisesOffered : ℕ → Offered → (ℕ → Type 0) → Type 0
-RisesOffered low (OfferPosition p) rest = (n : ℕ) × (p ≡ pos n) × (low < n) × rest n
-RisesOffered low (OfferRefused e) rest = rest low
+abbrev pub RisesOffered : ℕ → Result ℤ Error → (ℕ → Type 0) → Type 0
+RisesOffered low (Ok p) rest = (n : ℕ) × (p ≡ pos n) × (low < n) × rest n
+RisesOffered low (Err e) rest = rest low
 
-abbrev pub RisesClaimed : ℕ → Claimed → (ℕ → Type 0) → Type 0
-RisesClaimed low (ClaimPosition p k) rest = (n : ℕ) × (p ≡ pos n) × (low < n) × rest n
-RisesClaimed low (ClaimRefused e) rest = rest low
+abbrev pub RisesClaimed : ℕ → Result Claimed Error → (ℕ → Type 0) → Type 0
+RisesClaimed low (Ok given) rest = (n : ℕ) × (given.position ≡ pos n) × (low < n) × rest n
+RisesClaimed low (Err e) rest = rest low
 
 abbrev pub RisesBy : ℕ → Answer → (ℕ → Type 0) → Type 0
 RisesBy low (offered t a) rest = RisesOffered low a rest
@@ -45,7 +39,7 @@ Rising low (t ∷ ts) = RisesBy low t.1 (λ n. Rising n ts)
 -- From a log fresh from opening, for every list of calls, whatever claim records they are given, and however far the stream goes.
 unfoldable pub NoTwoAlike : Type 0
 NoTwoAlike =
-    (log : List ℕ) (term mtu initial session stream : ℤ) → (open_of log term mtu initial session stream).answer ≡ Done
+    (log : List ℕ) (term mtu initial session stream : ℤ) → (open_of log term mtu initial session stream).answer ≡ Ok tt
     → (calls : List Call) → Rising 0 (answers (opened log term mtu initial session stream) calls)
 
 -- ---- refusals that cannot come in a season: 9 and 13, 2 but from a limit change, and 6 without a trip
@@ -73,17 +67,17 @@ rare tripped NotDue = false
 rare tripped (FrameTooShort place) = false
 rare tripped (FramePastTerm place) = false
 
-abbrev pub UsualOffered : Bool → Offered → Type 0
-UsualOffered t (OfferPosition p) = Unit {0}
-UsualOffered t (OfferRefused e) = rare t e ≡ false
+abbrev pub UsualOffered : Bool → Result ℤ Error → Type 0
+UsualOffered t (Ok p) = Unit {0}
+UsualOffered t (Err e) = rare t e ≡ false
 
-abbrev pub UsualClaimed : Bool → Claimed → Type 0
-UsualClaimed t (ClaimPosition p k) = Unit {0}
-UsualClaimed t (ClaimRefused e) = rare t e ≡ false
+abbrev pub UsualClaimed : Bool → Result Claimed Error → Type 0
+UsualClaimed t (Ok given) = Unit {0}
+UsualClaimed t (Err e) = rare t e ≡ false
 
-abbrev pub UsualOutcome : Outcome → Type 0
-UsualOutcome Done = Unit {0}
-UsualOutcome (Refused e) = rare false e ≡ false
+abbrev pub UsualOutcome : Result ⊤ Error → Type 0
+UsualOutcome (Ok _) = Unit {0}
+UsualOutcome (Err e) = rare false e ≡ false
 
 abbrev pub UsualAnswer : Answer → Type 0
 UsualAnswer (offered t a) = UsualOffered t a
@@ -108,16 +102,16 @@ AllUsual (t ∷ ts) = Usual t.0 t.1 × AllUsual ts
 -- under the premises of a season
 unfoldable pub NothingRare : Type 0
 NothingRare =
-    (log : List ℕ) (term mtu initial session stream : ℤ) → (open_of log term mtu initial session stream).answer ≡ Done
+    (log : List ℕ) (term mtu initial session stream : ℤ) → (open_of log term mtu initial session stream).answer ≡ Ok tt
     → (calls : List Call) → AllGiven (shape (opened log term mtu initial session stream)) [] no_terms (opened log term mtu initial session stream) calls
     → AllUsual (answers (opened log term mtu initial session stream) calls)
 
 -- ---- a call that is refused without a trip leaves record and log as they were
 
 abbrev pub RefusedWith : Answer → Error → Type 0
-RefusedWith (offered t a) e = (t ≡ false) × (a ≡ OfferRefused e)
-RefusedWith (claimed t a) e = (t ≡ false) × (a ≡ ClaimRefused e)
-RefusedWith (outcome a) e = a ≡ Refused e
+RefusedWith (offered t a) e = (t ≡ false) × (a ≡ Err e)
+RefusedWith (claimed t a) e = (t ≡ false) × (a ≡ Err e)
+RefusedWith (outcome a) e = a ≡ Err e
 
 -- for every record and log, sound or not
 unfoldable pub RefusalsChangeNothing : Type 0
@@ -155,7 +149,7 @@ pub record PollPassed (r : LogRecord) (log : List ℕ) (i : Image) (slots : List
 -- for every record, log, image and lent entries
 unfoldable pub PollsCountFrames : Type 0
 PollsCountFrames =
-    (r : LogRecord) (log : List ℕ) (i : Image) (slots : List ℤ) (limit : ℤ) (n m : ℕ) → (poll_of r log i slots limit).answer ≡ Fragments n m
+    (r : LogRecord) (log : List ℕ) (i : Image) (slots : List ℤ) (limit : ℤ) (n m : ℕ) → (poll_of r log i slots limit).answer ≡ Ok (record { fragments = n; entries = m })
     → PollPassed r log i slots limit n m
 
 -- ---- R-5 of document 02: what a fragmented append needs, by arithmetic without a branch

@@ -29,14 +29,11 @@
 --                                                                `start`, `free_rounds`, `QuietPoll` (Replay), `Allowed`
 -- "into a fresh assembler whose parts each hold the longest fragmented message"           `start`, `Holds`
 -- "A replay's lent slices meet row 1"                            `Allowed`, and the buffer's length in `UpheldShort` and `Upheld`
-use Rattle.std.specs.Prelude.{◌≡◌, ℕ, ◌-◌, ◌*◌, ◌/◌, ◌<◌, ◌≤◌, List, [], ◌∷◌, length, ℤ, pos, ◌⊎◌, leb, true, cond}
+use Rattle.std.specs.Prelude.{◌≡◌, ℕ, ◌-◌, ◌*◌, ◌/◌, ◌<◌, ◌≤◌, List, [], ◌∷◌, length, ℤ, pos, ◌⊎◌, leb, true, cond, Result, Ok, Err}
+use Rattle.model.specs.declared.Error.{Error}
 use Rattle.std.specs.Int.Signed.{lt_z}
-use Rattle.model.specs.declared.Outcome.TheVariants.{Done}
-use Rattle.model.specs.declared.Offered.{Offered}
-use Rattle.model.specs.declared.Offered.TheVariants.{Position as OfferPosition, Refused as OfferRefused}
 use Rattle.model.specs.declared.Claimed.{Claimed}
 use Rattle.model.specs.declared.Replayed.TheVariants.{End}
-use Rattle.model.specs.declared.Claimed.TheVariants.{Position as ClaimPosition, Refused as ClaimRefused}
 use Rattle.model.specs.LogBufferDescriptor.{reading, publisher_position}
 use Rattle.model.specs.Publication.{open_of, open_bytes}
 use Rattle.model.specs.TermReader.{natural, good_entries}
@@ -47,13 +44,13 @@ use Rattle.model.specs.Replay.{Polls, start, rounds, QuietPoll, Quiet, free_roun
 -- ---- the answered positions
 
 -- an answered position is the end of the history told just after the call
-abbrev pub EndOffered : ℕ → Offered → Type 0
-EndOffered size (OfferPosition p) = p ≡ pos size
-EndOffered size (OfferRefused e) = Unit {0}
+abbrev pub EndOffered : ℕ → Result ℤ Error → Type 0
+EndOffered size (Ok p) = p ≡ pos size
+EndOffered size (Err e) = Unit {0}
 
-abbrev pub EndClaimed : ℕ → Claimed → Type 0
-EndClaimed size (ClaimPosition p k) = p ≡ pos size
-EndClaimed size (ClaimRefused e) = Unit {0}
+abbrev pub EndClaimed : ℕ → Result Claimed Error → Type 0
+EndClaimed size (Ok given) = given.position ≡ pos size
+EndClaimed size (Err e) = Unit {0}
 
 abbrev pub EndAt : ℕ → Answer → Type 0
 EndAt size (offered t a) = EndOffered size a
@@ -67,13 +64,13 @@ Ends c h (t ∷ ts) = EndAt (size_all c (tell c h t.0 t.1)) t.1 × Ends c (tell 
 -- ---- where a replay may start
 
 -- a position that an accepted offer or claim answered
-abbrev pub IsOffered : ℕ → Offered → Type 0
-IsOffered p (OfferPosition q) = q ≡ pos p
-IsOffered p (OfferRefused e) = ⊥
+abbrev pub IsOffered : ℕ → Result ℤ Error → Type 0
+IsOffered p (Ok q) = q ≡ pos p
+IsOffered p (Err e) = ⊥
 
-abbrev pub IsClaimed : ℕ → Claimed → Type 0
-IsClaimed p (ClaimPosition q k) = q ≡ pos p
-IsClaimed p (ClaimRefused e) = ⊥
+abbrev pub IsClaimed : ℕ → Result Claimed Error → Type 0
+IsClaimed p (Ok given) = given.position ≡ pos p
+IsClaimed p (Err e) = ⊥
 
 abbrev pub IsAnswer : ℕ → Answer → Type 0
 IsAnswer p (offered t a) = IsOffered p a
@@ -119,7 +116,7 @@ pub record ReplayedFree (w : World) (p : ℕ) (session : ℤ) (buffer : List ℕ
 -- The same message by message: what `next_of` (Replay) gives, one call after another, is ms; and every call after these answers the end.
 pub record GivesAll (w : World) (p : ℕ) (session : ℤ) (buffer : List ℕ) (ms : List (List ℕ)) : Type 0 where
   pub each : (most : ℕ) → length ms < most → replayed most w.record· w.log (from_start (pos p) session buffer) ≡ ms
-  pub ended : (n : ℕ) → length ms ≤ n → (next_of w.record· w.log (standing n w.record· w.log (from_start (pos p) session buffer))).answer ≡ End
+  pub ended : (n : ℕ) → length ms ≤ n → (next_of w.record· w.log (standing n w.record· w.log (from_start (pos p) session buffer))).answer ≡ Ok End
 
 -- ---- the season
 
@@ -155,7 +152,7 @@ pub record Upheld (w : World) (calls : List Call) : Type 0 where
 
 unfoldable pub Season : Type 0
 Season =
-    (log : List ℕ) (term mtu initial session stream : ℤ) → (open_of log term mtu initial session stream).answer ≡ Done
+    (log : List ℕ) (term mtu initial session stream : ℤ) → (open_of log term mtu initial session stream).answer ≡ Ok tt
     → (calls : List Call) → let w = opened log term mtu initial session stream in AllGiven (shape w) [] no_terms w calls → Upheld w calls
 
 -- ---- demand 3
@@ -172,7 +169,7 @@ pub record UpheldShort (w : World) (calls : List Call) : Type 0 where
 -- of a stream that ends short of three terms and whose first term is not cleared
 unfoldable pub Demand3 : Type 0
 Demand3 =
-    (log : List ℕ) (term mtu initial session stream : ℤ) → (open_of log term mtu initial session stream).answer ≡ Done
+    (log : List ℕ) (term mtu initial session stream : ℤ) → (open_of log term mtu initial session stream).answer ≡ Ok tt
     → (calls : List Call)
     → let w = opened log term mtu initial session stream in
     AllGiven (shape w) [] no_terms w calls → cleared_by w calls ≡ 0 → lt_z (publisher_position (reading (left w calls).record·)) (pos (3 * (shape w).term)) ≡ true → UpheldShort w calls

@@ -1,16 +1,15 @@
 -- The assembler: up to 16 sessions over one lent buffer ("Reading" in document 01, third paragraph). In order: 1, 2, 22 or 23, 18.
-use Rattle.std.specs.Prelude.{ℕ, suc, ◌+◌, ◌-◌, ◌*◌, ◌/◌, min, Bool, cond, ◌&&◌, ◌||◌, List, [], ◌∷◌, eqb, leb, ltb, length, take, drop, get_or, set, replicate, ℤ, pos}
+use Rattle.std.specs.Prelude.{ℕ, suc, ◌+◌, ◌-◌, ◌*◌, ◌/◌, min, Bool, cond, ◌&&◌, ◌||◌, List, [], ◌∷◌, eqb, leb, ltb, length, take, drop, get_or, set, replicate, ℤ, pos, Result, Ok, Err, ⊤}
+use Rattle.model.specs.declared.Error.{Error}
 use Rattle.std.specs.Int.{w32}
 use Rattle.std.proofs.Common.{to_z}
 use Rattle.model.specs.declared.LogRecord.{LogRecord}
 use Rattle.model.specs.declared.Reading.{Reading}
 use Rattle.model.specs.declared.Error.TheVariants.{AssemblyFull}
-use Rattle.model.specs.declared.Verdict.{Verdict}
-use Rattle.model.specs.declared.Verdict.TheVariants.{Pass, Refuse}
 use Rattle.model.specs.declared.Joining.{Joining}
 use Rattle.model.specs.declared.Joining.TheVariants.{Through, Ignore, Full, TooLong, Join, Complete}
 use Rattle.model.specs.declared.Assembled.{Assembled}
-use Rattle.model.specs.declared.Assembled.TheVariants.{Nothing, Fragment, Message, Refused}
+use Rattle.model.specs.declared.Assembled.TheVariants.{Nothing, Fragment, Message}
 use Rattle.model.specs.Bytes.{word, splice}
 use Rattle.model.specs.DataFrameHeader.{header_at}
 use Rattle.model.specs.FrameDescriptor.{is_finished, length_at, unsound_length, unsound_frame_at, flags_at, begins, ends}
@@ -75,13 +74,13 @@ buffer_by buffer body (TooLong k) = buffer
 buffer_by buffer body (Join k from) = splice buffer (k * part_length (length buffer) + from) body
 buffer_by buffer body (Complete k from) = splice buffer (k * part_length (length buffer) + from) body
 
-abbrev pub assembled_by : ℕ → ℕ → ℕ → Joining → Assembled
-assembled_by at n part Through = Fragment at n
-assembled_by at n part Ignore = Nothing
-assembled_by at n part Full = Refused AssemblyFull
-assembled_by at n part (TooLong k) = Refused AssemblyFull
-assembled_by at n part (Join k from) = Nothing
-assembled_by at n part (Complete k from) = Message (k * part) (from + n)
+abbrev pub assembled_by : ℕ → ℕ → ℕ → Joining → Result Assembled Error
+assembled_by at n part Through = Ok (Fragment at n)
+assembled_by at n part Ignore = Ok Nothing
+assembled_by at n part Full = Err AssemblyFull
+assembled_by at n part (TooLong k) = Err AssemblyFull
+assembled_by at n part (Join k from) = Ok Nothing
+assembled_by at n part (Complete k from) = Ok (Message (k * part) (from + n))
 
 -- ---- the entry point: record, log, bookkeeping, lent buffer, partition, offset of a frame
 
@@ -94,13 +93,13 @@ abbrev pub good_assembly : Reading → List ℕ → ℕ → ℕ → ℕ → Bool
 good_assembly v log buffer k at = leb buffer 2147483647 && (good_partition k && (good_offset at v && good_frame log (k * v.term + at)))
 
 -- 1, 2, 22 or 23
-unfoldable pub assemble_verdict : Reading → List ℕ → ℕ → ℕ → ℕ → Verdict
+unfoldable pub assemble_verdict : Reading → List ℕ → ℕ → ℕ → ℕ → Result ⊤ Error
 assemble_verdict v log buffer k at =
     first_rows (good_assembly v log buffer k at) (sound v (length log))
     (frame_row (unsound_length (header_at (drop (k * v.term + at) log)).length (v.term - at)) (unsound_frame_at log (k * v.term) at))
 
 pub record Assembly : Type 0 where
-  pub answer : Assembled
+  pub answer : Result Assembled Error
   pub next : Sessions
   pub buffer : List ℕ
 
@@ -123,9 +122,9 @@ abbrev pub joined_at : Sessions → List ℕ → List ℕ → ℕ → Assembly
 joined_at s buffer frame at =
     joined s buffer frame at (joining s (session_at frame) (flags_at frame) (body_length frame) (part_length (length buffer)))
 
-abbrev pub assemble_by : Sessions → List ℕ → List ℕ → ℕ → Verdict → Assembly
-assemble_by s buffer frame at (Refuse e) = record { answer = Refused e; next = s; buffer = buffer }
-assemble_by s buffer frame at Pass = joined_at s buffer frame at
+abbrev pub assemble_by : Sessions → List ℕ → List ℕ → ℕ → Result ⊤ Error → Assembly
+assemble_by s buffer frame at (Err e) = record { answer = Err e; next = s; buffer = buffer }
+assemble_by s buffer frame at (Ok _) = joined_at s buffer frame at
 
 unfoldable pub assemble_of : LogRecord → List ℕ → Sessions → List ℕ → ℤ → ℤ → Assembly
 assemble_of r log s buffer partition offset =

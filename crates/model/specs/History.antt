@@ -1,17 +1,12 @@
 -- Calls on a log, one after another, and the history that calls and answers tell (document 01, "Reading", last paragraph).
 -- Read Replay next.
-use Rattle.std.specs.Prelude.{◌≡◌, ◌⊎◌, ℕ, ◌+◌, ◌-◌, ◌*◌, ◌%◌, ◌≤◌, Bool, cond, List, [], ◌∷◌, ◌++◌, eqb, leb, length, take, drop, ℤ}
+use Rattle.std.specs.Prelude.{◌≡◌, ◌⊎◌, ℕ, ◌+◌, ◌-◌, ◌*◌, ◌%◌, ◌≤◌, Bool, cond, List, [], ◌∷◌, ◌++◌, eqb, leb, length, take, drop, ℤ, Result, Ok, Err, ⊤}
 use Rattle.model.specs.declared.LogRecord.{LogRecord}
 use Rattle.model.specs.declared.Claim.{Claim}
 use Rattle.model.specs.declared.Reading.{Reading}
 use Rattle.model.specs.declared.Error.{Error}
 use Rattle.model.specs.declared.Error.TheVariants.{IllegalArgument, IllegalRecord, PositionOutOfRange, ExceedsMaxPayloadLength, PublicationClosed, AdminAction, MaxPositionExceeded, BackPressured, NotConnected, ExceedsMaxMessageLength, TailOverflow, LastTerm, ActionPossiblyDelayed, ClaimMismatch, NewPositionOutOfRange, NewPositionNotAligned, AssemblyFull, NotCleared, NotDue, FrameTooShort, FramePastTerm}
-use Rattle.model.specs.declared.Outcome.{Outcome}
-use Rattle.model.specs.declared.Outcome.TheVariants.{Done, Refused}
-use Rattle.model.specs.declared.Offered.{Offered}
-use Rattle.model.specs.declared.Offered.TheVariants.{Position as OfferPosition, Refused as OfferRefused}
 use Rattle.model.specs.declared.Claimed.{Claimed}
-use Rattle.model.specs.declared.Claimed.TheVariants.{Position as ClaimPosition, Refused as ClaimRefused}
 use Rattle.model.specs.Bytes.{word, zeros}
 use Rattle.model.specs.FrameDescriptor.{space}
 use Rattle.model.specs.LogBufferDescriptor.{id_minus, payload_limit}
@@ -36,9 +31,9 @@ pub data Call : Type 0 where
 
 -- An offer or a claim also answers whether it tripped: the rule that decided says so (R-10 of document 02).
 pub data Answer : Type 0 where
-  offered : Bool → Offered → Answer
-  claimed : Bool → Claimed → Answer
-  outcome : Outcome → Answer
+  offered : Bool → Result ℤ Error → Answer
+  claimed : Bool → Result Claimed Error → Answer
+  outcome : Result ⊤ Error → Answer
 
 -- what a call gets and leaves: the record and the log
 pub record World : Type 0 where
@@ -152,18 +147,18 @@ turned s (message reserved m) = message reserved m
 turned s (claimed· t body) = claimed· s body
 turned s (padding n) = padding n
 
-abbrev pub after_offer : Shape → List Extent → List ℕ → ℤ → Bool → Offered → List Extent
-after_offer c h m reserved tripped (OfferPosition p) = h ++ (message reserved m ∷ [])
-after_offer c h m reserved tripped (OfferRefused e) = after_refusal c h tripped
+abbrev pub after_offer : Shape → List Extent → List ℕ → ℤ → Bool → Result ℤ Error → List Extent
+after_offer c h m reserved tripped (Ok p) = h ++ (message reserved m ∷ [])
+after_offer c h m reserved tripped (Err e) = after_refusal c h tripped
 
 -- an open claim of as many zeros as it asks for
-abbrev pub after_claim : Shape → List Extent → ℤ → Bool → Claimed → List Extent
-after_claim c h n tripped (ClaimPosition p k) = h ++ (claimed· open· (zeros (word n)) ∷ [])
-after_claim c h n tripped (ClaimRefused e) = after_refusal c h tripped
+abbrev pub after_claim : Shape → List Extent → ℤ → Bool → Result Claimed Error → List Extent
+after_claim c h n tripped (Ok given) = h ++ (claimed· open· (zeros (word n)) ∷ [])
+after_claim c h n tripped (Err e) = after_refusal c h tripped
 
-abbrev pub after_done : List Extent → List Extent → Outcome → List Extent
-after_done h next Done = next
-after_done h next (Refused e) = h
+abbrev pub after_done : List Extent → List Extent → Result ⊤ Error → List Extent
+after_done h next (Ok _) = next
+after_done h next (Err e) = h
 
 -- the history after one more call and its answer; all else, refusals too, changes nothing
 unfoldable pub tell : Shape → List Extent → Call → Answer → List Extent
@@ -208,9 +203,9 @@ total (m ∷ ms) = length m + total ms
 -- ---- what the calls are given
 
 -- the claim records that claims have answered
-abbrev pub learnt : List Claim → Claimed → List Claim
-learnt ks (ClaimPosition p k) = k ∷ ks
-learnt ks (ClaimRefused e) = ks
+abbrev pub learnt : List Claim → Result Claimed Error → List Claim
+learnt ks (Ok given) = given.claim ∷ ks
+learnt ks (Err e) = ks
 
 abbrev pub learn : List Claim → Answer → List Claim
 learn ks (offered t a) = ks
@@ -255,19 +250,19 @@ turned_by s tripped NotDue = s
 turned_by s tripped (FrameTooShort place) = s
 turned_by s tripped (FramePastTerm place) = s
 
-abbrev pub turned_offer : Terms → Bool → Offered → Terms
-turned_offer s tripped (OfferPosition p) = s
-turned_offer s tripped (OfferRefused e) = turned_by s tripped e
+abbrev pub turned_offer : Terms → Bool → Result ℤ Error → Terms
+turned_offer s tripped (Ok p) = s
+turned_offer s tripped (Err e) = turned_by s tripped e
 
-abbrev pub turned_claim : Terms → Bool → Claimed → Terms
-turned_claim s tripped (ClaimPosition p k) = s
-turned_claim s tripped (ClaimRefused e) = turned_by s tripped e
+abbrev pub turned_claim : Terms → Bool → Result Claimed Error → Terms
+turned_claim s tripped (Ok given) = s
+turned_claim s tripped (Err e) = turned_by s tripped e
 
 -- A clearing at a count of 2 or more clears the term two before the active one, and all before it are cleared already; at 0 and 1 it
 -- clears none.
-abbrev pub cleared_if : Terms → Outcome → Terms
-cleared_if s Done = record { turns = s.turns; cleared = s.turns - 1 }
-cleared_if s (Refused e) = s
+abbrev pub cleared_if : Terms → Result ⊤ Error → Terms
+cleared_if s (Ok _) = record { turns = s.turns; cleared = s.turns - 1 }
+cleared_if s (Err e) = s
 
 unfoldable pub tell_terms : Terms → Call → Answer → Terms
 tell_terms s (offer m reserved) (offered t a) = turned_offer s t a

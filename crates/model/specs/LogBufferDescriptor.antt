@@ -5,7 +5,7 @@
 --    |  partition 0   |  partition 1   |  partition 2   |     the log: three terms of one length, a partition each
 --    +----------------+----------------+----------------+
 --    0                T               2T               3T
-use Rattle.std.specs.Prelude.{◌≡◌, ℕ, ◌+◌, ◌-◌, ◌*◌, ◌/◌, ◌%◌, ◌^◌, ◌≤◌, min, Bool, true, false, cond, ◌&&◌, List, eqb, leb, ltb, get_or, set, ℤ, pos, ◌+ℤ◌, ◌*ℤ◌}
+use Rattle.std.specs.Prelude.{◌≡◌, ℕ, ◌+◌, ◌-◌, ◌*◌, ◌/◌, ◌%◌, ◌^◌, ◌≤◌, min, Bool, true, false, cond, ◌&&◌, List, eqb, leb, ltb, get_or, set, ℤ, pos, ◌+ℤ◌, ◌*ℤ◌, Result, Ok, Err, ⊤}
 use Rattle.std.specs.Int.Count.{ones, count_trailing_zeros}
 use Rattle.std.specs.Int.{w32, w64}
 use Rattle.std.proofs.Common.{to_z}
@@ -14,11 +14,6 @@ use Rattle.model.specs.declared.Reading.{Reading}
 use Rattle.model.specs.declared.Place.{Place}
 use Rattle.model.specs.declared.Error.{Error}
 use Rattle.model.specs.declared.Error.TheVariants.{IllegalArgument, IllegalRecord, LastTerm}
-use Rattle.model.specs.declared.Verdict.{Verdict}
-use Rattle.model.specs.declared.Verdict.TheVariants.{Pass, Refuse}
-use Rattle.model.specs.declared.Positioned.{Positioned}
-use Rattle.model.specs.declared.Positioned.TheVariants.{Position as Number, Refused as NumberRefused}
-use Rattle.model.specs.declared.Outcome.TheVariants.{Done, Refused}
 use Rattle.model.specs.declared.RecordReply.{RecordReply}
 use Rattle.model.specs.Bytes.{word, long}
 
@@ -60,8 +55,8 @@ position_of id initial term offset = to_z w32 (id_minus id initial) *ℤ pos ter
 
 -- The same by the bits to shift, as the Rust computes it where the difference of the ids has 32 bits. An exact answer has room for shifts up to
 -- 30, the largest of any term; past that it refuses 1.
-unfoldable pub compute_position : ℤ → ℕ → ℕ → ℤ → Positioned
-compute_position id offset bits initial = cond (ltb 30 bits) (NumberRefused IllegalArgument) (Number (position_of (word id) (word initial) (2 ^ bits) offset))
+unfoldable pub compute_position : ℤ → ℕ → ℕ → ℤ → Result ℤ Error
+compute_position id offset bits initial = cond (ltb 30 bits) (Err IllegalArgument) (Ok (position_of (word id) (word initial) (2 ^ bits) offset))
 
 -- the parts of a raw tail as the Rust answers them: the signed id, and the offset cut to a term length
 abbrev pub term_id_of : ℤ → ℤ
@@ -181,11 +176,11 @@ place_of r partition offset = record { read = reading r; partition = word partit
 
 -- The rows with which the calls of readers, claims and the assembler begin, before their own: 1 for an illegal argument, then 2 for an
 -- unsound record. Then 22 or 23, which this is, where the first frame is looked at and is unsound.
-abbrev pub first_rows : Bool → Bool → Verdict → Verdict
-first_rows good sound own = cond good (cond sound own (Refuse IllegalRecord)) (Refuse IllegalArgument)
+abbrev pub first_rows : Bool → Bool → Result ⊤ Error → Result ⊤ Error
+first_rows good sound own = cond good (cond sound own (Err IllegalRecord)) (Err IllegalArgument)
 
-abbrev pub frame_row : Bool → Error → Verdict
-frame_row unsound e = cond unsound (Refuse e) Pass
+abbrev pub frame_row : Bool → Error → Result ⊤ Error
+frame_row unsound e = cond unsound (Err e) (Ok tt)
 
 -- ---- the record, changed
 
@@ -279,17 +274,17 @@ rotated r count id = with_count (next_tail r count id) (count + 1)
 abbrev pub last_term : ℕ → Bool
 last_term count = eqb count 2147483647
 
-unfoldable pub rotate_verdict : Reading → ℕ → Verdict
+unfoldable pub rotate_verdict : Reading → ℕ → Result ⊤ Error
 rotate_verdict v count =
-    cond (ltb 2147483647 count) (Refuse IllegalArgument)
+    cond (ltb 2147483647 count) (Err IllegalArgument)
     (cond (sound_record v)
-    (cond (last_term count) (Refuse LastTerm) Pass)
-    (Refuse IllegalRecord))
+    (cond (last_term count) (Err LastTerm) (Ok tt))
+    (Err IllegalRecord))
 
-abbrev pub rotate_by : LogRecord → ℕ → ℕ → Verdict → RecordReply
-rotate_by r count id (Refuse e) = record { next = r; answer = Refused e }
-rotate_by r count id Pass =
-    record { next = cond (eqb (word r.active_term_count) count) (rotated r count id) (next_tail r count id); answer = Done }
+abbrev pub rotate_by : LogRecord → ℕ → ℕ → Result ⊤ Error → RecordReply
+rotate_by r count id (Err e) = record { next = r; answer = Err e }
+rotate_by r count id (Ok _) =
+    record { next = cond (eqb (word r.active_term_count) count) (rotated r count id) (next_tail r count id); answer = Ok tt }
 
 unfoldable pub rotate_log_of : LogRecord → ℤ → ℤ → RecordReply
 rotate_log_of r count id = rotate_by r (word count) (word id) (rotate_verdict (reading r) (word count))

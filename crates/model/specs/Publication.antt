@@ -1,21 +1,13 @@
 -- The publication: opening, limit change, close, position, limit, window, offer and claim. Each refusal stands in document 01's order
 -- ("Answers, by number", last paragraph), as R-3 and R-4 of document 02 amend it, with what it leaves. Which check decided is Rule's. Read TermReader next.
-use Rattle.std.specs.Prelude.{ℕ, ◌+◌, ◌-◌, ◌*◌, Bool, true, false, cond, ◌&&◌, ◌||◌, not, List, [], ◌∷◌, eqb, leb, ltb, length, replicate, ℤ, pos, ◌-ℤ◌}
+use Rattle.std.specs.Prelude.{ℕ, ◌+◌, ◌-◌, ◌*◌, Bool, true, false, cond, ◌&&◌, ◌||◌, not, List, [], ◌∷◌, eqb, leb, ltb, length, replicate, ℤ, pos, ◌-ℤ◌, Result, Ok, Err, ⊤}
 use Rattle.model.specs.declared.LogRecord.{LogRecord}
 use Rattle.model.specs.declared.Reading.{Reading}
 use Rattle.model.specs.declared.Error.{Error}
 use Rattle.model.specs.declared.Error.TheVariants.{IllegalArgument, IllegalRecord, ExceedsMaxPayloadLength, PublicationClosed, AdminAction, MaxPositionExceeded, BackPressured, NotConnected, ExceedsMaxMessageLength, TailOverflow, LastTerm, PositionOutOfRange, NewPositionOutOfRange, NotCleared, NotDue}
-use Rattle.model.specs.declared.Verdict.{Verdict}
-use Rattle.model.specs.declared.Verdict.TheVariants.{Pass, Refuse}
-use Rattle.model.specs.declared.Outcome.TheVariants.{Done, Refused}
 use Rattle.model.specs.declared.RecordReply.{RecordReply}
-use Rattle.model.specs.declared.Positioned.{Positioned}
-use Rattle.model.specs.declared.Positioned.TheVariants.{Position as Number, Refused as NumberRefused}
-use Rattle.model.specs.declared.Offered.{Offered}
-use Rattle.model.specs.declared.Offered.TheVariants.{Position as OfferPosition, Refused as OfferRefused}
 use Rattle.model.specs.declared.OfferReply.{OfferReply}
 use Rattle.model.specs.declared.Claimed.{Claimed}
-use Rattle.model.specs.declared.Claimed.TheVariants.{Position as ClaimPosition, Refused as ClaimRefused}
 use Rattle.model.specs.declared.ClaimReply.{ClaimReply}
 use Rattle.model.specs.Bytes.{word, long, splice, zeros}
 use Rattle.model.specs.FrameDescriptor.{space}
@@ -24,8 +16,8 @@ use Rattle.model.specs.TermAppender.{written, cut, need, padded, claimed, claim_
 use Rattle.model.specs.Rule.{message, claim, decided}
 
 -- one rung of a ladder of refusals
-abbrev pub refuse_if : Bool → Error → Verdict → Verdict
-refuse_if b e rest = cond b (Refuse e) rest
+abbrev pub refuse_if : Bool → Error → Result ⊤ Error → Result ⊤ Error
+refuse_if b e rest = cond b (Err e) rest
 
 -- ---- opening, limit change, close: refuse only 2, judged on the record that they would make
 
@@ -74,16 +66,16 @@ no_record =
       page_size = pos 0;
     }
 
-unfoldable pub open_verdict : LogRecord → ℕ → Verdict
-open_verdict r n = refuse_if (not (sound (reading r) n)) IllegalRecord Pass
+unfoldable pub open_verdict : LogRecord → ℕ → Result ⊤ Error
+open_verdict r n = refuse_if (not (sound (reading r) n)) IllegalRecord (Ok tt)
 
-abbrev pub open_by : LogRecord → Verdict → RecordReply
-open_by r (Refuse e) = record { next = no_record; answer = Refused e }
-open_by r Pass = record { next = r; answer = Done }
+abbrev pub open_by : LogRecord → Result ⊤ Error → RecordReply
+open_by r (Err e) = record { next = no_record; answer = Err e }
+open_by r (Ok _) = record { next = r; answer = Ok tt }
 
-abbrev pub open_bytes_by : List ℕ → Verdict → List ℕ
-open_bytes_by log (Refuse e) = log
-open_bytes_by log Pass = zeros (length log)
+abbrev pub open_bytes_by : List ℕ → Result ⊤ Error → List ℕ
+open_bytes_by log (Err e) = log
+open_bytes_by log (Ok _) = zeros (length log)
 
 unfoldable pub open_of : List ℕ → ℤ → ℤ → ℤ → ℤ → ℤ → RecordReply
 open_of log term mtu initial session stream =
@@ -94,7 +86,7 @@ open_bytes log term mtu initial session stream = open_bytes_by log (open_verdict
 
 -- the new record, or the old one and 2
 unfoldable pub change_of : LogRecord → LogRecord → RecordReply
-change_of r next = cond (sound_record (reading next)) (record { next = next; answer = Done }) (record { next = r; answer = Refused IllegalRecord })
+change_of r next = cond (sound_record (reading next)) (record { next = next; answer = Ok tt }) (record { next = r; answer = Err IllegalRecord })
 
 abbrev pub limit_of : LogRecord → ℤ → RecordReply
 limit_of r n = change_of r (with_limit r n)
@@ -104,16 +96,16 @@ close_of r = change_of r (with_closed r)
 
 -- ---- the slowest reader: 2 (of the record as it stands), 3, 15
 
-unfoldable pub raise_verdict : Reading → ℕ → Verdict
+unfoldable pub raise_verdict : Reading → ℕ → Result ⊤ Error
 raise_verdict v p =
     refuse_if (not (sound_record v)) IllegalRecord
     (refuse_if (not (good_position v p)) PositionOutOfRange
     (refuse_if (ltb p v.slowest) NewPositionOutOfRange
-    Pass))
+    (Ok tt)))
 
-abbrev pub reply_by : LogRecord → LogRecord → Verdict → RecordReply
-reply_by r next (Refuse e) = record { next = r; answer = Refused e }
-reply_by r next Pass = record { next = next; answer = Done }
+abbrev pub reply_by : LogRecord → LogRecord → Result ⊤ Error → RecordReply
+reply_by r next (Err e) = record { next = r; answer = Err e }
+reply_by r next (Ok _) = record { next = next; answer = Ok tt }
 
 unfoldable pub raise_of : LogRecord → ℤ → RecordReply
 raise_of r p = reply_by r (with_slowest r p) (raise_verdict (reading r) (long p))
@@ -124,31 +116,31 @@ raise_of r p = reply_by r (with_slowest r p) (raise_verdict (reading r) (long p)
 unfoldable pub not_due : Reading → ℕ → Bool
 not_due v k = not (eqb k (due v.count)) || (leb 2 v.count && ltb v.slowest ((v.count - 1) * v.term))
 
-unfoldable pub clear_verdict : Reading → ℕ → ℕ → Verdict
-clear_verdict v n k = first_rows (good_partition k) (sound v n) (refuse_if (not_due v k) NotDue Pass)
+unfoldable pub clear_verdict : Reading → ℕ → ℕ → Result ⊤ Error
+clear_verdict v n k = first_rows (good_partition k) (sound v n) (refuse_if (not_due v k) NotDue (Ok tt))
 
 unfoldable pub clear_of : LogRecord → List ℕ → ℤ → RecordReply
 clear_of r log k = reply_by r (with_mark r (word k) true) (clear_verdict (reading r) (length log) (word k))
 
-abbrev pub cleared_by : Reading → List ℕ → ℕ → Verdict → List ℕ
-cleared_by v log k (Refuse e) = log
-cleared_by v log k Pass = splice log (k * v.term) (zeros v.term)
+abbrev pub cleared_by : Reading → List ℕ → ℕ → Result ⊤ Error → List ℕ
+cleared_by v log k (Err e) = log
+cleared_by v log k (Ok _) = splice log (k * v.term) (zeros v.term)
 
 unfoldable pub clear_bytes : LogRecord → List ℕ → ℤ → List ℕ
 clear_bytes r log k = cleared_by (reading r) log (word k) (clear_verdict (reading r) (length log) (word k))
 
 -- ---- position, limit, window: 2, 5
 
-unfoldable pub open_record : Reading → ℤ → Positioned
-open_record v n = cond (sound_record v) (cond v.closed (NumberRefused PublicationClosed) (Number n)) (NumberRefused IllegalRecord)
+unfoldable pub open_record : Reading → ℤ → Result ℤ Error
+open_record v n = cond (sound_record v) (cond v.closed (Err PublicationClosed) (Ok n)) (Err IllegalRecord)
 
-abbrev pub position_call : LogRecord → Positioned
+abbrev pub position_call : LogRecord → Result ℤ Error
 position_call r = open_record (reading r) (publisher_position (reading r))
 
-abbrev pub limit_call : LogRecord → Positioned
+abbrev pub limit_call : LogRecord → Result ℤ Error
 limit_call r = open_record (reading r) r.publication_limit
 
-abbrev pub window_call : LogRecord → Positioned
+abbrev pub window_call : LogRecord → Result ℤ Error
 window_call r = open_record (reading r) (r.publication_limit -ℤ publisher_position (reading r))
 
 -- ---- what offer and claim share
@@ -162,15 +154,15 @@ unfoldable pub pressed : Reading → ℕ → Error
 pressed v m = cond (leb (greatest v) (place v + m)) MaxPositionExceeded (cond (eqb v.connected 1) BackPressured NotConnected)
 
 -- 6 (count), 7/8/9, and then `rest`
-unfoldable pub after_closed : Reading → ℕ → Verdict → Verdict
+unfoldable pub after_closed : Reading → ℕ → Result ⊤ Error → Result ⊤ Error
 after_closed v m rest =
     refuse_if (not (eqb (id_minus v.id v.initial) v.count)) AdminAction
     (refuse_if (leb v.limit (place v)) (pressed v m)
     rest)
 
 -- 11: the last that leaves everything as it was
-abbrev pub tail_room : Reading → ℕ → Verdict
-tail_room v needed = refuse_if (ltb 2147483647 (v.offset + needed)) TailOverflow Pass
+abbrev pub tail_room : Reading → ℕ → Result ⊤ Error
+tail_room v needed = refuse_if (ltb 2147483647 (v.offset + needed)) TailOverflow (Ok tt)
 
 abbrev pub fits : Reading → ℕ → Bool
 fits v needed = leb (v.offset + needed) v.term
@@ -202,7 +194,7 @@ abbrev pub need_of : Reading → ℕ → ℕ
 need_of v m = need (payload_limit v) m
 
 -- for a message of m bytes and a log of n: 1, 2, 5, 6 (count), 7/8/9, 10, and then `rest`
-unfoldable pub before_append : Reading → ℕ → ℕ → Verdict → Verdict
+unfoldable pub before_append : Reading → ℕ → ℕ → Result ⊤ Error → Result ⊤ Error
 before_append v n m rest =
     refuse_if (ltb 2147483647 m) IllegalArgument
     (refuse_if (not (sound v n)) IllegalRecord
@@ -211,21 +203,21 @@ before_append v n m rest =
     (refuse_if (too_long v m) ExceedsMaxMessageLength
     rest))))
 
-abbrev pub offer_verdict : Reading → ℕ → ℕ → Verdict
+abbrev pub offer_verdict : Reading → ℕ → ℕ → Result ⊤ Error
 offer_verdict v n m = before_append v n m (tail_room v (need_of v m))
 
-abbrev pub offered_by : LogRecord → Reading → ℕ → Verdict → Offered
-offered_by r v needed (Refuse e) = OfferRefused e
-offered_by r v needed Pass = cond (fits v needed) (OfferPosition (pos (place v + needed))) (OfferRefused (trip_error v (is_ready r)))
+abbrev pub offered_by : LogRecord → Reading → ℕ → Result ⊤ Error → Result ℤ Error
+offered_by r v needed (Err e) = Err e
+offered_by r v needed (Ok _) = cond (fits v needed) (Ok (pos (place v + needed))) (Err (trip_error v (is_ready r)))
 
-abbrev pub next_by : LogRecord → Reading → ℕ → Verdict → LogRecord
-next_by r v needed (Refuse e) = r
-next_by r v needed Pass = append_next r v needed
+abbrev pub next_by : LogRecord → Reading → ℕ → Result ⊤ Error → LogRecord
+next_by r v needed (Err e) = r
+next_by r v needed (Ok _) = append_next r v needed
 
 -- the log after it, `new` where the append fits
-abbrev pub log_by : LogRecord → Reading → List ℕ → List ℕ → ℕ → Verdict → List ℕ
-log_by r v log new needed (Refuse e) = log
-log_by r v log new needed Pass = cond (fits v needed) new (padded v log (active r * v.term))
+abbrev pub log_by : LogRecord → Reading → List ℕ → List ℕ → ℕ → Result ⊤ Error → List ℕ
+log_by r v log new needed (Err e) = log
+log_by r v log new needed (Ok _) = cond (fits v needed) new (padded v log (active r * v.term))
 
 -- the entry point, on its arguments as they come: record, log, message, reserved value
 unfoldable pub offer_of : LogRecord → List ℕ → List ℕ → OfferReply
@@ -246,7 +238,7 @@ offer_bytes r log m reserved =
 
 -- for a claim of m bytes and a log of n: 1, 2, 5, 4, then as an offer without 10. Document 01 had 4 before 5; R-3 of document 02 lets closed
 -- decide first. ClosedFirst has the ladder as it was, and says what changed.
-unfoldable pub claim_verdict : Reading → ℕ → ℕ → Verdict
+unfoldable pub claim_verdict : Reading → ℕ → ℕ → Result ⊤ Error
 claim_verdict v n m =
     refuse_if (ltb 2147483647 m) IllegalArgument
     (refuse_if (not (sound v n)) IllegalRecord
@@ -255,9 +247,9 @@ claim_verdict v n m =
     (after_closed v m
     (tail_room v (space m))))))
 
-abbrev pub claimed_by : LogRecord → Reading → ℕ → Verdict → Claimed
-claimed_by r v m (Refuse e) = ClaimRefused e
-claimed_by r v m Pass = cond (fits v (space m)) (ClaimPosition (pos (place v + space m)) (claim_record v (active r) m)) (ClaimRefused (trip_error v (is_ready r)))
+abbrev pub claimed_by : LogRecord → Reading → ℕ → Result ⊤ Error → Result Claimed Error
+claimed_by r v m (Err e) = Err e
+claimed_by r v m (Ok _) = cond (fits v (space m)) (Ok (record { position = pos (place v + space m); claim = claim_record v (active r) m })) (Err (trip_error v (is_ready r)))
 
 -- the entry point: record, log, length
 unfoldable pub claim_of : LogRecord → List ℕ → ℤ → ClaimReply

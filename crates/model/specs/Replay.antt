@@ -1,14 +1,14 @@
 -- A replay: polls from a position by a fresh image into a fresh assembler, only while below the publisher's position. Read Demand next.
-use Rattle.std.specs.Prelude.{ℕ, zero, suc, ◌+◌, ◌-◌, ◌*◌, Bool, false, cond, not, ◌&&◌, ◌⊎◌, eqb, leb, ◌≡◌, List, [], ◌∷◌, ◌++◌, length, take, drop, get_or, replicate, ℤ, pos}
+use Rattle.std.specs.Prelude.{ℕ, zero, suc, ◌+◌, ◌-◌, ◌*◌, Bool, false, cond, not, ◌&&◌, ◌⊎◌, eqb, leb, ◌≡◌, List, [], ◌∷◌, ◌++◌, length, take, drop, get_or, replicate, ℤ, pos, Result, Ok, Err}
+use Rattle.model.specs.declared.Error.{Error}
 use Rattle.std.specs.Int.Signed.{lt_z}
 use Rattle.model.specs.declared.LogRecord.{LogRecord}
 use Rattle.model.specs.declared.Error.TheVariants.{IllegalArgument}
 use Rattle.model.specs.declared.Polled.{Polled}
-use Rattle.model.specs.declared.Polled.TheVariants.{Fragments, Refused}
 use Rattle.model.specs.declared.Assembled.{Assembled}
-use Rattle.model.specs.declared.Assembled.TheVariants.{Nothing, Fragment, Message, Refused as AssemblyRefused}
+use Rattle.model.specs.declared.Assembled.TheVariants.{Nothing, Fragment, Message}
 use Rattle.model.specs.declared.Replayed.{Replayed}
-use Rattle.model.specs.declared.Replayed.TheVariants.{InLog, InBuffer, End, Refused as ReplayRefused}
+use Rattle.model.specs.declared.Replayed.TheVariants.{InLog, InBuffer, End}
 use Rattle.model.specs.Bytes.{long}
 use Rattle.model.specs.LogBufferDescriptor.{reading, partition_of, publisher_position, good_position, sound}
 use Rattle.model.specs.TermReader.{natural}
@@ -23,11 +23,11 @@ pub record Replaying : Type 0 where
   pub out : List (List ℕ)
 
 -- what the assembler's answer hands out: a part of the term that starts at base, or of the lent buffer
-abbrev pub handed_out : List ℕ → ℕ → List ℕ → Assembled → List (List ℕ)
-handed_out log base buffer Nothing = []
-handed_out log base buffer (Fragment at n) = take n (drop (base + at) log) ∷ []
-handed_out log base buffer (Message at n) = take n (drop at buffer) ∷ []
-handed_out log base buffer (AssemblyRefused e) = []
+abbrev pub handed_out : List ℕ → ℕ → List ℕ → Result Assembled Error → List (List ℕ)
+handed_out log base buffer (Ok Nothing) = []
+handed_out log base buffer (Ok (Fragment at n)) = take n (drop (base + at) log) ∷ []
+handed_out log base buffer (Ok (Message at n)) = take n (drop at buffer) ∷ []
+handed_out log base buffer (Err e) = []
 
 abbrev pub after : List ℕ → ℕ → Replaying → Assembly → Replaying
 after log base p a =
@@ -44,9 +44,9 @@ feed_all r log k zero slots p = p
 feed_all r log k (suc n) slots p = feed_all r log k n (drop 2 slots) (feed r log k p (get_or slots 0 (pos 0)))
 
 -- one poll, with a fragment limit and lent entries, and each entry to the assembler
-abbrev pub entries_of : Polled → ℕ
-entries_of (Fragments n m) = m
-entries_of (Refused e) = 0
+abbrev pub entries_of : Result Polled Error → ℕ
+entries_of (Ok polled) = polled.entries
+entries_of (Err e) = 0
 
 abbrev pub with_image : Replaying → Image → Replaying
 with_image p i = record { image = i; sessions = p.sessions; buffer = p.buffer; out = p.out }
@@ -80,7 +80,7 @@ rounds r log ps p (suc n) = turn r log (ps.limit n) (ps.slots n) (rounds r log p
 
 -- nothing comes and nothing moves at the n-th poll
 pub record QuietPoll (r : LogRecord) (log : List ℕ) (ps : Polls) (p : Replaying) (n : ℕ) : Type 0 where
-  pub comes : (poll_of r log p.image (ps.slots n) (ps.limit n)).answer ≡ Fragments 0 0
+  pub comes : (poll_of r log p.image (ps.slots n) (ps.limit n)).answer ≡ Ok (record { fragments = 0; entries = 0 })
   pub moves : (poll_of r log p.image (ps.slots n) (ps.limit n)).next ≡ p.image
 
 -- the replay is over: not below the publisher's position, or quiet
@@ -100,19 +100,19 @@ pub record ReplayState : Type 0 where
   pub buffer : List ℕ
 
 pub record NextReply : Type 0 where
-  pub answer : Replayed
+  pub answer : Result Replayed Error
   pub next : ReplayState
 
-abbrev pub giving : ReplayState → Replayed → NextReply
+abbrev pub giving : ReplayState → Result Replayed Error → NextReply
 giving s a = record { answer = a; next = s }
 
 -- after a fragment of the term that starts at base: t is where the replay stands behind it. A fragment that is refused leaves the replay
 -- before it, at s, so that the next call refuses the same.
-abbrev pub given_by : ℕ → ReplayState → ReplayState → Assembled → (ReplayState → NextReply) → NextReply
-given_by base s t Nothing go = go t
-given_by base s t (Fragment at n) go = giving t (InLog (base + at) n)
-given_by base s t (Message at n) go = giving t (InBuffer at n)
-given_by base s t (AssemblyRefused e) go = giving s (ReplayRefused e)
+abbrev pub given_by : ℕ → ReplayState → ReplayState → Result Assembled Error → (ReplayState → NextReply) → NextReply
+given_by base s t (Ok Nothing) go = go t
+given_by base s t (Ok (Fragment at n)) go = giving t (Ok (InLog (base + at) n))
+given_by base s t (Ok (Message at n)) go = giving t (Ok (InBuffer at n))
+given_by base s t (Err e) go = giving s (Err e)
 
 abbrev pub assembled_to : Image → Assembly → ReplayState
 assembled_to i a = record { image = i; sessions = a.next; buffer = a.buffer }
@@ -128,11 +128,11 @@ assemble_one r log s =
     (pos (natural (get_or (poll_one r log s.image).slots 0 (pos 0)) - 32))
 
 -- Nothing came and nothing moved, or only padding did, or a fragment came.
-abbrev pub turn_by : LogRecord → List ℕ → ReplayState → Polled → (ReplayState → NextReply) → NextReply
-turn_by r log s (Refused e) go = giving s (ReplayRefused e)
-turn_by r log s (Fragments n m) go =
-    cond (eqb m 0)
-    (cond (eqb (long (poll_one r log s.image).next.position) (long s.image.position)) (giving s End)
+abbrev pub turn_by : LogRecord → List ℕ → ReplayState → Result Polled Error → (ReplayState → NextReply) → NextReply
+turn_by r log s (Err e) go = giving s (Err e)
+turn_by r log s (Ok polled) go =
+    cond (eqb polled.entries 0)
+    (cond (eqb (long (poll_one r log s.image).next.position) (long s.image.position)) (giving s (Ok End))
     (go (record { image = (poll_one r log s.image).next; sessions = s.sessions; buffer = s.buffer })))
     (given_by (partition_of (long s.image.position) (reading r).term * (reading r).term) s
     (assembled_to (poll_one r log s.image).next (assemble_one r log s)) (assemble_one r log s).answer go)
@@ -142,14 +142,14 @@ abbrev pub is_over : LogRecord → List ℕ → ℤ → Bool
 is_over r log p = sound (reading r) (length log) && (good_position (reading r) (long p) && not (is_below r p))
 
 unfoldable pub next_from : ℕ → LogRecord → List ℕ → ReplayState → NextReply
-next_from zero r log s = giving s End
+next_from zero r log s = giving s (Ok End)
 next_from (suc fuel) r log s =
-    cond (is_over r log s.image.position) (giving s End) (turn_by r log s (poll_one r log s.image).answer (λ t. next_from fuel r log t))
+    cond (is_over r log s.image.position) (giving s (Ok End)) (turn_by r log s (poll_one r log s.image).answer (λ t. next_from fuel r log t))
 
 -- Row 1, the lent buffer, is judged before anything else. Each turn that goes on moves, and no replay passes more than three terms, so the bytes of the log are enough turns.
 unfoldable pub next_of : LogRecord → List ℕ → ReplayState → NextReply
 next_of r log s =
-    cond (leb (length s.buffer) 2147483647) (next_from (suc (3 * (reading r).term)) r log s) (giving s (ReplayRefused IllegalArgument))
+    cond (leb (length s.buffer) 2147483647) (next_from (suc (3 * (reading r).term)) r log s) (giving s (Err IllegalArgument))
 
 -- from a position by a fresh image into a fresh assembler over a lent buffer
 abbrev pub from_start : ℤ → ℤ → List ℕ → ReplayState
@@ -161,11 +161,11 @@ standing zero r log s = s
 standing (suc n) r log s = standing n r log (next_of r log s).next
 
 -- the messages that it gives, at most so many
-abbrev pub message_by : List ℕ → ReplayState → Replayed → List (List ℕ) → List (List ℕ)
-message_by log s (InLog from n) rest = take n (drop from log) ∷ rest
-message_by log s (InBuffer at n) rest = take n (drop at s.buffer) ∷ rest
-message_by log s End rest = []
-message_by log s (ReplayRefused e) rest = []
+abbrev pub message_by : List ℕ → ReplayState → Result Replayed Error → List (List ℕ) → List (List ℕ)
+message_by log s (Ok (InLog from n)) rest = take n (drop from log) ∷ rest
+message_by log s (Ok (InBuffer at n)) rest = take n (drop at s.buffer) ∷ rest
+message_by log s (Ok End) rest = []
+message_by log s (Err e) rest = []
 
 unfoldable pub replayed : ℕ → LogRecord → List ℕ → ReplayState → List (List ℕ)
 replayed zero r log s = []

@@ -1,28 +1,23 @@
 -- Reading a term: the walk over frames that every poll takes, entries, `read`, header fields, and views of bodies and blocks
 -- ("Reading" in document 01). Read TermScan or Image next.
-use Rattle.std.specs.Prelude.{ℕ, zero, suc, ◌+◌, ◌-◌, ◌*◌, ◌/◌, ◌%◌, Bool, true, cond, ◌&&◌, ◌||◌, List, [], ◌∷◌, ◌++◌, eqb, leb, ltb, length, drop, ℤ, pos, negsuc, neg_ℤ, ◌+ℤ◌}
+use Rattle.std.specs.Prelude.{ℕ, zero, suc, ◌+◌, ◌-◌, ◌*◌, ◌/◌, ◌%◌, Bool, true, cond, ◌&&◌, ◌||◌, List, [], ◌∷◌, ◌++◌, eqb, leb, ltb, length, drop, ℤ, pos, negsuc, neg_ℤ, ◌+ℤ◌, Result, Ok, Err, ⊤}
 use Rattle.std.specs.Int.{w32, w64}
 use Rattle.std.proofs.Common.{to_z}
 use Rattle.model.specs.declared.LogRecord.{LogRecord}
 use Rattle.model.specs.declared.Reading.{Reading}
 use Rattle.model.specs.declared.Error.{Error}
 use Rattle.model.specs.declared.Error.TheVariants.{IllegalArgument}
-use Rattle.model.specs.declared.Verdict.{Verdict}
-use Rattle.model.specs.declared.Verdict.TheVariants.{Pass, Refuse}
 use Rattle.model.specs.declared.FrameLength.{FrameLength}
-use Rattle.model.specs.declared.FrameLengthRead.{FrameLengthRead}
-use Rattle.model.specs.declared.FrameLengthRead.TheVariants.{Length, Refused as LengthRefused}
+use Rattle.model.specs.declared.FrameLength.{FrameLength}
 use Rattle.model.specs.declared.Frame.{Frame}
 use Rattle.model.specs.declared.Frame.TheVariants.{Absent, Unsound, Padding, Data}
 use Rattle.model.specs.declared.HeaderFields.{HeaderFields}
-use Rattle.model.specs.declared.HeaderRead.{HeaderRead}
-use Rattle.model.specs.declared.HeaderRead.TheVariants.{Fields, Refused as FieldsRefused}
+use Rattle.model.specs.declared.HeaderFields.{HeaderFields}
 use Rattle.model.specs.declared.Walk.{Walk}
 use Rattle.model.specs.declared.FramesRead.{FramesRead}
 use Rattle.model.specs.declared.FramesRead.TheVariants.{Walked as AllWalked, Refused as WalkRefused}
 use Rattle.model.specs.declared.TermRead.{TermRead}
-use Rattle.model.specs.declared.TermRead.TheVariants.{Outcome, Refused}
-use Rattle.model.specs.declared.Located.{Located}
+use Rattle.model.specs.declared.Span.{Span}
 use Rattle.model.specs.Bytes.{word}
 use Rattle.model.specs.Parts.{located_by}
 use Rattle.model.specs.FrameDescriptor.{align, length_at, frame_at, is_unsound, unsound_frame_at, flags_at, ends}
@@ -124,9 +119,9 @@ numbers (e ∷ es) = pos e.0 ∷ pos e.1 ∷ numbers es
 unfoldable pub laid : List ℤ → List (ℕ × ℕ) → List ℤ
 laid slots es = numbers es ++ drop (2 * length es) slots
 
-abbrev pub entries_by : List ℤ → Walked → Verdict → List ℤ
-entries_by slots w Pass = laid slots w.entries
-entries_by slots w (Refuse e) = slots
+abbrev pub entries_by : List ℤ → Walked → Result ⊤ Error → List ℤ
+entries_by slots w (Ok _) = laid slots w.entries
+entries_by slots w (Err e) = slots
 
 -- ---- the walk as the leaf library offers it: any numbers
 
@@ -140,18 +135,18 @@ good_walk n base term end at limit slots =
 abbrev pub good_handler : List ℕ → ℕ → Bool
 good_handler acts limit = eqb (length acts) 0 || good_control acts limit
 
-unfoldable pub frames_verdict : List ℕ → ℕ → ℕ → ℕ → ℕ → ℕ → List ℕ → ℕ → Verdict
+unfoldable pub frames_verdict : List ℕ → ℕ → ℕ → ℕ → ℕ → ℕ → List ℕ → ℕ → Result ⊤ Error
 frames_verdict log base term end at limit acts slots =
     cond (good_walk (length log) base term end at limit slots && good_handler acts limit)
     (frame_row (first_unsound log base term end at limit) (unsound_frame_at log base at))
-    (Refuse IllegalArgument)
+    (Err IllegalArgument)
 
 abbrev pub walk_of : Walked → Walk
 walk_of w = record { entries = length w.entries; fragments = w.fragments; moved = w.moved; settled = w.settled }
 
-abbrev pub frames_by : Walked → Verdict → FramesRead
-frames_by w Pass = AllWalked (walk_of w)
-frames_by w (Refuse e) = WalkRefused e
+abbrev pub frames_by : Walked → Result ⊤ Error → FramesRead
+frames_by w (Ok _) = AllWalked (walk_of w)
+frames_by w (Err e) = WalkRefused e
 
 -- the refusal of a walk that was refused; of any other there is none, and 1 stands for it
 abbrev pub frames_refusal : FramesRead → Error
@@ -159,9 +154,9 @@ frames_refusal (AllWalked w) = IllegalArgument
 frames_refusal (WalkRefused e) = e
 
 -- the walk's answer as a read of a term gives it: the offset that it came to, and the fragments
-abbrev pub read_from : ℕ → FramesRead → TermRead
-read_from at (AllWalked w) = Outcome (at + w.moved) w.fragments
-read_from at (WalkRefused e) = Refused e
+abbrev pub read_from : ℕ → FramesRead → Result TermRead Error
+read_from at (AllWalked w) = Ok (record { offset = at + w.moved; fragments = w.fragments })
+read_from at (WalkRefused e) = Err e
 
 -- log, where the term starts, its length, the end, the offset, the fragment limit, the actions, the lent entries
 unfoldable pub frames_of : List ℕ → ℕ → ℕ → ℕ → ℕ → ℕ → List ℕ → List ℤ → FramesRead
@@ -178,7 +173,7 @@ frames_entries log base term end at limit acts slots =
 abbrev pub good_start : ℕ → Reading → Bool
 good_start at v = eqb (at % 32) 0 && within_term at v
 
-unfoldable pub read_verdict : Reading → List ℕ → ℕ → ℕ → ℕ → ℕ → Verdict
+unfoldable pub read_verdict : Reading → List ℕ → ℕ → ℕ → ℕ → ℕ → Result ⊤ Error
 read_verdict v log k at limit slots =
     first_rows (good_partition k && (good_start at v && good_entries slots limit)) (sound v (length log))
     (frame_row (first_unsound log (k * v.term) v.term v.term at limit) (unsound_frame_at log (k * v.term) at))
@@ -186,11 +181,11 @@ read_verdict v log k at limit slots =
 abbrev pub read_walk : Reading → List ℕ → ℕ → ℕ → ℕ → Walked
 read_walk v log k at limit = walk v.term log (k * v.term) v.term v.term at limit []
 
-abbrev pub read_by : ℕ → Walked → Verdict → TermRead
-read_by at w Pass = Outcome (at + w.moved) w.fragments
-read_by at w (Refuse e) = Refused e
+abbrev pub read_by : ℕ → Walked → Result ⊤ Error → Result TermRead Error
+read_by at w (Ok _) = Ok (record { offset = at + w.moved; fragments = w.fragments })
+read_by at w (Err e) = Err e
 
-unfoldable pub read_of : LogRecord → List ℕ → ℤ → ℤ → ℤ → List ℤ → TermRead
+unfoldable pub read_of : LogRecord → List ℕ → ℤ → ℤ → ℤ → List ℤ → Result TermRead Error
 read_of r log partition offset limit slots =
     read_by (word offset) (read_walk (reading r) log (word partition) (word offset) (natural limit))
     (read_verdict (reading r) log (word partition) (word offset) (natural limit) (length slots))
@@ -223,25 +218,25 @@ fields_of v at h =
       position = position_of h.id v.initial v.term at +ℤ alignℤ (to_z w32 h.length);
     }
 
-unfoldable pub header_verdict : Reading → ℕ → ℕ → ℕ → Verdict
-header_verdict v n k at = first_rows (good_partition k && good_offset at v) (sound v n) Pass
+unfoldable pub header_verdict : Reading → ℕ → ℕ → ℕ → Result ⊤ Error
+header_verdict v n k at = first_rows (good_partition k && good_offset at v) (sound v n) (Ok tt)
 
-abbrev pub header_by : HeaderFields → Verdict → HeaderRead
-header_by f Pass = Fields f
-header_by f (Refuse e) = FieldsRefused e
+abbrev pub header_by : HeaderFields → Result ⊤ Error → Result HeaderFields Error
+header_by f (Ok _) = Ok f
+header_by f (Err e) = Err e
 
-unfoldable pub header_call : LogRecord → List ℕ → ℤ → ℤ → HeaderRead
+unfoldable pub header_call : LogRecord → List ℕ → ℤ → ℤ → Result HeaderFields Error
 header_call r log partition offset =
     header_by (fields_of (reading r) (word offset) (header_at (drop (word partition * (reading r).term + word offset) log)))
     (header_verdict (reading r) (length log) (word partition) (word offset))
 
 -- ---- the frame length reader: record, log, partition, offset. In order: 1, 2, as for a header's fields.
 
-abbrev pub length_by : FrameLength → Verdict → FrameLengthRead
-length_by l Pass = Length l
-length_by l (Refuse e) = LengthRefused e
+abbrev pub length_by : FrameLength → Result ⊤ Error → Result FrameLength Error
+length_by l (Ok _) = Ok l
+length_by l (Err e) = Err e
 
-unfoldable pub length_call : LogRecord → List ℕ → ℤ → ℤ → FrameLengthRead
+unfoldable pub length_call : LogRecord → List ℕ → ℤ → ℤ → Result FrameLength Error
 length_call r log partition offset =
     length_by (length_at (drop (word partition * (reading r).term + word offset) log))
     (header_verdict (reading r) (length log) (word partition) (word offset))
@@ -251,11 +246,11 @@ length_call r log partition offset =
 unfoldable pub good_view : Reading → ℕ → ℕ → ℕ → Bool
 good_view v k at n = good_partition k && within_term (at + n) v
 
-unfoldable pub view_verdict : Reading → ℕ → ℕ → ℕ → ℕ → Verdict
-view_verdict v m k at n = first_rows (good_view v k at n) (sound v m) Pass
+unfoldable pub view_verdict : Reading → ℕ → ℕ → ℕ → ℕ → Result ⊤ Error
+view_verdict v m k at n = first_rows (good_view v k at n) (sound v m) (Ok tt)
 
 -- where it lies; `part_of` of Parts is the part, and `located_number` what the companion call answers
-unfoldable pub view_of : LogRecord → List ℕ → ℤ → ℤ → ℤ → Located
+unfoldable pub view_of : LogRecord → List ℕ → ℤ → ℤ → ℤ → Result Span Error
 view_of r log partition offset n =
     located_by (word partition * (reading r).term + word offset) (word partition * (reading r).term + word offset + word n)
     (view_verdict (reading r) (length log) (word partition) (word offset) (word n))

@@ -1,26 +1,20 @@
 -- The scans of a term: `scan`, `scan_for_gap`, `scan_for_availability` ("Reading" in document 01, second paragraph). Each meets an
 -- unsound frame as readers do: 22 or 23 at the first frame, else it stops before it. In order: 1, 2, 22 or 23. Read Image next.
-use Rattle.std.specs.Prelude.{ℕ, zero, suc, ◌+◌, ◌-◌, ◌*◌, ◌%◌, min, Bool, true, false, cond, ◌&&◌, ◌||◌, List, eqb, leb, ltb, length, drop, ℤ, pos}
+use Rattle.std.specs.Prelude.{ℕ, zero, suc, ◌+◌, ◌-◌, ◌*◌, ◌%◌, min, Bool, true, false, cond, ◌&&◌, ◌||◌, List, eqb, leb, ltb, length, drop, ℤ, pos, Result, Ok, Err, ⊤}
 use Rattle.model.specs.declared.LogRecord.{LogRecord}
 use Rattle.model.specs.declared.Error.{Error}
 use Rattle.model.specs.declared.Error.TheVariants.{IllegalArgument}
-use Rattle.model.specs.declared.Verdict.{Verdict}
-use Rattle.model.specs.declared.Verdict.TheVariants.{Pass, Refuse}
 use Rattle.model.specs.declared.Frame.{Frame}
 use Rattle.model.specs.declared.Frame.TheVariants.{Absent, Unsound, Padding, Data}
-use Rattle.model.specs.declared.Scanned.{Scanned}
-use Rattle.model.specs.declared.Scanned.TheVariants.{Offset, Refused}
 use Rattle.model.specs.declared.GapScanned.{GapScanned}
-use Rattle.model.specs.declared.GapScanned.TheVariants.{Gap, NoGap, Refused as GapRefused}
-use Rattle.model.specs.declared.AvailabilityScanned.{AvailabilityScanned}
-use Rattle.model.specs.declared.AvailabilityScanned.TheVariants.{Outcome, Refused as AvailabilityRefused}
+use Rattle.model.specs.declared.GapScanned.TheVariants.{Gap, NoGap}
 use Rattle.model.specs.Bytes.{word, u32}
 use Rattle.model.specs.FrameDescriptor.{align, is_writing, length_at, frame_at, is_unsound, unsound_frame_at}
 use Rattle.model.specs.LogBufferDescriptor.{reading, sound, good_partition, good_offset, within_term, first_rows, frame_row}
 use Rattle.model.specs.TermReader.{natural}
 
 -- the ladder of the three, with what row 1 asks, whether the first frame is unsound, and its refusal
-unfoldable pub scan_verdict : Bool → Bool → Bool → Error → Verdict
+unfoldable pub scan_verdict : Bool → Bool → Bool → Error → Result ⊤ Error
 scan_verdict good sound first e = first_rows good sound (frame_row first e)
 
 -- ---- scan: whole data frames up to the limit; a padding frame only at the start, even one that ends past the limit
@@ -38,22 +32,22 @@ scan_from (suc fuel) log base term limit first at =
     (scan_over (frame_at (drop (base + at) log) (term - at)) first at limit (λ a. scan_from fuel log base term limit false a))
 
 -- record, log, partition, offset, limit: any number up to the term length
-unfoldable pub scan_judge : LogRecord → List ℕ → ℕ → ℕ → ℤ → Verdict
+unfoldable pub scan_judge : LogRecord → List ℕ → ℕ → ℕ → ℤ → Result ⊤ Error
 scan_judge r log k at limit =
     scan_verdict (good_partition k && (good_offset at (reading r) && within_term (natural limit) (reading r))) (sound (reading r) (length log))
     (ltb at (natural limit) && is_unsound (frame_at (drop (k * (reading r).term + at) log) ((reading r).term - at)))
     (unsound_frame_at log (k * (reading r).term) at)
 
-abbrev pub scan_by : ℕ → Verdict → Scanned
-scan_by at Pass = Offset at
-scan_by at (Refuse e) = Refused e
+abbrev pub scan_by : ℕ → Result ⊤ Error → Result ℕ Error
+scan_by at (Ok _) = Ok at
+scan_by at (Err e) = Err e
 
 -- the refusal of a scan that was refused; of any other there is none, and 1 stands for it
-abbrev pub scan_refusal : Scanned → Error
-scan_refusal (Offset n) = IllegalArgument
-scan_refusal (Refused e) = e
+abbrev pub scan_refusal : Result ℕ Error → Error
+scan_refusal (Ok n) = IllegalArgument
+scan_refusal (Err e) = e
 
-unfoldable pub scan_of : LogRecord → List ℕ → ℤ → ℤ → ℤ → Scanned
+unfoldable pub scan_of : LogRecord → List ℕ → ℤ → ℤ → ℤ → Result ℕ Error
 scan_of r log partition offset limit =
     scan_by (scan_from (reading r).term log (word partition * (reading r).term) (reading r).term (natural limit) true (word offset))
     (scan_judge r log (word partition) (word offset) limit)
@@ -88,23 +82,23 @@ gap_length (suc fuel) log base high at =
 abbrev pub good_mark : ℤ → LogRecord → Bool
 good_mark high r = eqb (word high % 32) 0 && within_term (word high) (reading r)
 
-unfoldable pub gap_judge : LogRecord → List ℕ → ℕ → ℕ → ℤ → Verdict
+unfoldable pub gap_judge : LogRecord → List ℕ → ℕ → ℕ → ℤ → Result ⊤ Error
 gap_judge r log k at high =
     scan_verdict (good_partition k && (good_offset at (reading r) && good_mark high r)) (sound (reading r) (length log))
     (is_unsound (frame_at (drop (k * (reading r).term + at) log) ((reading r).term - at)))
     (unsound_frame_at log (k * (reading r).term) at)
 
 -- the gap's term id as given, its offset, its length, and whether it starts on a frame being written
-abbrev pub gap_at : LogRecord → List ℕ → ℕ → ℤ → ℕ → Rebuilt → GapScanned
+abbrev pub gap_at : LogRecord → List ℕ → ℕ → ℤ → ℕ → Rebuilt → Result GapScanned Error
 gap_at r log k id high w =
-    cond (w.stopped || leb high w.at) (NoGap w.at)
-    (Gap id w.at (gap_length (reading r).term log (k * (reading r).term) high w.at) (is_writing (length_at (drop (k * (reading r).term + w.at) log))))
+    cond (w.stopped || leb high w.at) (Ok (NoGap w.at))
+    (Ok (Gap id w.at (gap_length (reading r).term log (k * (reading r).term) high w.at) (is_writing (length_at (drop (k * (reading r).term + w.at) log)))))
 
-abbrev pub gap_by : GapScanned → Verdict → GapScanned
-gap_by g Pass = g
-gap_by g (Refuse e) = GapRefused e
+abbrev pub gap_by : Result GapScanned Error → Result ⊤ Error → Result GapScanned Error
+gap_by g (Ok _) = g
+gap_by g (Err e) = Err e
 
-unfoldable pub gap_of : LogRecord → List ℕ → ℤ → ℤ → ℤ → ℤ → GapScanned
+unfoldable pub gap_of : LogRecord → List ℕ → ℤ → ℤ → ℤ → ℤ → Result GapScanned Error
 gap_of r log partition id offset high =
     gap_by
     (gap_at r log (word partition) id (word high)
@@ -138,17 +132,17 @@ available_from (suc fuel) log base term at most available padding =
     (λ a p. available_from fuel log base term at most a p)
 
 -- record, log, partition, offset, maximum: any number, cut to what is left of the term
-unfoldable pub availability_judge : LogRecord → List ℕ → ℕ → ℕ → Verdict
+unfoldable pub availability_judge : LogRecord → List ℕ → ℕ → ℕ → Result ⊤ Error
 availability_judge r log k at =
     scan_verdict (good_partition k && good_offset at (reading r)) (sound (reading r) (length log))
     (is_unsound (frame_at (drop (k * (reading r).term + at) log) ((reading r).term - at)))
     (unsound_frame_at log (k * (reading r).term) at)
 
-abbrev pub availability_by : Available → Verdict → AvailabilityScanned
-availability_by a Pass = Outcome (pos (a.padding * 4294967296 + a.available))
-availability_by a (Refuse e) = AvailabilityRefused e
+abbrev pub availability_by : Available → Result ⊤ Error → Result ℤ Error
+availability_by a (Ok _) = Ok (pos (a.padding * 4294967296 + a.available))
+availability_by a (Err e) = Err e
 
-unfoldable pub availability_of : LogRecord → List ℕ → ℤ → ℤ → ℤ → AvailabilityScanned
+unfoldable pub availability_of : LogRecord → List ℕ → ℤ → ℤ → ℤ → Result ℤ Error
 availability_of r log partition offset maximum =
     availability_by
     (available_from (reading r).term log (word partition * (reading r).term) (reading r).term (word offset)

@@ -36,29 +36,50 @@ pub struct Claim {
 }
 
 // The refusals, in the order of document 01's table, and then as document 02 adds them; specs/Errors.antt gives each its number. The Rust's names
-// where it has one. A refusal of a frame carries its place, its offset in its term.
-#[derive(Clone, Copy)]
+// where it has one. A refusal of a frame carries its place, its offset in its term. What is printed of one is its cause (docs/ERRORS.md).
+#[derive(Clone, Copy, Debug, PartialEq, Eq, thiserror::Error)]
 pub enum Error {
+    #[error("an argument is out of its range")]
     IllegalArgument,
+    #[error("the record or the log breaks its ranges")]
     IllegalRecord,
+    #[error("the image's position is negative, over the greatest, or not a multiple of 32")]
     PositionOutOfRange,
+    #[error("claim longer than the payload limit, mtu - 32")]
     ExceedsMaxPayloadLength,
+    #[error("the publication is closed")]
     PublicationClosed,
+    #[error("the term was full and the log has been rotated, or count and term id differ")]
     AdminAction,
+    #[error("the greatest position is reached")]
     MaxPositionExceeded,
+    #[error("the publication limit is reached")]
     BackPressured,
+    #[error("the publication limit is reached and nobody is connected")]
     NotConnected,
+    #[error("message longer than the payload limit and than the message limit")]
     ExceedsMaxMessageLength,
+    #[error("tail offset and need together over 2147483647")]
     TailOverflow,
+    #[error("the term is full and there is no next one")]
     LastTerm,
+    #[error("the tail's term id is not the one given to the appender")]
     ActionPossiblyDelayed,
+    #[error("the frame's header does not show this open claim")]
     ClaimMismatch,
+    #[error("the new position is before the current one or past the term's end")]
     NewPositionOutOfRange,
+    #[error("the new position is not a multiple of 32")]
     NewPositionNotAligned,
+    #[error("begin frame of a 17th session, or fragments longer together than their part of the buffer")]
     AssemblyFull,
+    #[error("the term was full and the next partition is not cleared")]
     NotCleared,
+    #[error("another partition is due next, or the slowest reader may still read this one")]
     NotDue,
+    #[error("the first frame has a length of 1 to 31, at offset {0}")]
     FrameTooShort(u32),
+    #[error("the first frame runs past its term's end, at offset {0}")]
     FramePastTerm(u32),
 }
 
@@ -88,40 +109,18 @@ pub struct Place {
     pub offset: usize,
 }
 
-// Whether a call may go on to its work.
-#[derive(Clone, Copy)]
-pub enum Verdict {
-    Pass,
-    Refuse(Error),
-}
-
-// The same for a call on an image, which may also be closed.
+// Whether a call on an image that nothing refuses reads: a closed image is left alone.
 #[derive(Clone, Copy)]
 pub enum ReadVerdict {
     Read,
     Closed,
-    Refuse(Error),
-}
-
-// What was done, where the answer has no number.
-#[derive(Clone, Copy)]
-pub enum Outcome {
-    Done,
-    Refused(Error),
 }
 
 // The next record with it: opening, limit change, close, rotation.
 #[derive(Clone, Copy)]
 pub struct RecordReply {
     pub next: LogRecord,
-    pub answer: Outcome,
-}
-
-// Position, limit, window.
-#[derive(Clone, Copy)]
-pub enum Positioned {
-    Position(i64),
-    Refused(Error),
+    pub answer: Result<(), Error>,
 }
 
 // How an append goes, before anything is written: refused, at another term (13), past the term's end, or into the term.
@@ -184,37 +183,33 @@ pub enum Rule {
     Claimed,
 }
 
-#[derive(Clone, Copy)]
-pub enum Offered {
-    Position(i64),
-    Refused(Error),
-}
-
+// An offer: the position behind the message.
 #[derive(Clone, Copy)]
 pub struct OfferReply {
     pub next: LogRecord,
-    pub answer: Offered,
+    pub answer: Result<i64, Error>,
     pub rule: Rule,
 }
 
+// A claim that was taken: the position behind its frame, and its record.
 #[derive(Clone, Copy)]
-pub enum Claimed {
-    Position(i64, Claim),
-    Refused(Error),
+pub struct Claimed {
+    pub position: i64,
+    pub claim: Claim,
 }
 
 #[derive(Clone, Copy)]
 pub struct ClaimReply {
     pub next: LogRecord,
-    pub answer: Claimed,
+    pub answer: Result<Claimed, Error>,
     pub rule: Rule,
 }
 
 // Where a part of the log lies: its first index, and the index after its last.
 #[derive(Clone, Copy)]
-pub enum Located {
-    Span(usize, usize),
-    Refused(Error),
+pub struct Span {
+    pub start: usize,
+    pub end: usize,
 }
 
 // A frame's length word by its sign: 0 is free; negative, a frame being written, with its size, 1 to 2147483648; positive, a finished one, with
@@ -224,13 +219,6 @@ pub enum FrameLength {
     Free,
     Writing(usize),
     Finished(usize),
-}
-
-// What the frame length reader answers of a place.
-#[derive(Clone, Copy)]
-pub enum FrameLengthRead {
-    Length(FrameLength),
-    Refused(Error),
 }
 
 // What stands at a place of a log: no finished frame, or the length of an unsound one, of a padding or of a data frame.
@@ -258,12 +246,6 @@ pub struct HeaderFields {
     pub position: i64,
 }
 
-#[derive(Clone, Copy)]
-pub enum HeaderRead {
-    Fields(HeaderFields),
-    Refused(Error),
-}
-
 // A walk over frames: entries written, fragments that count, bytes moved, and bytes up to the last whole message or padding.
 #[derive(Clone, Copy)]
 pub struct Walk {
@@ -282,15 +264,9 @@ pub enum FramesRead {
 
 // A read of a term: the offset it came to, and the fragments read.
 #[derive(Clone, Copy)]
-pub enum TermRead {
-    Outcome(usize, usize),
-    Refused(Error),
-}
-
-#[derive(Clone, Copy)]
-pub enum Scanned {
-    Offset(usize),
-    Refused(Error),
+pub struct TermRead {
+    pub offset: usize,
+    pub fragments: usize,
 }
 
 // A gap: the term id given, its offset, its length, and whether it starts on a frame being written; or none, with the offset that the walk
@@ -299,41 +275,29 @@ pub enum Scanned {
 pub enum GapScanned {
     Gap(i32, usize, usize, bool),
     NoGap(usize),
-    Refused(Error),
-}
-
-// padding × 2^32 + available
-#[derive(Clone, Copy)]
-pub enum AvailabilityScanned {
-    Outcome(i64),
-    Refused(Error),
 }
 
 // A poll: the fragments read, and the entries written.
 #[derive(Clone, Copy)]
-pub enum Polled {
-    Fragments(usize, usize),
-    Refused(Error),
+pub struct Polled {
+    pub fragments: usize,
+    pub entries: usize,
 }
 
 // A peek: the position it came to, and the entries written.
 #[derive(Clone, Copy)]
-pub enum Peeked {
-    Position(i64, usize),
-    Refused(Error),
+pub struct Peeked {
+    pub position: i64,
+    pub entries: usize,
 }
 
 // A block: its offset in the term, its length, session and term id; four zeros where it is empty.
 #[derive(Clone, Copy)]
-pub enum BlockPolled {
-    Block(usize, usize, i32, i32),
-    Refused(Error),
-}
-
-#[derive(Clone, Copy)]
-pub enum EndOfStream {
-    Is(bool),
-    Refused(Error),
+pub struct Block {
+    pub offset: usize,
+    pub length: usize,
+    pub session_id: i32,
+    pub term_id: i32,
 }
 
 // What the assembler does with a frame. The first number is the session's place among the 16, the second what it held before.
@@ -354,7 +318,6 @@ pub enum Assembled {
     Nothing,
     Fragment(usize, usize),
     Message(usize, usize),
-    Refused(Error),
 }
 
 // A message that a replay gives: its first index in the log or in the lent buffer, and its length; or the end.
@@ -363,5 +326,4 @@ pub enum Replayed {
     InLog(usize, usize),
     InBuffer(usize, usize),
     End,
-    Refused(Error),
 }

@@ -1,5 +1,6 @@
 -- The claim's ladder taken apart, and that a claim that nothing refuses is the claiming append at the active partition with what its
 -- answer leads to.
+use Rattle.std.specs.Prelude.{Result, Ok, Err, ⊤}
 use mathlib.Core.Path.{◌≡◌, refl, sym, ap, ap₂, ◌∙◌, subst}
 use mathlib.Core.Bool.{Bool, true, false, cond, not}
 use Prim.Native.Nat.{ℕ, ◌+◌, ◌*◌, ◌≤◌, ◌<◌}
@@ -14,14 +15,11 @@ use Rattle.model.specs.declared.Claim.{Claim}
 use Rattle.model.specs.declared.Reading.{Reading}
 use Rattle.model.specs.declared.Error.{Error}
 use Rattle.model.specs.declared.Error.TheVariants.{IllegalArgument, IllegalRecord, ExceedsMaxPayloadLength, PublicationClosed, TailOverflow}
-use Rattle.model.specs.declared.Verdict.{Verdict}
-use Rattle.model.specs.declared.Verdict.TheVariants.{Pass, Refuse}
 use Rattle.model.specs.declared.Course.{Course}
 use Rattle.model.specs.declared.Course.TheVariants.{Refuse as Deny, Stray, Trip, Fit}
 use Rattle.model.specs.declared.AppendedClaim.{AppendedClaim}
 use Rattle.model.specs.declared.AppendedClaim.TheVariants.{Claimed as Taken, Tripped, Refused}
 use Rattle.model.specs.declared.AppendClaimReply.{AppendClaimReply}
-use Rattle.model.specs.declared.Claimed.TheVariants.{Position, Refused as Declined}
 use Rattle.model.specs.declared.ClaimReply.{ClaimReply}
 use Rattle.model.specs.declared.Rule.{Rule}
 use Rattle.model.specs.declared.Rule.TheVariants.{Claimed as ByClaim}
@@ -40,22 +38,22 @@ use Rattle.publication.proofs.OfferBy.{ready_of, marks-kept}
 -- ---- the ladder
 
 module _ (v : Reading) (n m : ℕ) where
-  pub claim-1 : 2147483647 < m → Refuse IllegalArgument ≡ claim_verdict v n m
+  pub claim-1 : 2147483647 < m → Err IllegalArgument ≡ claim_verdict v n m
   unfolding claim_verdict
   claim-1 h = simp (lt-ltb _ _ h)
 
   module _ (h1 : m ≤ 2147483647) where
-    pub claim-2 : sound v n ≡ false → Refuse IllegalRecord ≡ claim_verdict v n m
+    pub claim-2 : sound v n ≡ false → Err IllegalRecord ≡ claim_verdict v n m
     unfolding claim_verdict
     claim-2 h = simp (le-ltb _ _ h1, h)
 
     module _ (h2 : sound v n ≡ true) where
-      pub claim-5 : v.closed ≡ true → Refuse PublicationClosed ≡ claim_verdict v n m
+      pub claim-5 : v.closed ≡ true → Err PublicationClosed ≡ claim_verdict v n m
       unfolding claim_verdict
       claim-5 h = simp (le-ltb _ _ h1, h2, h)
 
       module _ (h3 : v.closed ≡ false) where
-        pub claim-4 : payload_limit v < m → Refuse ExceedsMaxPayloadLength ≡ claim_verdict v n m
+        pub claim-4 : payload_limit v < m → Err ExceedsMaxPayloadLength ≡ claim_verdict v n m
         unfolding claim_verdict
         claim-4 h = simp (le-ltb _ _ h1, h2, h3, lt-ltb _ _ h)
 
@@ -64,11 +62,11 @@ module _ (v : Reading) (n m : ℕ) where
           unfolding claim_verdict
           claim-on = simp (le-ltb _ _ h1, h2, h3, le-ltb _ _ h4)
 
-          pub claim-7 : (x : Verdict) (e : Error) → x ≡ after_closed v m Pass → x ≡ Refuse e → x ≡ claim_verdict v n m
+          pub claim-7 : (x : Result ⊤ Error) (e : Error) → x ≡ after_closed v m (Ok tt) → x ≡ Err e → x ≡ claim_verdict v n m
           claim-7 x e h k = k ∙ sym (closed-refuse v m (tail_room v (space m)) e (sym h ∙ k)) ∙ claim-on
 
-          pub claim-11 : (b : Bool) → after_closed v m Pass ≡ Pass → ltb 2147483647 (v.offset + space m) ≡ b → refuse_if b TailOverflow Pass ≡ claim_verdict v n m
-          claim-11 b h k = ap (λ (t : Bool). refuse_if t TailOverflow Pass) (sym k) ∙ sym (closed-pass v m (tail_room v (space m)) h) ∙ claim-on
+          pub claim-11 : (b : Bool) → after_closed v m (Ok tt) ≡ Ok tt → ltb 2147483647 (v.offset + space m) ≡ b → refuse_if b TailOverflow (Ok tt) ≡ claim_verdict v n m
+          claim-11 b h k = ap (λ (t : Bool). refuse_if t TailOverflow (Ok tt)) (sym k) ∙ sym (closed-pass v m (tail_room v (space m)) h) ∙ claim-on
 
   -- what a ladder that passes says
   pub record Passed : Type 0 where
@@ -76,23 +74,23 @@ module _ (v : Reading) (n m : ℕ) where
     pub is-sound : sound v n ≡ true
     pub room : v.offset + space m ≤ 2147483647
 
-  closed-says : (x : Verdict) → after_closed v m x ≡ Pass → x ≡ Pass
-  closed-says x h = go (after_closed v m Pass) refl
+  closed-says : (x : Result ⊤ Error) → after_closed v m x ≡ Ok tt → x ≡ Ok tt
+  closed-says x h = go (after_closed v m (Ok tt)) refl
     where
-      go : (y : Verdict) → after_closed v m Pass ≡ y → x ≡ Pass
-      go Pass e = sym (closed-pass v m x e) ∙ h
-      go (Refuse err) e = let k : Refuse err ≡ Pass = sym (closed-refuse v m x err e) ∙ h in absurd (let z : ◌≡◌ {A = ℕ} 0 1 = cc in omega arith)
+      go : (y : Result ⊤ Error) → after_closed v m (Ok tt) ≡ y → x ≡ Ok tt
+      go (Ok _) e = sym (closed-pass v m x e) ∙ h
+      go (Err err) e = let k : Err err ≡ (Ok tt) = sym (closed-refuse v m x err e) ∙ h in absurd (let z : ◌≡◌ {A = ℕ} 0 1 = cc in omega arith)
 
-  room_says : (b : Bool) → ltb 2147483647 (v.offset + space m) ≡ b → refuse_if b TailOverflow Pass ≡ Pass → v.offset + space m ≤ 2147483647
+  room_says : (b : Bool) → ltb 2147483647 (v.offset + space m) ≡ b → refuse_if b TailOverflow (Ok tt) ≡ Ok tt → v.offset + space m ≤ 2147483647
   room_says true e h = absurd (let z : ◌≡◌ {A = ℕ} 0 1 = cc in omega arith)
   room_says false e h = ltb-false _ _ e
 
-  pub passed : claim_verdict v n m ≡ Pass → Passed
+  pub passed : claim_verdict v n m ≡ Ok tt → Passed
   unfolding claim_verdict
   passed h = go (ltb 2147483647 m) (sound v n) v.closed (ltb (payload_limit v) m) refl refl h
     where
       go : (a b c d : Bool) → ltb 2147483647 m ≡ a → sound v n ≡ b
-          → refuse_if a IllegalArgument (refuse_if (not b) IllegalRecord (refuse_if c PublicationClosed (refuse_if d ExceedsMaxPayloadLength (after_closed v m (tail_room v (space m)))))) ≡ Pass → Passed
+          → refuse_if a IllegalArgument (refuse_if (not b) IllegalRecord (refuse_if c PublicationClosed (refuse_if d ExceedsMaxPayloadLength (after_closed v m (tail_room v (space m)))))) ≡ Ok tt → Passed
       go true b c d ea eb h = absurd (let z : ◌≡◌ {A = ℕ} 0 1 = cc in omega arith)
       go false false c d ea eb h = absurd (let z : ◌≡◌ {A = ℕ} 0 1 = cc in omega arith)
       go false true true d ea eb h = absurd (let z : ◌≡◌ {A = ℕ} 0 1 = cc in omega arith)
@@ -102,9 +100,9 @@ module _ (v : Reading) (n m : ℕ) where
 -- ---- the append, and what its answer leads to
 
 abbrev pub after_by : Reading → Bool → LogRecord → AppendedClaim → ClaimReply
-after_by v ready next (Taken end claim) = record { next = next; answer = Position (pos (v.count * v.term + end)) claim; rule = ByClaim }
-after_by v ready next Tripped = record { next = trip_next next v ready; answer = Declined (trip_error v ready); rule = trip_rule v ready }
-after_by v ready next (Refused e) = record { next = next; answer = Declined e; rule = refused_rule e }
+after_by v ready next (Taken end claim) = record { next = next; answer = Ok (record { position = pos (v.count * v.term + end); claim = claim }); rule = ByClaim }
+after_by v ready next Tripped = record { next = trip_next next v ready; answer = Err (trip_error v ready); rule = trip_rule v ready }
+after_by v ready next (Refused e) = record { next = next; answer = Err e; rule = refused_rule e }
 
 abbrev pub after : Reading → Bool → AppendClaimReply → ClaimReply
 after v ready a = after_by v ready a.next a.answer
@@ -128,7 +126,7 @@ module _ (r : LogRecord) (log : List ℕ) (len : ℤ) where
   abbrev rule· : Rule
   rule· = decided v· ready· (length log) (asks m·)
 
-  abbrev reply· : Verdict → ClaimReply
+  abbrev reply· : Result ⊤ Error → ClaimReply
   reply· x = record { next = next_by r v· (space m·) x; answer = claimed_by r v· m· x; rule = rule· }
 
   abbrev moved· : LogRecord
@@ -139,34 +137,34 @@ module _ (r : LogRecord) (log : List ℕ) (len : ℤ) where
   passed· b =
       record {
         next = cond b moved· (trip_next moved· v· ready·);
-        answer = cond b (Position (pos (place v· + space m·)) (claim_record v· (active r) m·)) (Declined (trip_error v· ready·));
+        answer = cond b (Ok (record { position = pos (place v· + space m·); claim = claim_record v· (active r) m· })) (Err (trip_error v· ready·));
         rule = rule·;
       }
 
-  pass-is : (b : Bool) → fits v· (space m·) ≡ b → reply· Pass ≡ passed· b
+  pass-is : (b : Bool) → fits v· (space m·) ≡ b → reply· (Ok tt) ≡ passed· b
   unfolding append_next
   pass-is b e = ap passed· e
 
-  pub claim-refused : (e : Error) (x : Rule) → x ≡ refused_rule e → claim_verdict v· (length log) m· ≡ Refuse e
-      → (record { next = r; answer = Declined e; rule = x } ≡ claim_of r log len) × (log ≡ claim_bytes r log len)
+  pub claim-refused : (e : Error) (x : Rule) → x ≡ refused_rule e → claim_verdict v· (length log) m· ≡ Err e
+      → (record { next = r; answer = Err e; rule = x } ≡ claim_of r log len) × (log ≡ claim_bytes r log len)
   unfolding claim_of claim_bytes
   claim-refused e x q h = (
-    ap (λ (y : Rule). record { next = r; answer = Declined e; rule = y }) (q ∙ claim-rule-refused v· ready· (length log) m· e h) ∙ sym (ap reply· h),
+    ap (λ (y : Rule). record { next = r; answer = Err e; rule = y }) (q ∙ claim-rule-refused v· ready· (length log) m· e h) ∙ sym (ap reply· h),
     sym (ap (log_by r v· log new· (space m·)) h),
   )
 
-  both : (b : Bool) → leb (v·.offset + space m·) v·.term ≡ b → x· ≡ cond b Fit Trip → claim_verdict v· (length log) m· ≡ Pass
+  both : (b : Bool) → leb (v·.offset + space m·) v·.term ≡ b → x· ≡ cond b Fit Trip → claim_verdict v· (length log) m· ≡ Ok tt
       → (after v· ready· (claim_appended_by r v· (active r) m· x·) ≡ claim_of r log len) × (bytes_by v· (active r) log new· x· ≡ claim_bytes r log len)
   unfolding claim_of claim_bytes
   both false eb ex w = (
     ap (λ (x : Course). after v· ready· (claim_appended_by r v· (active r) m· x)) ex
-        ∙ ap (λ (x : Rule). record { next = trip_next moved· v· ready·; answer = Declined (trip_error v· ready·); rule = x }) (claim-rule-passed v· ready· (length log) m· false eb w) ∙ sym (ap reply· w ∙ pass-is false eb),
+        ∙ ap (λ (x : Rule). record { next = trip_next moved· v· ready·; answer = Err (trip_error v· ready·); rule = x }) (claim-rule-passed v· ready· (length log) m· false eb w) ∙ sym (ap reply· w ∙ pass-is false eb),
     ap (bytes_by v· (active r) log new·) ex ∙ sym (ap (log_by r v· log new· (space m·)) w ∙ ap (λ (t : Bool). cond t new· (padded v· log (active r * v·.term))) eb),
   )
   both true eb ex w =
       let s : v·.count * v·.term + (v·.offset + space m·) ≡ place v· + space m· = omega arith in (
         ap (λ (x : Course). after v· ready· (claim_appended_by r v· (active r) m· x)) ex
-            ∙ ap₂ (λ (p : ℕ) (x : Rule). record { next = moved·; answer = Position (pos p) (claim_record v· (active r) m·); rule = x }) s (claim-rule-passed v· ready· (length log) m· true eb w) ∙ sym (ap reply· w ∙ pass-is true eb),
+            ∙ ap₂ (λ (p : ℕ) (x : Rule). record { next = moved·; answer = Ok (record { position = pos p; claim = claim_record v· (active r) m· }); rule = x }) s (claim-rule-passed v· ready· (length log) m· true eb w) ∙ sym (ap reply· w ∙ pass-is true eb),
         ap (bytes_by v· (active r) log new·) ex ∙ sym (ap (log_by r v· log new· (space m·)) w ∙ ap (λ (t : Bool). cond t new· (padded v· log (active r * v·.term))) eb),
       )
 
@@ -175,7 +173,7 @@ module _ (r : LogRecord) (log : List ℕ) (len : ℤ) where
   way p = simp (p.is-sound, le-leb _ _ p.room, eq-eqb v·.id v·.id refl)
 
   -- a claim that nothing refuses is the claiming append, and what its answer leads to
-  pub claim-is : claim_verdict v· (length log) m· ≡ Pass
+  pub claim-is : claim_verdict v· (length log) m· ≡ Ok tt
       → (after v· ready· (claiming_reply r log (active r) m· v·.id) ≡ claim_of r log len) × (claiming_bytes r log (active r) m· v·.id ≡ claim_bytes r log len)
   claim-is h = both (leb (v·.offset + space m·) v·.term) refl (way (passed v· (length log) m· h)) h
 
@@ -189,9 +187,9 @@ module _ (r : LogRecord) (log : List ℕ) (v : Reading) (k n g : ℕ) (a : Appen
   answers : (x : AppendedClaim) → a.answer ≡ x → (claiming_reply r log k n g).answer ≡ x
   answers x h = sym (ap (λ (y : AppendClaimReply). y.answer) ea) ∙ h
 
-  pub claim-by : (log' : List ℕ) (len : ℤ) → n ≡ word len → claim_verdict v (length log) (word len) ≡ Pass → log' ≡ claiming_bytes r log k n g → (after v (is_ready r) a ≡ claim_of r log len) × (log' ≡ claim_bytes r log len)
+  pub claim-by : (log' : List ℕ) (len : ℤ) → n ≡ word len → claim_verdict v (length log) (word len) ≡ Ok tt → log' ≡ claiming_bytes r log k n g → (after v (is_ready r) a ≡ claim_of r log len) × (log' ≡ claim_bytes r log len)
   claim-by log' len en h el =
-      let law = claim-is r log len (subst (λ (x : Reading). claim_verdict x (length log) (word len) ≡ Pass) ev h) in
+      let law = claim-is r log len (subst (λ (x : Reading). claim_verdict x (length log) (word len) ≡ Ok tt) ev h) in
       let one : (u : Reading) (j : ℕ) → v ≡ u → k ≡ j → a ≡ claiming_reply r log j (word len) u.id = λ u j eu ej. cc in
       let two : (u : Reading) (j : ℕ) → v ≡ u → k ≡ j → log' ≡ claiming_bytes r log j (word len) u.id = λ u j eu ej. cc in
       (ap₂ (λ (x : Reading) (y : AppendClaimReply). after x (is_ready r) y) ev (one (reading r) (active r) ev ek) ∙ law.0, two (reading r) (active r) ev ek ∙ law.1)

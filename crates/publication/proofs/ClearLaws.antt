@@ -1,4 +1,6 @@
 -- A raise of the slowest reader and a clearing, by the numbers that the code has.
+use Rattle.std.specs.Prelude.{Result, Ok, Err, ⊤}
+use Rattle.model.specs.declared.Error.{Error}
 use mathlib.Core.Path.{◌≡◌, refl, sym, ap, ap₂, ◌∙◌}
 use mathlib.Core.Bool.{Bool, true, false, not}
 use mathlib.Core.List.{List, ◌++◌}
@@ -12,8 +14,6 @@ use lib.IntN.{ℤ}
 use Rattle.model.specs.declared.LogRecord.{LogRecord}
 use Rattle.model.specs.declared.Reading.{Reading}
 use Rattle.model.specs.declared.Error.TheVariants.{IllegalArgument, IllegalRecord, PositionOutOfRange, NewPositionOutOfRange, NotDue}
-use Rattle.model.specs.declared.Verdict.{Verdict}
-use Rattle.model.specs.declared.Verdict.TheVariants.{Pass, Refuse}
 use Rattle.model.specs.Bytes.{word, long, zeros, splice}
 use Rattle.model.specs.LogBufferDescriptor.{reading, sound_record, sound, good_position, good_partition, first_rows, due, with_slowest, with_mark}
 use Rattle.model.specs.Publication.{refuse_if, reply_by, raise_verdict, raise_of, not_due, clear_verdict, clear_of, cleared_by, clear_bytes}
@@ -23,13 +23,13 @@ use Rattle.model.proofs.Splice.{length-zeros}
 
 -- the ladder by its tests
 pub raise-tests : (v : Reading) (p : ℕ) (a b c : Bool) → sound_record v ≡ a → good_position v p ≡ b → ltb p v.slowest ≡ c
-    → refuse_if (not a) IllegalRecord (refuse_if (not b) PositionOutOfRange (refuse_if c NewPositionOutOfRange Pass)) ≡ raise_verdict v p
+    → refuse_if (not a) IllegalRecord (refuse_if (not b) PositionOutOfRange (refuse_if c NewPositionOutOfRange (Ok tt))) ≡ raise_verdict v p
 unfolding raise_verdict
 raise-tests v p a b c ea eb ec =
-    ap₂ (λ (x y : Bool). refuse_if (not x) IllegalRecord (refuse_if (not y) PositionOutOfRange (refuse_if c NewPositionOutOfRange Pass))) (sym ea) (sym eb)
-    ∙ ap (λ (z : Bool). refuse_if (not (sound_record v)) IllegalRecord (refuse_if (not (good_position v p)) PositionOutOfRange (refuse_if z NewPositionOutOfRange Pass))) (sym ec)
+    ap₂ (λ (x y : Bool). refuse_if (not x) IllegalRecord (refuse_if (not y) PositionOutOfRange (refuse_if c NewPositionOutOfRange (Ok tt)))) (sym ea) (sym eb)
+    ∙ ap (λ (z : Bool). refuse_if (not (sound_record v)) IllegalRecord (refuse_if (not (good_position v p)) PositionOutOfRange (refuse_if z NewPositionOutOfRange (Ok tt)))) (sym ec)
 
-pub raise-by : (r : LogRecord) (p : ℤ) (v : Reading) (n : ℕ) (x : Verdict) → v ≡ reading r → n ≡ long p → x ≡ raise_verdict v n → reply_by r (with_slowest r p) x ≡ raise_of r p
+pub raise-by : (r : LogRecord) (p : ℤ) (v : Reading) (n : ℕ) (x : Result ⊤ Error) → v ≡ reading r → n ≡ long p → x ≡ raise_verdict v n → reply_by r (with_slowest r p) x ≡ raise_of r p
 unfolding raise_of
 raise-by r p v n x ev en h = ap (reply_by r (with_slowest r p)) (h ∙ ap₂ raise_verdict ev en)
 
@@ -51,29 +51,29 @@ module _ (v : Reading) (k : ℕ) where
 -- ---- clearing
 
 -- the ladder by its tests
-pub clear-tests : (v : Reading) (n k : ℕ) (a b c : Bool) → good_partition k ≡ a → sound v n ≡ b → not_due v k ≡ c → first_rows a b (refuse_if c NotDue Pass) ≡ clear_verdict v n k
+pub clear-tests : (v : Reading) (n k : ℕ) (a b c : Bool) → good_partition k ≡ a → sound v n ≡ b → not_due v k ≡ c → first_rows a b (refuse_if c NotDue (Ok tt)) ≡ clear_verdict v n k
 unfolding clear_verdict
 clear-tests v n k a b c ea eb ec =
-    ap₂ (λ (x y : Bool). first_rows x y (refuse_if c NotDue Pass)) (sym ea) (sym eb) ∙ ap (λ (z : Bool). first_rows (good_partition k) (sound v n) (refuse_if z NotDue Pass)) (sym ec)
+    ap₂ (λ (x y : Bool). first_rows x y (refuse_if c NotDue (Ok tt))) (sym ea) (sym eb) ∙ ap (λ (z : Bool). first_rows (good_partition k) (sound v n) (refuse_if z NotDue (Ok tt))) (sym ec)
 
 -- what a verdict that passes says
-pub clear-passed : (v : Reading) (n k : ℕ) → clear_verdict v n k ≡ Pass → (k ≤ 2) × (sound v n ≡ true)
+pub clear-passed : (v : Reading) (n k : ℕ) → clear_verdict v n k ≡ Ok tt → (k ≤ 2) × (sound v n ≡ true)
 clear-passed v n k h = go (good_partition k) (sound v n) refl refl
   where
     go : (a b : Bool) → good_partition k ≡ a → sound v n ≡ b → (k ≤ 2) × (sound v n ≡ true)
     go true true ea eb = (leb-true _ _ ea, eb)
-    go true false ea eb = let e : Refuse IllegalRecord ≡ Pass = clear-tests v n k true false (not_due v k) ea eb refl ∙ h in absurd (let z : ◌≡◌ {A = ℕ} 0 1 = cc in omega arith)
-    go false b ea eb = let e : Refuse IllegalArgument ≡ Pass = clear-tests v n k false b (not_due v k) ea eb refl ∙ h in absurd (let z : ◌≡◌ {A = ℕ} 0 1 = cc in omega arith)
+    go true false ea eb = let e : Err IllegalRecord ≡ (Ok tt) = clear-tests v n k true false (not_due v k) ea eb refl ∙ h in absurd (let z : ◌≡◌ {A = ℕ} 0 1 = cc in omega arith)
+    go false b ea eb = let e : Err IllegalArgument ≡ (Ok tt) = clear-tests v n k false b (not_due v k) ea eb refl ∙ h in absurd (let z : ◌≡◌ {A = ℕ} 0 1 = cc in omega arith)
 
-module _ (r : LogRecord) (log : List ℕ) (k : ℤ) (v : Reading) (j : ℕ) (x : Verdict) (ev : v ≡ reading r) (ek : j ≡ word k) (h : x ≡ clear_verdict v (length log) j) where
+module _ (r : LogRecord) (log : List ℕ) (k : ℤ) (v : Reading) (j : ℕ) (x : Result ⊤ Error) (ev : v ≡ reading r) (ek : j ≡ word k) (h : x ≡ clear_verdict v (length log) j) where
   same : x ≡ clear_verdict (reading r) (length log) (word k)
   same = h ∙ ap₂ (λ (u : Reading) (i : ℕ). clear_verdict u (length log) i) ev ek
 
   pub clear-by : (reply_by r (with_mark r j true) x ≡ clear_of r log k) × (cleared_by v log j x ≡ clear_bytes r log k)
   unfolding clear_of clear_bytes
   clear-by = (
-    ap₂ (λ (i : ℕ) (y : Verdict). reply_by r (with_mark r i true) y) ek same,
-    ap₂ (λ (i : ℕ) (y : Verdict). cleared_by v log i y) ek same ∙ ap (λ (u : Reading). cleared_by u log (word k) (clear_verdict (reading r) (length log) (word k))) ev,
+    ap₂ (λ (i : ℕ) (y : Result ⊤ Error). reply_by r (with_mark r i true) y) ek same,
+    ap₂ (λ (i : ℕ) (y : Result ⊤ Error). cleared_by v log i y) ek same ∙ ap (λ (u : Reading). cleared_by u log (word k) (clear_verdict (reading r) (length log) (word k))) ev,
   )
 
 -- the log with the part between two places put back as zeros

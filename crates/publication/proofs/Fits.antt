@@ -1,10 +1,11 @@
--- The shorter path: what its tests say, its answer by the offset that the appender gives, and that the calls of `model` answer and leave the same.
+-- The shorter path: what its tests say, its answer's numbers, and that the calls of `model` answer and leave the same.
+use Rattle.std.specs.Prelude.{Ok}
 use mathlib.Core.Path.{◌≡◌, refl, sym, ap, ap₂, ◌∙◌}
 use mathlib.Core.Bool.{Bool, true, false, cond, not, ◌&&◌}
 use mathlib.Core.List.{List, [], ◌∷◌}
 use Prim.Native.Nat.{ℕ, ◌+◌, ◌*◌, ◌/◌, ◌%◌, ◌≤◌, ◌<◌}
 use native.Mathlib.Omega.{arith}
-use borrow.Author.Tests.{not-true, leb-true, ltb-true, eqb-true, le-leb, lt-leb, lt-ltb, le-ltb, eq-eqb, ne_eqb}
+use borrow.Author.Tests.{not-true, leb-true, ltb-true, eqb-true, le-leb, lt-leb, lt-ltb, le-ltb, eq-eqb}
 use lib.Count.{ones}
 use lib.Dec.{eqb, leb, ltb}
 use lib.IntN.{ℤ, pos}
@@ -18,21 +19,19 @@ use Rattle.model.specs.declared.Course.{Course}
 use Rattle.model.specs.declared.Course.TheVariants.{Fit}
 use Rattle.model.specs.declared.Rule.{Rule}
 use Rattle.model.specs.declared.Rule.TheVariants.{Unfragmented, Fragmented, Claimed as ByClaim}
-use Rattle.model.specs.declared.Offered.TheVariants.{Position}
-use Rattle.model.specs.declared.Claimed.TheVariants.{Position as ClaimPosition}
 use Rattle.model.specs.Bytes.{word, long}
 use Rattle.model.specs.FrameDescriptor.{space}
 use Rattle.model.specs.LogBufferDescriptor.{id_minus, reading, active, payload_limit, message_limit, sound, Sound, with_tail, is_ready, raw_of, term_id_of}
 use Rattle.model.specs.TermAppender.{need, cut, fragment, written, claimed, course, bytes_by, reply_by, claim_record, claim_appended_by}
 use Rattle.model.specs.Publication.{place, too_long, need_of, offer_of, offer_bytes, claim_of, claim_bytes}
-use Rattle.model.proofs.Both.{and-true, test}
+use Rattle.model.proofs.Both.{and-true}
 use Rattle.model.proofs.Choice.{cond-true, cond-false}
 use Rattle.model.proofs.Sound.{sound-true, sound-by, Bounds}
 use Rattle.model.proofs.Cut.{need-one, cut-one}
 use Rattle.model.proofs.OfferLaws.{closed-last, rung-10, after, offer-is}
 use Rattle.logbuffer.proofs.Ways.{fits-true, frames-true}
 use Rattle.publication.specs.declared.fit.Fitted.{Fitted}
-use Rattle.publication.specs.Fits.{in_step, unpressed, in_terms, is_open, is_fit, is_long, is_long_fit, none_fitted, fitted_at, after_end, claim_at}
+use Rattle.publication.specs.Fits.{in_step, unpressed, in_terms, is_open, is_fit, is_long, is_long_fit, fitted_at, claim_at}
 use Rattle.publication.proofs.OfferBy.{active-by}
 use Rattle.publication.proofs.ClaimLaws as claims
 
@@ -139,46 +138,7 @@ long-is v n m u h b e =
     let rest = not (too_long v m) && not v.closed in
     ap (λ (t : Bool). not t && not v.closed) e ∙ sym (ap₂ (λ (x y : Bool). x && (y && rest)) u (lt-ltb _ _ h))
 
--- ---- the answer and the log by what the appender gives
-
--- nothing refuses, or not, and what is needed fits, or not
-module _ (opened fits : Bool) where
-  pub not-open : opened ≡ false → (opened && fits) ≡ false
-  not-open h = ap (λ (b : Bool). b && fits) h
-
-  fit_is : opened ≡ true → (opened && fits) ≡ fits
-  fit_is h = ap (λ (b : Bool). b && fits) h
-
-  pub bytes-by : opened ≡ true → (log new out : List ℕ) → out ≡ cond fits new log → out ≡ cond (opened && fits) new log
-  bytes-by h log new out e = e ∙ ap (λ (t : Bool). cond t new log) (sym (fit_is h))
-
-module _ (v : Reading) (opened fits : Bool) (needed : ℕ) (h : opened ≡ true) (end : ℕ) (e : end ≡ cond fits (v.offset + needed) 0) where
-  pub fitted-by : 32 ≤ needed → after_end v end ≡ cond (opened && fits) (fitted_at v (v.offset + needed)) none_fitted
-  fitted-by some =
-      test fits
-      (λ f.
-      let q : end ≡ v.offset + needed = e ∙ cond-true _ _ _ f in
-      let z : end ≡ 0 → ⊥ = λ (y : end ≡ 0). omega arith in
-      cond-false (eqb end 0) none_fitted (fitted_at v end) (ne_eqb end 0 z) ∙ ap (fitted_at v) q ∙ sym (cond-true _ _ _ (fit_is opened fits h ∙ f)))
-      (λ f.
-      let q : end ≡ 0 = e ∙ cond-false _ _ _ f in
-      cond-true (eqb end 0) none_fitted (fitted_at v end) (eq-eqb end 0 q) ∙ sym (cond-false _ _ _ (fit_is opened fits h ∙ f)))
-
-  pub end_none : 32 ≤ needed → end ≡ 0 → (opened && fits) ≡ false
-  end_none some z =
-      test fits
-      (λ f. let q : end ≡ v.offset + needed = e ∙ cond-true _ _ _ f in absurd (omega arith))
-      (λ f. fit_is opened fits h ∙ f)
-
-  pub end-some : (end ≡ 0 → ⊥) → ((opened && fits) ≡ true) × (end ≡ v.offset + needed)
-  end-some z = test fits (λ f. (fit_is opened fits h ∙ f, e ∙ cond-true _ _ _ f)) (λ f. absurd (z (e ∙ cond-false _ _ _ f)))
-
-  -- an end is in its term
-  pub end-in : (fits ≡ true → v.offset + needed ≤ v.term) → end ≤ v.term
-  end-in room =
-      test fits
-      (λ f. let q : end ≡ v.offset + needed = e ∙ cond-true _ _ _ f in omega (arith, room f))
-      (λ f. let q : end ≡ 0 = e ∙ cond-false _ _ _ f in omega arith)
+-- ---- the answer's numbers
 
 -- a raw tail put together from numbers, and its term id
 pub raw-is : (id end : ℕ) (t : ℤ) → id < 4294967296 → t ≡ to_z w64 (id * 4294967296 + end) → t ≡ raw_of id end
@@ -193,10 +153,10 @@ raw-term id end h k =
     ap (λ (n : ℕ). to_z w32 (n / 4294967296)) e ∙ ap (to_z w32) q
 
 -- the answer of a claim, number by number
-pub claim-answer : (v : Reading) (m end : ℕ) (x : Fitted) (t p a b l i : ℤ) → end ≡ v.offset + space m → x ≡ fitted_at v end → t ≡ x.tail → p ≡ x.position → a ≡ pos (v.count % 3) → b ≡ pos v.offset → l ≡ pos (m + 32) → i ≡ to_z w32 v.id
-    → record { tail = t; position = p; claim = record { partition = a; offset = b; length = l; term_id = i } } ≡ claim_at v m
+pub claim-answer : (v : Reading) (m end : ℕ) (x : Fitted) (a b l i : ℤ) → v.offset + space m ≡ end → x ≡ fitted_at v end → a ≡ pos (v.count % 3) → b ≡ pos v.offset → l ≡ pos (m + 32) → i ≡ to_z w32 v.id
+    → record { after = x; claim = record { partition = a; offset = b; length = l; term_id = i } } ≡ claim_at v m
 unfolding claim_record
-claim-answer v m end x t p a b l i ee ex et ep ea eb el ei = cc
+claim-answer v m end x a b l i ee ex ea eb el ei = cc
 
 -- ---- the calls of `model`
 
@@ -219,7 +179,7 @@ module _ (r : LogRecord) (log : List ℕ) where
   -- an offer that nothing refuses and that has room, of one frame or of several
   offer-done : (m : List ℕ) (z : ℤ) → (let p = payload_limit v· in Unpressed v· n· → v·.closed ≡ false → length m ≤ 2147483647 → too_long v· (length m) ≡ false
       → v·.offset + need p (length m) ≤ v·.term
-      → (record { next = with_tail r (active r) v·.id (v·.offset + need p (length m)); answer = Position (pos (v·.count * v·.term + (v·.offset + need p (length m)))); rule = cond (leb (length m) p) Unfragmented Fragmented } ≡ offer_of r log m)
+      → (record { next = with_tail r (active r) v·.id (v·.offset + need p (length m)); answer = Ok (pos (v·.count * v·.term + (v·.offset + need p (length m)))); rule = cond (leb (length m) p) Unfragmented Fragmented } ≡ offer_of r log m)
       × (written v· log (active r * v·.term) v·.offset (cut p (long z) m) ≡ offer_bytes r log m z))
   offer-done m z u closed whole long-no room =
       let p = payload_limit v· in
@@ -232,7 +192,7 @@ module _ (r : LogRecord) (log : List ℕ) where
       )
 
   pub offer-fits : (m : List ℕ) (z : ℤ) → is_fit v· n· (length m) ≡ true
-      → (record { next = with_tail r (active r) v·.id (v·.offset + space (length m)); answer = Position (pos (v·.count * v·.term + (v·.offset + space (length m)))); rule = Unfragmented } ≡ offer_of r log m)
+      → (record { next = with_tail r (active r) v·.id (v·.offset + space (length m)); answer = Ok (pos (v·.count * v·.term + (v·.offset + space (length m)))); rule = Unfragmented } ≡ offer_of r log m)
       × (written v· log (active r * v·.term) v·.offset (fragment 192 (long z) m ∷ []) ≡ offer_bytes r log m z)
   offer-fits m z h =
       let a = and-true (is_open v· n· (length m)) _ h in
@@ -241,24 +201,24 @@ module _ (r : LogRecord) (log : List ℕ) where
       let p = payload_limit v· in
       let one = need-one p (length m) o.1.1 in
       let law = offer-done m z o.0 o.1.0 f.whole (ap (λ (b : Bool). b && ltb (message_limit v·) (length m)) (le-ltb _ _ o.1.1)) (omega (arith, one, f.room)) in (
-        ap₂ (λ (d : ℕ) (x : Rule). record { next = with_tail r (active r) v·.id (v·.offset + d); answer = Position (pos (v·.count * v·.term + (v·.offset + d))); rule = x }) (sym one) (sym (cond-true (leb (length m) p) Unfragmented Fragmented (le-leb _ _ o.1.1))) ∙ law.0,
+        ap₂ (λ (d : ℕ) (x : Rule). record { next = with_tail r (active r) v·.id (v·.offset + d); answer = Ok (pos (v·.count * v·.term + (v·.offset + d))); rule = x }) (sym one) (sym (cond-true (leb (length m) p) Unfragmented Fragmented (le-leb _ _ o.1.1))) ∙ law.0,
         ap (λ (l : List _). written v· log (active r * v·.term) v·.offset l) (sym (cut-one p (long z) m o.1.1)) ∙ law.1,
       )
 
   pub fragmented-fits : (m : List ℕ) (z : ℤ) → is_long_fit v· n· (length m) ≡ true
-      → (record { next = with_tail r (active r) v·.id (v·.offset + need_of v· (length m)); answer = Position (pos (v·.count * v·.term + (v·.offset + need_of v· (length m)))); rule = Fragmented } ≡ offer_of r log m)
+      → (record { next = with_tail r (active r) v·.id (v·.offset + need_of v· (length m)); answer = Ok (pos (v·.count * v·.term + (v·.offset + need_of v· (length m)))); rule = Fragmented } ≡ offer_of r log m)
       × (written v· log (active r * v·.term) v·.offset (cut (payload_limit v·) (long z) m) ≡ offer_bytes r log m z)
   fragmented-fits m z h =
       let a = and-true (is_long v· n· (length m)) _ h in
       let o = long-true v· n· (length m) a.0 in
       let f = frames-true v· n· (v·.count % 3) (payload_limit v·) (length m) a.1 in
       let law = offer-done m z o.0 o.1.0 f.0.whole o.1.1.1 f.1.room in (
-        ap (λ (x : Rule). record { next = with_tail r (active r) v·.id (v·.offset + need_of v· (length m)); answer = Position (pos (v·.count * v·.term + (v·.offset + need_of v· (length m)))); rule = x }) (sym (cond-false (leb (length m) (payload_limit v·)) Unfragmented Fragmented (lt-leb _ _ o.1.1.0))) ∙ law.0,
+        ap (λ (x : Rule). record { next = with_tail r (active r) v·.id (v·.offset + need_of v· (length m)); answer = Ok (pos (v·.count * v·.term + (v·.offset + need_of v· (length m)))); rule = x }) (sym (cond-false (leb (length m) (payload_limit v·)) Unfragmented Fragmented (lt-leb _ _ o.1.1.0))) ∙ law.0,
         law.1,
       )
 
   pub claim-fits : (len : ℤ) → is_fit v· n· (word len) ≡ true
-      → (record { next = with_tail r (active r) v·.id (v·.offset + space (word len)); answer = ClaimPosition (pos (v·.count * v·.term + (v·.offset + space (word len)))) (claim_record v· (active r) (word len)); rule = ByClaim } ≡ claim_of r log len)
+      → (record { next = with_tail r (active r) v·.id (v·.offset + space (word len)); answer = Ok (record { position = pos (v·.count * v·.term + (v·.offset + space (word len))); claim = claim_record v· (active r) (word len) }); rule = ByClaim } ≡ claim_of r log len)
       × (claimed v· log (active r * v·.term) (word len) ≡ claim_bytes r log len)
   claim-fits len h =
       let m = word len in

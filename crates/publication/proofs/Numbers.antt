@@ -1,4 +1,6 @@
 -- Position, limit and window: the ladder that they share, and the position as the code computes it.
+use Rattle.std.specs.Prelude.{Result, Ok, Err, ⊤}
+use Rattle.model.specs.declared.Error.{Error}
 use mathlib.Core.Path.{◌≡◌, refl, sym, ap, ap₂, subst, ◌∙◌}
 use mathlib.Core.Bool.{Bool, true, false, cond}
 use Prim.Native.Nat.{ℕ, ◌*◌, ◌%◌, ◌^◌, ◌≤◌, ◌<◌, min}
@@ -13,11 +15,6 @@ use mir.Facts.{Fits-of_z, sfits_to_z}
 use Rattle.model.specs.declared.LogRecord.{LogRecord}
 use Rattle.model.specs.declared.Reading.{Reading}
 use Rattle.model.specs.declared.Error.TheVariants.{IllegalRecord, PublicationClosed}
-use Rattle.model.specs.declared.Verdict.{Verdict}
-use Rattle.model.specs.declared.Verdict.TheVariants.{Pass, Refuse}
-use Rattle.model.specs.declared.Positioned.{Positioned}
-use Rattle.model.specs.declared.Positioned.TheVariants.{Position, Refused}
-use Rattle.model.specs.declared.Outcome.TheVariants.{Done, Refused as ChangeRefused}
 use Rattle.model.specs.Bytes.{word}
 use Rattle.model.specs.LogBufferDescriptor.{id_minus, position_of, id_of, offset_of, term_id_of, term_offset_of, tail_of, reading_of, reading, sound_record, Sound, compute_position, publisher_position}
 use Rattle.model.specs.Publication.{open_record, change_of}
@@ -30,36 +27,36 @@ use Rattle.publication.specs.Numbers.{number_verdict}
 -- ---- 2, 5
 
 module _ (v : Reading) where
-  by_tests : (b c : Bool) → sound_record v ≡ b → v.closed ≡ c → number_verdict v ≡ cond b (cond c (Refuse PublicationClosed) Pass) (Refuse IllegalRecord)
+  by_tests : (b c : Bool) → sound_record v ≡ b → v.closed ≡ c → number_verdict v ≡ cond b (cond c (Err PublicationClosed) (Ok tt)) (Err IllegalRecord)
   unfolding number_verdict
-  by_tests b c eb ec = ap₂ (λ (x y : Bool). cond x (cond y (Refuse PublicationClosed) Pass) (Refuse IllegalRecord)) eb ec
+  by_tests b c eb ec = ap₂ (λ (x y : Bool). cond x (cond y (Err PublicationClosed) (Ok tt)) (Err IllegalRecord)) eb ec
 
-  pub number-2 : sound_record v ≡ false → Refuse IllegalRecord ≡ number_verdict v
+  pub number-2 : sound_record v ≡ false → Err IllegalRecord ≡ number_verdict v
   number-2 h = sym (by_tests false v.closed h refl)
 
-  pub number-5 : sound_record v ≡ true → v.closed ≡ true → Refuse PublicationClosed ≡ number_verdict v
+  pub number-5 : sound_record v ≡ true → v.closed ≡ true → Err PublicationClosed ≡ number_verdict v
   number-5 h k = sym (by_tests true true h k)
 
-  pub number-last : sound_record v ≡ true → v.closed ≡ false → Pass ≡ number_verdict v
+  pub number-last : sound_record v ≡ true → v.closed ≡ false → Ok tt ≡ number_verdict v
   number-last h k = sym (by_tests true false h k)
 
-  pub number-sound : number_verdict v ≡ Pass → sound_record v ≡ true
+  pub number-sound : number_verdict v ≡ Ok tt → sound_record v ≡ true
   number-sound h = go (sound_record v) v.closed refl refl
     where
       go : (b c : Bool) → sound_record v ≡ b → v.closed ≡ c → sound_record v ≡ true
       go true c eb ec = eb
-      go false c eb ec = let k : Refuse IllegalRecord ≡ Pass = sym (by_tests false c eb ec) ∙ h in absurd (let z : ◌≡◌ {A = ℕ} 0 1 = cc in omega arith)
+      go false c eb ec = let k : Err IllegalRecord ≡ (Ok tt) = sym (by_tests false c eb ec) ∙ h in absurd (let z : ◌≡◌ {A = ℕ} 0 1 = cc in omega arith)
 
   -- what the calls answer, by it
-  abbrev answered : ℤ → Verdict → Positioned
-  answered n Pass = Position n
-  answered n (Refuse e) = Refused e
+  abbrev answered : ℤ → Result ⊤ Error → Result ℤ Error
+  answered n (Ok _) = Ok n
+  answered n (Err e) = Err e
 
-  pub number_is : (n : ℤ) (x : Verdict) → number_verdict v ≡ x → answered n x ≡ open_record v n
+  pub number_is : (n : ℤ) (x : Result ⊤ Error) → number_verdict v ≡ x → answered n x ≡ open_record v n
   unfolding open_record number_verdict
   number_is n x h = ap (answered n) (sym h) ∙ go (sound_record v) v.closed
     where
-      go : (b c : Bool) → answered n (cond b (cond c (Refuse PublicationClosed) Pass) (Refuse IllegalRecord)) ≡ cond b (cond c (Refused PublicationClosed) (Position n)) (Refused IllegalRecord)
+      go : (b c : Bool) → answered n (cond b (cond c (Err PublicationClosed) (Ok tt)) (Err IllegalRecord)) ≡ cond b (cond c (Err PublicationClosed) (Ok n)) (Err IllegalRecord)
       go false c = refl
       go true false = refl
       go true true = refl
@@ -84,7 +81,7 @@ module _ (r : LogRecord) (v : Reading) (n : ℕ) (ev : v ≡ reading r) (s : Sou
   own-initial f = let h : word r.initial_term_id < 4294967296 = (Fits-of_z f).fits in let e : word r.initial_term_id ≡ word r.initial_term_id % 4294967296 = omega arith in e ∙ sym (ap (λ (x : Reading). x.initial) ev)
 
   pub position-by : (raw initial id : ℤ) (offset bits : ℕ) → SFits w64 raw → raw ≡ tail_of r (v.count % 3) → SFits w32 r.initial_term_id → initial ≡ r.initial_term_id → id ≡ term_id_of raw
-      → offset ≡ term_offset_of raw v.term → bits ≡ count_trailing_zeros 32 v.term → compute_position id offset bits initial ≡ Position (publisher_position v)
+      → offset ≡ term_offset_of raw v.term → bits ≡ count_trailing_zeros 32 v.term → compute_position id offset bits initial ≡ Ok (publisher_position v)
   unfolding compute_position reading_of
   position-by raw initial id offset bits f er fi ei ed eo eb =
       let e : 2 ^ bits ≡ v.term = ap (λ (x : ℕ). 2 ^ x) eb ∙ shifted v.term s.term-high s.one_bit in
@@ -92,7 +89,7 @@ module _ (r : LogRecord) (v : Reading) (n : ℕ) (ev : v ≡ reading r) (s : Sou
       let i : word id ≡ v.id = ap word ed ∙ own-id raw f er in
       let j : word initial ≡ v.initial = ap word ei ∙ own-initial fi in
       let o : offset ≡ min v.offset v.term = eo ∙ ap (λ (x : ℕ). min x v.term) (ap offset_of er ∙ sym (ap (λ (x : Reading). x.offset) ev ∙ ap (λ (j : ℕ). offset_of (tail_of r (j % 3))) (sym (ap (λ (x : Reading). x.count) ev)))) in
-      simp (le-ltb 30 bits l) (ap Position (ap₂ (λ (x y : ℕ). position_of x y (2 ^ bits) offset) i j ∙ ap₂ (λ (x y : ℕ). position_of v.id v.initial x y) e o))
+      simp (le-ltb 30 bits l) (ap Ok (ap₂ (λ (x y : ℕ). position_of x y (2 ^ bits) offset) i j ∙ ap₂ (λ (x y : ℕ). position_of v.id v.initial x y) e o))
 
   abbrev count : ℤ
   count = to_z w32 (id_minus v.id v.initial)
@@ -119,10 +116,10 @@ module _ (r : LogRecord) (v : Reading) (n : ℕ) (ev : v ≡ reading r) (s : Sou
 
 -- ---- changes of the record
 
-pub change-no : (r next : LogRecord) → sound_record (reading next) ≡ false → record { next = r; answer = ChangeRefused IllegalRecord } ≡ change_of r next
+pub change-no : (r next : LogRecord) → sound_record (reading next) ≡ false → record { next = r; answer = Err IllegalRecord } ≡ change_of r next
 unfolding change_of
 change-no r next h = simp h
 
-pub change-done : (r next : LogRecord) → sound_record (reading next) ≡ true → record { next = next; answer = Done } ≡ change_of r next
+pub change-done : (r next : LogRecord) → sound_record (reading next) ≡ true → record { next = next; answer = Ok tt } ≡ change_of r next
 unfolding change_of
 change-done r next h = simp h

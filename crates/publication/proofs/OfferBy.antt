@@ -1,4 +1,5 @@
 -- The laws of offers by the numbers that the code has.
+use Rattle.std.specs.Prelude.{Ok, Err}
 use mathlib.Core.Path.{◌≡◌, refl, sym, ap, ap₂, ◌∙◌, subst}
 use mathlib.Core.Bool.{Bool, false}
 use mathlib.Core.List.{List}
@@ -9,10 +10,8 @@ use Rattle.model.specs.declared.LogRecord.{LogRecord}
 use Rattle.model.specs.declared.Reading.{Reading}
 use Rattle.model.specs.declared.Error.{Error}
 use Rattle.model.specs.declared.Rule.{Rule}
-use Rattle.model.specs.declared.Verdict.TheVariants.{Pass, Refuse}
 use Rattle.model.specs.declared.Course.{Course}
 use Rattle.model.specs.declared.Course.TheVariants.{Refuse as Deny, Stray, Trip, Fit}
-use Rattle.model.specs.declared.Offered.TheVariants.{Refused as Declined}
 use Rattle.model.specs.declared.Appended.TheVariants.{Offset, Tripped}
 use Rattle.model.specs.declared.AppendReply.{AppendReply}
 use Rattle.model.specs.Bytes.{word, long}
@@ -44,11 +43,11 @@ marks-kept r v k needed Trip = refl
 marks-kept r v k needed Fit = refl
 
 -- an offer that is refused before its append, with the rule of the refusal
-pub refused-by : (r : LogRecord) (log m : List ℕ) (reserved : ℤ) (e : Error) (x : Rule) → x ≡ refused_rule e → before_append (reading r) (length log) (length m) Pass ≡ Refuse e
-    → (record { next = r; answer = Declined e; rule = x } ≡ offer_of r log m) × (log ≡ offer_bytes r log m reserved)
+pub refused-by : (r : LogRecord) (log m : List ℕ) (reserved : ℤ) (e : Error) (x : Rule) → x ≡ refused_rule e → before_append (reading r) (length log) (length m) (Ok tt) ≡ Err e
+    → (record { next = r; answer = Err e; rule = x } ≡ offer_of r log m) × (log ≡ offer_bytes r log m reserved)
 refused-by r log m reserved e x q h =
     let law = refused-is r log m reserved e h in
-    (ap (λ (y : Rule). record { next = r; answer = Declined e; rule = y }) q ∙ law.0, law.1)
+    (ap (λ (y : Rule). record { next = r; answer = Err e; rule = y }) q ∙ law.0, law.1)
 
 module _ (r : LogRecord) (log m : List ℕ) (v : Reading) (k g : ℕ) (a : AppendReply) (ek : k ≡ active r) (ev : v ≡ reading r) (eg : g ≡ v.id)
     (ea : a ≡ append_reply r log k (v.mtu - 32) m g) where
@@ -56,10 +55,10 @@ module _ (r : LogRecord) (log m : List ℕ) (v : Reading) (k g : ℕ) (a : Appen
   here = ev ∙ ap (reading_of r) (sym ek)
 
   -- an offer that nothing refuses before its append
-  pub offer-by : (log' : List ℕ) (reserved : ℤ) (z : ℕ) → z ≡ long reserved → before_append v (length log) (length m) Pass ≡ Pass
+  pub offer-by : (log' : List ℕ) (reserved : ℤ) (z : ℕ) → z ≡ long reserved → before_append v (length log) (length m) (Ok tt) ≡ Ok tt
       → log' ≡ append_bytes r log k (v.mtu - 32) m z g → (after v (is_ready r) (length m) a ≡ offer_of r log m) × (log' ≡ offer_bytes r log m reserved)
   offer-by log' reserved z ez h el =
-      let law = offer-is r log m reserved (subst (λ (x : Reading). before_append x (length log) (length m) Pass ≡ Pass) ev h) in
+      let law = offer-is r log m reserved (subst (λ (x : Reading). before_append x (length log) (length m) (Ok tt) ≡ Ok tt) ev h) in
       let one : (u : Reading) (j : ℕ) → v ≡ u → k ≡ j → a ≡ append_reply r log j (payload_limit u) m u.id = λ u j eu ej. cc in
       let two : (u : Reading) (j : ℕ) → v ≡ u → k ≡ j → log' ≡ append_bytes r log j (payload_limit u) m (long reserved) u.id = λ u j eu ej. cc in
       (ap₂ (λ (x : Reading) (y : AppendReply). after x (is_ready r) (length m) y) ev (one (reading r) (active r) ev ek) ∙ law.0, two (reading r) (active r) ev ek ∙ law.1)

@@ -1,4 +1,6 @@
 -- An opening by the numbers that the code has.
+use Rattle.std.specs.Prelude.{Result, Ok, Err, ⊤}
+use Rattle.model.specs.declared.Error.{Error}
 use mathlib.Core.Path.{◌≡◌, sym, ap}
 use mathlib.Core.Bool.{Bool, true, false}
 use mathlib.Core.List.{List, [], ◌∷◌}
@@ -7,9 +9,6 @@ use lib.ListN.{length}
 use lib.IntN.{ℤ, pos}
 use Rattle.model.specs.declared.LogRecord.{LogRecord}
 use Rattle.model.specs.declared.Error.TheVariants.{IllegalRecord}
-use Rattle.model.specs.declared.Outcome.TheVariants.{Done, Refused}
-use Rattle.model.specs.declared.Verdict.{Verdict}
-use Rattle.model.specs.declared.Verdict.TheVariants.{Pass, Refuse}
 use Rattle.model.specs.Bytes.{word, zeros}
 use Rattle.model.specs.LogBufferDescriptor.{id_minus, raw_of, reading, sound}
 use Rattle.model.specs.Publication.{opened_record, no_record, open_verdict, open_by, open_bytes_by, open_of, open_bytes}
@@ -37,9 +36,9 @@ pub opened-by : (term mtu initial session stream term' mtu' initial' session' st
 unfolding opened_record
 opened-by term mtu initial session stream term' mtu' initial' session' stream' a b c e1 e2 e3 e4 e5 ea eb ec = cc
 
-abbrev judged : Bool → Verdict
-judged true = Pass
-judged false = Refuse IllegalRecord
+abbrev judged : Bool → Result ⊤ Error
+judged true = Ok tt
+judged false = Err IllegalRecord
 
 module _ (log : List ℕ) (term mtu initial session stream : ℤ) where
   abbrev made : LogRecord
@@ -51,11 +50,11 @@ module _ (log : List ℕ) (term mtu initial session stream : ℤ) where
   verdict false h = simp h
 
   pub open_no : sound (reading made) (length log) ≡ false
-      → (record { next = no_record; answer = Refused IllegalRecord } ≡ open_of log term mtu initial session stream) × (log ≡ open_bytes log term mtu initial session stream)
+      → (record { next = no_record; answer = Err IllegalRecord } ≡ open_of log term mtu initial session stream) × (log ≡ open_bytes log term mtu initial session stream)
   unfolding open_of open_bytes
   open_no h = (sym (ap (open_by made) (verdict false h)), sym (ap (open_bytes_by log) (verdict false h)))
 
   pub open_done : sound (reading made) (length log) ≡ true
-      → (record { next = made; answer = Done } ≡ open_of log term mtu initial session stream) × (zeros (length log) ≡ open_bytes log term mtu initial session stream)
+      → (record { next = made; answer = Ok tt } ≡ open_of log term mtu initial session stream) × (zeros (length log) ≡ open_bytes log term mtu initial session stream)
   unfolding open_of open_bytes
   open_done h = (sym (ap (open_by made) (verdict true h)), sym (ap (open_bytes_by log) (verdict true h)))

@@ -1,6 +1,6 @@
 -- What is asked of an offer or a claim on the shorter path, and what it answers and leaves. `offer-fits`, `fragmented-fits` and `claim-fits`
 -- (proofs/Fits.antt) are the laws that the calls of `model` answer the same.
-use Rattle.std.specs.Prelude.{ℕ, ◌+◌, ◌*◌, ◌%◌, Bool, cond, not, ◌&&◌, List, [], ◌∷◌, eqb, leb, ltb, pos, length}
+use Rattle.std.specs.Prelude.{ℕ, ◌+◌, ◌*◌, ◌%◌, Bool, cond, not, ◌&&◌, Option, Some, None, List, [], ◌∷◌, eqb, leb, ltb, pos, length}
 use Rattle.model.specs.declared.Reading.{Reading}
 use Rattle.model.specs.FrameDescriptor.{space}
 use Rattle.model.specs.LogBufferDescriptor.{is_power_of_two, id_minus, raw_of, payload_limit, sound}
@@ -42,30 +42,20 @@ is_long_fit v n m = is_long v n m && frames_fit v n (v.count % 3) (payload_limit
 
 -- ---- the answer: the raw tail and the position after the frame, or after the last of several
 
-abbrev pub none_fitted : Fitted
-none_fitted = record { tail = pos 0; position = pos 0 }
-
 abbrev pub fitted_at : Reading → ℕ → Fitted
 fitted_at v end = record { tail = raw_of v.id end; position = pos (v.count * v.term + end) }
 
-abbrev pub after_end : Reading → ℕ → Fitted
-after_end v end = cond (eqb end 0) none_fitted (fitted_at v end)
+abbrev pub fitted : Reading → ℕ → ℕ → Option Fitted
+fitted v n m = cond (is_fit v n m) (Some (fitted_at v (v.offset + space m))) None
 
-abbrev pub fitted : Reading → ℕ → ℕ → Fitted
-fitted v n m = cond (is_fit v n m) (fitted_at v (v.offset + space m)) none_fitted
-
-abbrev pub fitted_long : Reading → ℕ → ℕ → Fitted
-fitted_long v n m = cond (is_long_fit v n m) (fitted_at v (v.offset + need_of v m)) none_fitted
-
-abbrev pub no_claim : FittedClaim
-no_claim = record { tail = pos 0; position = pos 0; claim = record { partition = pos 0; offset = pos 0; length = pos 0; term_id = pos 0 } }
+abbrev pub fitted_long : Reading → ℕ → ℕ → Option Fitted
+fitted_long v n m = cond (is_long_fit v n m) (Some (fitted_at v (v.offset + need_of v m))) None
 
 abbrev pub claim_at : Reading → ℕ → FittedClaim
-claim_at v m =
-    record { tail = raw_of v.id (v.offset + space m); position = pos (v.count * v.term + (v.offset + space m)); claim = claim_record v (v.count % 3) m }
+claim_at v m = record { after = fitted_at v (v.offset + space m); claim = claim_record v (v.count % 3) m }
 
-abbrev pub fitted_claim : Reading → ℕ → ℕ → FittedClaim
-fitted_claim v n m = cond (is_fit v n m) (claim_at v m) no_claim
+abbrev pub fitted_claim : Reading → ℕ → ℕ → Option FittedClaim
+fitted_claim v n m = cond (is_fit v n m) (Some (claim_at v m)) None
 
 -- ---- the log
 

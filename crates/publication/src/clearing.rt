@@ -9,7 +9,7 @@ ghost use Rattle.model.proofs.Sound.{Bounds};
 use logbuffer::frame_descriptor::FRAME_ALIGNMENT;
 use logbuffer::log_buffer_descriptor::PARTITION_COUNT;
 use logbuffer::{cast, log_buffer_descriptor};
-use model::{Error, LogRecord, Outcome, Reading, RecordReply, Verdict};
+use model::{Error, LogRecord, Reading, RecordReply};
 
 // ---- the slowest reader
 
@@ -25,19 +25,19 @@ fn is_good(v: Reading, position: usize) -> bool
 }
 
 // In order: 2 of the record as it stands, 3, 15.
-fn before_raise(v: Reading, position: usize) -> Verdict
+fn before_raise(v: Reading, position: usize) -> Result<(), Error>
     ensures { result ≡ raise_verdict v position }
 {
     if !log_buffer_descriptor::is_sound_record(v) {
-        return Verdict::Refuse(Error::IllegalRecord);
+        return Err(Error::IllegalRecord);
     }
     if !is_good(v, position) {
-        return Verdict::Refuse(Error::PositionOutOfRange);
+        return Err(Error::PositionOutOfRange);
     }
     if position < v.slowest {
-        return Verdict::Refuse(Error::NewPositionOutOfRange);
+        return Err(Error::NewPositionOutOfRange);
     }
-    Verdict::Pass
+    Ok(())
 }
 
 // The position that every reader has reached. It may only rise; the one that it has is taken again.
@@ -46,16 +46,16 @@ pub fn set_slowest_position(rec: LogRecord, position: i64) -> RecordReply
 {
     let v = log_buffer_descriptor::read_active(rec);
     match before_raise(v, cast::long(position)) {
-        Verdict::Refuse(e) => RecordReply {
+        Err(e) => RecordReply {
             next: rec,
-            answer: Outcome::Refused(e),
+            answer: Err(e),
         },
-        Verdict::Pass => {
+        Ok(()) => {
             let mut next = rec;
             next.slowest_position = position;
             RecordReply {
                 next: next,
-                answer: Outcome::Done,
+                answer: Ok(()),
             }
         }
     }
@@ -63,15 +63,11 @@ pub fn set_slowest_position(rec: LogRecord, position: i64) -> RecordReply
 
 // ---- clearing
 
-// One plain loop, of which LLVM makes a call of memset.
+// Every byte is 0.
 pub(crate) fn clear(bytes: &mut [u8])
     ensures { bytes.new ≡ zeros (length bytes.old) }
 {
-    let mut i = 0;
-    while i < bytes.len() {
-        bytes[i] = 0;
-        i += 1;
-    }
+    bytes.fill(0);
 }
 
 // Another partition than the one due next, or one that the slowest reader may still read.
@@ -93,19 +89,19 @@ fn not_due(v: Reading, k: usize) -> bool
 }
 
 // In order: 1, 2 for a log of so many bytes, 20.
-fn before_clear(v: Reading, log_length: usize, k: usize) -> Verdict
+fn before_clear(v: Reading, log_length: usize, k: usize) -> Result<(), Error>
     ensures { result ≡ clear_verdict v log_length k }
 {
     if k > 2 {
-        return Verdict::Refuse(Error::IllegalArgument);
+        return Err(Error::IllegalArgument);
     }
     if !log_buffer_descriptor::is_sound(v, log_length) {
-        return Verdict::Refuse(Error::IllegalRecord);
+        return Err(Error::IllegalRecord);
     }
     if not_due(v, k) {
-        return Verdict::Refuse(Error::NotDue);
+        return Err(Error::NotDue);
     }
-    Verdict::Pass
+    Ok(())
 }
 
 fn marked(rec: LogRecord, k: usize) -> LogRecord
@@ -125,18 +121,18 @@ pub fn clear_partition(rec: LogRecord, log: &mut [u8], partition: i32) -> Record
     let k = cast::word(partition);
     let v = log_buffer_descriptor::read_active(rec);
     match before_clear(v, log.len(), k) {
-        Verdict::Refuse(e) => RecordReply {
+        Err(e) => RecordReply {
             next: rec,
-            answer: Outcome::Refused(e),
+            answer: Err(e),
         },
-        Verdict::Pass => {
+        Ok(()) => {
             let term = v.term;
             let from = k * term;
             let to = from + term;
             clear(&mut log[from..to]);
             RecordReply {
                 next: marked(rec, k),
-                answer: Outcome::Done,
+                answer: Ok(()),
             }
         }
     }

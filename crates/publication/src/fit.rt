@@ -4,7 +4,7 @@ ghost use Rattle.std.specs.Prelude.{◌≡◌, ◌≤◌, ◌<◌, length as len
 ghost use Rattle.std.specs.Int.Count.{ones};
 ghost use Rattle.model.specs.Bytes.{long};
 ghost use Rattle.model.proofs.Sound.{Bounds};
-ghost use Rattle.publication.specs.Fits.{in_step, unpressed, in_terms, is_open, is_long, after_end, fitted, fitted_long, no_claim, fitted_claim, offer_fit_bytes, fragmented_fit_bytes, claim_fit_bytes};
+ghost use Rattle.publication.specs.Fits.{in_step, unpressed, in_terms, is_open, is_long, fitted_at, fitted, fitted_long, fitted_claim, offer_fit_bytes, fragmented_fit_bytes, claim_fit_bytes};
 
 use crate::judge;
 use logbuffer::data_frame_header::HEADER_LENGTH;
@@ -116,32 +116,25 @@ fn is_long(v: Reading, n: usize, m: usize) -> bool
     !v.closed
 }
 
-// The raw tail and the position after a frame, or after the last of several; 0 both for none.
+// The raw tail and the position after a frame, or after the last of several.
 #[derive(Clone, Copy)]
 pub struct Fitted {
     pub tail: i64,
     pub position: i64,
 }
 
-// And the claim's record; of zeros for none.
+// The same after a claim's frame, and the claim's record.
 #[derive(Clone, Copy)]
 pub struct FittedClaim {
-    pub tail: i64,
-    pub position: i64,
+    pub after: Fitted,
     pub claim: Claim,
 }
 
-// By the offset after what was written at the tail; 0 for none.
+// By the offset after what was written at the tail.
 fn after(v: Reading, end: usize) -> Fitted
     requires { Bounds v × ((ones v.term ≡ 1) × ((v.id < 4294967296) × (end ≤ v.term))) }
-    ensures { result ≡ after_end v end }
+    ensures { result ≡ fitted_at v end }
 {
-    if end == 0 {
-        return Fitted {
-            tail: 0,
-            position: 0,
-        };
-    }
     Fitted {
         tail: cast::to_i64(v.id * 4294967296 + end),
         position: (judge::begin_position(v) + end) as i64,
@@ -149,19 +142,21 @@ fn after(v: Reading, end: usize) -> Fitted
 }
 
 // An offer of one frame. Where none is told the log is as it was.
-pub fn offer_fit(numbers: Reading, log: &mut [u8], message: &[u8], reserved_value: i64) -> Fitted
+pub fn offer_fit(
+    numbers: Reading,
+    log: &mut [u8],
+    message: &[u8],
+    reserved_value: i64,
+) -> Option<Fitted>
     ensures value { result ≡ fitted numbers (length_of log.old) (length_of message.now) }
     ensures log_after { log.new ≡ offer_fit_bytes numbers log.old message.now (long reserved_value) }
 {
     if !is_open(numbers, log.len(), message.len()) {
-        return Fitted {
-            tail: 0,
-            position: 0,
-        };
+        return None;
     }
     let count = numbers.count;
-    let end = term_appender::append_fit(numbers, log, count % 3, message, reserved_value);
-    after(numbers, end)
+    let end = term_appender::append_fit(numbers, log, count % 3, message, reserved_value)?;
+    Some(after(numbers, end))
 }
 
 // An offer in fragments. Where none is told the log is as it was.
@@ -170,15 +165,12 @@ pub fn offer_fragmented_fit(
     log: &mut [u8],
     message: &[u8],
     reserved_value: i64,
-) -> Fitted
+) -> Option<Fitted>
     ensures value { result ≡ fitted_long numbers (length_of log.old) (length_of message.now) }
     ensures log_after { log.new ≡ fragmented_fit_bytes numbers log.old message.now (long reserved_value) }
 {
     if !is_long(numbers, log.len(), message.len()) {
-        return Fitted {
-            tail: 0,
-            position: 0,
-        };
+        return None;
     }
     let count = numbers.count;
     let payload_limit = numbers.mtu - HEADER_LENGTH;
@@ -189,49 +181,28 @@ pub fn offer_fragmented_fit(
         payload_limit,
         message,
         reserved_value,
-    );
-    after(numbers, end)
-}
-
-// None.
-fn no_claim() -> FittedClaim
-    ensures { result ≡ no_claim }
-{
-    FittedClaim {
-        tail: 0,
-        position: 0,
-        claim: Claim {
-            partition: 0,
-            offset: 0,
-            length: 0,
-            term_id: 0,
-        },
-    }
+    )?;
+    Some(after(numbers, end))
 }
 
 // A claim of so many bytes, in the same way.
-pub fn claim_fit(numbers: Reading, log: &mut [u8], body_length: usize) -> FittedClaim
+pub fn claim_fit(numbers: Reading, log: &mut [u8], body_length: usize) -> Option<FittedClaim>
     ensures value { result ≡ fitted_claim numbers (length_of log.old) body_length }
     ensures log_after { log.new ≡ claim_fit_bytes numbers log.old body_length }
 {
     if !is_open(numbers, log.len(), body_length) {
-        return no_claim();
+        return None;
     }
     let k = numbers.count % 3;
-    let end = term_appender::claim_fit(numbers, log, k, body_length);
-    if end == 0 {
-        return no_claim();
-    }
-    let fitted = after(numbers, end);
+    let end = term_appender::claim_fit(numbers, log, k, body_length)?;
     let raw_tail = cast::to_i64(numbers.id * 4294967296 + numbers.offset);
-    FittedClaim {
-        tail: fitted.tail,
-        position: fitted.position,
+    Some(FittedClaim {
+        after: after(numbers, end),
         claim: Claim {
             partition: k as i32,
             offset: numbers.offset as i32,
             length: (body_length + HEADER_LENGTH) as i32,
             term_id: log_buffer_descriptor::term_id(raw_tail),
         },
-    }
+    })
 }

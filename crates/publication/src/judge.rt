@@ -1,14 +1,13 @@
 // The refusals of an offer that leave everything as it was, in document 01's order.
-ghost use Rattle.std.specs.Prelude.{◌≡◌, ◌*◌, ◌≤◌, ◌<◌};
+ghost use Rattle.std.specs.Prelude.{◌≡◌, ◌*◌, ◌≤◌, ◌<◌, Ok};
 ghost use Rattle.std.specs.Int.Count.{ones};
-ghost use Rattle.model.specs.declared.Verdict.TheVariants.{Pass};
 ghost use Rattle.model.specs.Publication.{too_long, pressed, after_closed, before_append};
 ghost use Rattle.model.proofs.Sound.{Bounds};
 
 use logbuffer::data_frame_header::HEADER_LENGTH;
 use logbuffer::frame_descriptor::MAX_MESSAGE_LENGTH;
 use logbuffer::log_buffer_descriptor;
-use model::{Error, Reading, Verdict};
+use model::{Error, Reading};
 
 // Over both the payload limit and the message limit.
 pub(crate) fn too_long(v: Reading, m: usize) -> bool
@@ -54,9 +53,9 @@ fn back_pressure(v: Reading, begin: usize, m: usize) -> Error
 }
 
 // What both ask once they are not closed: 6 (count), 7/8/9.
-pub(crate) fn after_closed(v: Reading, m: usize) -> Verdict
+pub(crate) fn after_closed(v: Reading, m: usize) -> Result<(), Error>
     requires { Bounds v × (((v.id < 4294967296) × (v.initial < 4294967296)) × ((m ≤ 2147483647) × (ones v.term ≡ 1))) }
-    ensures { result ≡ after_closed v m Pass }
+    ensures { result ≡ after_closed v m (Ok tt) }
 {
     let id = v.id;
     let initial = v.initial;
@@ -64,35 +63,32 @@ pub(crate) fn after_closed(v: Reading, m: usize) -> Verdict
     let offset = v.offset;
     let limit = v.limit;
     if log_buffer_descriptor::id_minus(id as u32, initial as u32) as usize != count {
-        return Verdict::Refuse(Error::AdminAction);
+        return Err(Error::AdminAction);
     }
     let begin = begin_position(v);
     if limit <= begin + offset {
-        return Verdict::Refuse(back_pressure(v, begin, m));
+        return Err(back_pressure(v, begin, m));
     }
-    Verdict::Pass
+    Ok(())
 }
 
 // Of an offer, all but 11, which the appender refuses.
-pub(crate) fn before_offer(v: Reading, n: usize, m: usize) -> Verdict
+pub(crate) fn before_offer(v: Reading, n: usize, m: usize) -> Result<(), Error>
     requires { (v.id < 4294967296) × (v.initial < 4294967296) }
-    ensures { result ≡ before_append v n m Pass }
+    ensures { result ≡ before_append v n m (Ok tt) }
 {
     if m > 2147483647 {
-        return Verdict::Refuse(Error::IllegalArgument);
+        return Err(Error::IllegalArgument);
     }
     if !log_buffer_descriptor::is_sound(v, n) {
-        return Verdict::Refuse(Error::IllegalRecord);
+        return Err(Error::IllegalRecord);
     }
     if v.closed {
-        return Verdict::Refuse(Error::PublicationClosed);
+        return Err(Error::PublicationClosed);
     }
-    let rest = after_closed(v, m);
-    let Verdict::Pass = rest else {
-        return rest;
-    };
+    after_closed(v, m)?;
     if too_long(v, m) {
-        return Verdict::Refuse(Error::ExceedsMaxMessageLength);
+        return Err(Error::ExceedsMaxMessageLength);
     }
-    Verdict::Pass
+    Ok(())
 }

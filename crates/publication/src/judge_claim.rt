@@ -6,36 +6,33 @@ use crate::judge;
 use logbuffer::data_frame_header::HEADER_LENGTH;
 use logbuffer::frame_descriptor::{ALIGNMENT_MASK, FRAME_ALIGNMENT};
 use logbuffer::log_buffer_descriptor;
-use model::{Error, Reading, Verdict};
+use model::{Error, Reading};
 
-pub(crate) fn before_claim(v: Reading, n: usize, m: usize) -> Verdict
+pub(crate) fn before_claim(v: Reading, n: usize, m: usize) -> Result<(), Error>
     requires { (v.id < 4294967296) × (v.initial < 4294967296) }
     ensures { result ≡ claim_verdict v n m }
 {
     if m > 2147483647 {
-        return Verdict::Refuse(Error::IllegalArgument);
+        return Err(Error::IllegalArgument);
     }
     if !log_buffer_descriptor::is_sound(v, n) {
-        return Verdict::Refuse(Error::IllegalRecord);
+        return Err(Error::IllegalRecord);
     }
     let mtu = v.mtu;
     let payload = mtu - HEADER_LENGTH;
     let closed = v.closed;
     if closed {
-        return Verdict::Refuse(Error::PublicationClosed);
+        return Err(Error::PublicationClosed);
     }
     if m > payload {
-        return Verdict::Refuse(Error::ExceedsMaxPayloadLength);
+        return Err(Error::ExceedsMaxPayloadLength);
     }
-    let rest = judge::after_closed(v, m);
-    let Verdict::Pass = rest else {
-        return rest;
-    };
+    judge::after_closed(v, m)?;
     let offset = v.offset;
     if offset + (m + HEADER_LENGTH + ALIGNMENT_MASK) / FRAME_ALIGNMENT * FRAME_ALIGNMENT
         > 2147483647
     {
-        return Verdict::Refuse(Error::TailOverflow);
+        return Err(Error::TailOverflow);
     }
-    Verdict::Pass
+    Ok(())
 }

@@ -1,8 +1,7 @@
 // The publication above the leaf library, of which it knows only the promises: offers and claims. Read judge next.
 #![tactic(auto)]
 
-ghost use Rattle.std.specs.Prelude.{◌≡◌, ◌+◌, ◌*◌, ◌%◌, ◌≤◌, ◌<◌, length as length_of};
-ghost use Rattle.model.specs.declared.Verdict.TheVariants.{Pass};
+ghost use Rattle.std.specs.Prelude.{◌≡◌, ◌+◌, ◌*◌, ◌%◌, ◌≤◌, ◌<◌, length as length_of, Ok};
 ghost use Rattle.model.specs.Bytes.{word, long};
 ghost use Rattle.model.specs.FrameDescriptor.{space};
 ghost use Rattle.model.specs.LogBufferDescriptor.{reading_of, reading};
@@ -17,7 +16,7 @@ use logbuffer::data_frame_header::HEADER_LENGTH;
 use logbuffer::{cast, log_buffer_descriptor, term_appender, way};
 use model::{
     AppendClaimReply, AppendReply, Appended, AppendedClaim, Claim, ClaimReply, Claimed, Error,
-    LogRecord, OfferReply, Offered, Reading, Rule, Verdict,
+    LogRecord, OfferReply, Reading, Rule,
 };
 
 pub mod clearing;
@@ -117,7 +116,7 @@ fn append_message(
 
 // The append of an offer that nothing refuses before it, and what its answer leads to.
 fn offer_on(rec: LogRecord, log: &mut [u8], v: Reading, message: &[u8], reserved: i64) -> OfferReply
-    requires { (v ≡ reading rec) × (before_append v (length_of log.old) (length_of message.now) Pass ≡ Pass) }
+    requires { (v ≡ reading rec) × (before_append v (length_of log.old) (length_of message.now) (Ok tt) ≡ Ok tt) }
     ensures value { result ≡ offer_of rec log.old message.now }
     ensures log_after { log.new ≡ offer_bytes rec log.old message.now reserved }
 {
@@ -137,19 +136,19 @@ fn offer_on(rec: LogRecord, log: &mut [u8], v: Reading, message: &[u8], reserved
             let rule = t.rule;
             return OfferReply {
                 next: last,
-                answer: Offered::Refused(error),
+                answer: Err(error),
                 rule: rule,
             };
         };
         return OfferReply {
             next: next,
-            answer: Offered::Refused(e),
+            answer: Err(e),
             rule: rule::of_refusal(e),
         };
     };
     OfferReply {
         next: next,
-        answer: Offered::Position((begin + end) as i64),
+        answer: Ok((begin + end) as i64),
         rule: rule::of_message(payload, message.len()),
     }
 }
@@ -161,12 +160,12 @@ pub fn offer(rec: LogRecord, log: &mut [u8], message: &[u8], reserved_value: i64
 {
     let v = log_buffer_descriptor::read_active(rec);
     match judge::before_offer(v, log.len(), message.len()) {
-        Verdict::Refuse(e) => OfferReply {
+        Err(e) => OfferReply {
             next: rec,
-            answer: Offered::Refused(e),
+            answer: Err(e),
             rule: rule::of_refusal(e),
         },
-        Verdict::Pass => offer_on(rec, log, v, message, reserved_value),
+        Ok(()) => offer_on(rec, log, v, message, reserved_value),
     }
 }
 
@@ -197,7 +196,7 @@ fn claiming(
 
 // The claiming append of a claim that nothing refuses, and what its answer leads to.
 fn claim_on(rec: LogRecord, log: &mut [u8], v: Reading, length: i32) -> ClaimReply
-    requires { (v ≡ reading rec) × (claim_verdict v (length_of log.old) (word length) ≡ Pass) }
+    requires { (v ≡ reading rec) × (claim_verdict v (length_of log.old) (word length) ≡ Ok tt) }
     ensures value { result ≡ claim_of rec log.old length }
     ensures log_after { log.new ≡ claim_bytes rec log.old length }
 {
@@ -216,19 +215,22 @@ fn claim_on(rec: LogRecord, log: &mut [u8], v: Reading, length: i32) -> ClaimRep
             let rule = t.rule;
             return ClaimReply {
                 next: last,
-                answer: Claimed::Refused(error),
+                answer: Err(error),
                 rule: rule,
             };
         };
         return ClaimReply {
             next: next,
-            answer: Claimed::Refused(e),
+            answer: Err(e),
             rule: rule::of_refusal(e),
         };
     };
     ClaimReply {
         next: next,
-        answer: Claimed::Position((begin + end) as i64, claim),
+        answer: Ok(Claimed {
+            position: (begin + end) as i64,
+            claim: claim,
+        }),
         rule: Rule::Claimed,
     }
 }
@@ -241,17 +243,17 @@ pub fn try_claim(rec: LogRecord, log: &mut [u8], length: i32) -> ClaimReply
     if length < 0 {
         return ClaimReply {
             next: rec,
-            answer: Claimed::Refused(Error::IllegalArgument),
+            answer: Err(Error::IllegalArgument),
             rule: Rule::IllegalArgument,
         };
     }
     let v = log_buffer_descriptor::read_active(rec);
     match judge_claim::before_claim(v, log.len(), length as usize) {
-        Verdict::Refuse(e) => ClaimReply {
+        Err(e) => ClaimReply {
             next: rec,
-            answer: Claimed::Refused(e),
+            answer: Err(e),
             rule: rule::of_refusal(e),
         },
-        Verdict::Pass => claim_on(rec, log, v, length),
+        Ok(()) => claim_on(rec, log, v, length),
     }
 }

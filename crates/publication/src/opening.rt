@@ -1,11 +1,11 @@
 // A log is opened: zeroed, with the record of an empty log.
 ghost use Rattle.std.specs.Prelude.{◌≡◌};
 ghost use Rattle.model.specs.LogBufferDescriptor.{raw_of};
-ghost use Rattle.model.specs.Publication.{opened_record, no_record, open_of, open_bytes};
+ghost use Rattle.model.specs.Publication.{opened_record, open_of, open_bytes};
 
 use crate::clearing;
 use logbuffer::{cast, log_buffer_descriptor};
-use model::{Error, LogRecord, Outcome, RecordReply};
+use model::{Error, LogRecord, RecordReply};
 
 // The raw tail at the start of the term of an id, by its 32 bits.
 fn raw_tail(id: u32) -> i64
@@ -48,30 +48,6 @@ fn opened(
     }
 }
 
-// What a refused opening answers.
-fn no_record() -> LogRecord
-    ensures { result ≡ no_record }
-{
-    LogRecord {
-        tails: [0, 0, 0],
-        active_term_count: 0,
-        initial_term_id: 0,
-        term_length: 0,
-        mtu_length: 0,
-        session_id: 0,
-        stream_id: 0,
-        is_connected: 0,
-        publication_limit: 0,
-        end_of_stream_position: 0,
-        is_closed: false,
-        slowest_position: 0,
-        is_cleared: [false, false, false],
-        active_transport_count: 0,
-        correlation_id: 0,
-        page_size: 0,
-    }
-}
-
 // `open` is a word of the language.
 pub fn open_log(
     log: &mut [u8],
@@ -94,13 +70,13 @@ pub fn open_log(
     let v = log_buffer_descriptor::read_active(rec);
     if !log_buffer_descriptor::is_sound(v, log.len()) {
         return RecordReply {
-            next: no_record(),
-            answer: Outcome::Refused(Error::IllegalRecord),
+            next: log_buffer_descriptor::no_record(),
+            answer: Err(Error::IllegalRecord),
         };
     }
     clearing::clear(log);
     RecordReply {
         next: rec,
-        answer: Outcome::Done,
+        answer: Ok(()),
     }
 }

@@ -5,7 +5,7 @@ ghost use Rattle.publication.specs.Numbers.{number_verdict};
 ghost use Rattle.model.specs.Publication.{change_of, limit_of, close_of, position_call, limit_call, window_call};
 
 use logbuffer::log_buffer_descriptor;
-use model::{Error, LogRecord, Outcome, Positioned, Reading, RecordReply, Verdict};
+use model::{Error, LogRecord, Reading, RecordReply};
 
 // ---- changes, judged on the record that they would make
 
@@ -16,12 +16,12 @@ fn change(rec: LogRecord, next: LogRecord) -> RecordReply
     if !log_buffer_descriptor::is_sound_record(v) {
         return RecordReply {
             next: rec,
-            answer: Outcome::Refused(Error::IllegalRecord),
+            answer: Err(Error::IllegalRecord),
         };
     }
     RecordReply {
         next: next,
-        answer: Outcome::Done,
+        answer: Ok(()),
     }
 }
 
@@ -60,55 +60,47 @@ fn publisher_position(rec: LogRecord, v: Reading) -> i64
         bits,
         rec.initial_term_id,
     );
-    let Positioned::Position(position) = answer else {
+    let Ok(position) = answer else {
         return 0;
     };
     position
 }
 
 // Whether the numbers below are answered: 2, 5.
-fn refusal(v: Reading) -> Verdict
+fn refusal(v: Reading) -> Result<(), Error>
     ensures { result ≡ number_verdict v }
 {
     if !log_buffer_descriptor::is_sound_record(v) {
-        return Verdict::Refuse(Error::IllegalRecord);
+        return Err(Error::IllegalRecord);
     }
     if v.closed {
-        return Verdict::Refuse(Error::PublicationClosed);
+        return Err(Error::PublicationClosed);
     }
-    Verdict::Pass
+    Ok(())
 }
 
-pub fn position(rec: LogRecord) -> Positioned
+pub fn position(rec: LogRecord) -> Result<i64, Error>
     ensures { result ≡ position_call rec }
 {
     let v = log_buffer_descriptor::read_active(rec);
-    match refusal(v) {
-        Verdict::Refuse(e) => Positioned::Refused(e),
-        Verdict::Pass => Positioned::Position(publisher_position(rec, v)),
-    }
+    refusal(v)?;
+    Ok(publisher_position(rec, v))
 }
 
-pub fn publication_limit(rec: LogRecord) -> Positioned
+pub fn publication_limit(rec: LogRecord) -> Result<i64, Error>
     ensures { result ≡ limit_call rec }
 {
     let v = log_buffer_descriptor::read_active(rec);
-    match refusal(v) {
-        Verdict::Refuse(e) => Positioned::Refused(e),
-        Verdict::Pass => Positioned::Position(rec.publication_limit),
-    }
+    refusal(v)?;
+    Ok(rec.publication_limit)
 }
 
 // What is left up to the limit; below 0 where the position is past it.
-pub fn available_window(rec: LogRecord) -> Positioned
+pub fn available_window(rec: LogRecord) -> Result<i64, Error>
     ensures { result ≡ window_call rec }
 {
     let v = log_buffer_descriptor::read_active(rec);
-    match refusal(v) {
-        Verdict::Refuse(e) => Positioned::Refused(e),
-        Verdict::Pass => {
-            let position = publisher_position(rec, v);
-            Positioned::Position(rec.publication_limit - position)
-        }
-    }
+    refusal(v)?;
+    let position = publisher_position(rec, v);
+    Ok(rec.publication_limit - position)
 }

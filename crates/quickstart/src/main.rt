@@ -2,64 +2,60 @@
 // a replay reads the log back. The README quotes it; docs/quoted.sh holds the two together. Read crates/demo next.
 #![tactic(auto)]
 
-use logbuffer::cast;
-use model::{LogRecord, Offered, Replayed};
+use model::{LogRecord, Replayed};
 use publication::{opening, positions};
 use replay::Replay;
+use std::io;
 
 // Ten find numbers for every 32 bytes of the log: a request's block begins here, and no two blocks overlap.
-fn block(position: usize) -> usize {
-    if position < 32 {
-        return 0;
+fn block(position: u64) -> u64 {
+    position.saturating_sub(32) / 32 * 10
+}
+
+fn request(
+    rt: &impl Print,
+    rec: LogRecord,
+    log: &mut [u8],
+    message: &str,
+) -> io::Result<LogRecord> {
+    let offered = publication::offer(rec, log, message.as_bytes(), 0);
+    match offered.answer {
+        Ok(position) => {
+            let finds = block(position.cast_unsigned());
+            println!(rt; "position {position}, finds from {finds}")?;
+        }
+        Err(refusal) => println!(rt; "refused: {refusal}")?,
     }
-    (position - 32) / 32 * 10
+    Ok(offered.next)
 }
 
-fn request(rec: LogRecord, log: &mut [u8], message: &[u8]) -> LogRecord {
-    let offered = publication::offer(rec, log, message, 0);
-    let answer = offered.answer;
-    let Offered::Position(p) = answer else {
-        io::write_all(1, b"refused\n");
-        return offered.next;
-    };
-    io::write_all(1, b"position ");
-    io::print_decimal(1, cast::long(p) as u64);
-    io::write_all(1, b", finds from ");
-    io::print_decimal(1, block(cast::long(p)) as u64);
-    io::write_all(1, b"\n");
-    offered.next
-}
-
-fn replayed(replay: Replay, rec: LogRecord, log: &[u8], buffer: &mut [u8]) -> Replay {
+fn replayed(
+    rt: &impl Print,
+    replay: Replay,
+    rec: LogRecord,
+    log: &[u8],
+    buffer: &mut [u8],
+) -> io::Result<Replay> {
     let reply = replay.next(rec, log, buffer);
-    let answer = reply.answer;
-    match answer {
-        Replayed::InLog(_, n) => {
-            io::write_all(1, b"a message of ");
-            io::print_decimal(1, n as u64);
-            io::write_all(1, b" bytes\n");
-        }
-        Replayed::InBuffer(_, _) => {
-            io::write_all(1, b"a message in fragments\n");
-        }
-        Replayed::End => {
-            io::write_all(1, b"the end\n");
-        }
-        Replayed::Refused(_) => {
-            io::write_all(1, b"refused\n");
-        }
+    match reply.answer {
+        Ok(Replayed::InLog(_, n)) => println!(rt; "a message of {n} bytes")?,
+        Ok(Replayed::InBuffer(_, _)) => println!(rt; "a message in fragments")?,
+        Ok(Replayed::End) => println!(rt; "the end")?,
+        Err(refusal) => println!(rt; "refused: {refusal}")?,
     }
-    reply.next
+    Ok(reply.next)
 }
 
-fn main() {
+fn main(rt: HostRuntime) -> io::Result<()> {
     let mut log = [0u8; 196608];
     let mut buffer = [0u8; 131072];
     let opened = opening::open_log(&mut log, 65536, 1408, 7, 11, 22);
     let limited = positions::set_publication_limit(opened.next, 131072);
-    let first = request(limited.next, &mut log, b"trench A asks for a block");
-    let second = request(first, &mut log, b"trench B asks for a block");
-    let one = replayed(Replay::new(0, 11), second, &log, &mut buffer);
-    let two = replayed(one, second, &log, &mut buffer);
-    let _end = replayed(two, second, &log, &mut buffer);
+    let first = request(&rt, limited.next, &mut log, "trench A asks for a block")?;
+    let second = request(&rt, first, &mut log, "trench B asks for a block")?;
+    let mut replay = Replay::new(0, 11);
+    for _ in 0..3 {
+        replay = replayed(&rt, replay, second, &log, &mut buffer)?;
+    }
+    Ok(())
 }

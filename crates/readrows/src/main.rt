@@ -4,131 +4,94 @@
 #![tactic(auto)]
 
 use image::{BlockReply, Image, ImageReply, PeekReply, PollReply};
-use logbuffer::{cast, errors};
-use model::{BlockPolled, EndOfStream, Error, LogRecord, Outcome, Peeked, Polled};
+use logbuffer::errors;
+use model::{Block, Error, LogRecord, Peeked, Polled};
+use std::{fmt, io};
 
-fn put(n: usize) {
-    io::write_all(1, b" ");
-    io::print_decimal(1, n as u64);
-}
+// A refusal by its number, and by its place where it is one of a frame.
+#[derive(Drop)]
+struct Refusal(Error);
 
-fn refused(e: Error) {
-    let number = errors::number(e);
-    put(cast::word(number));
-    if number >= 22 {
-        put(errors::place(e) as usize);
-    }
-}
-
-fn position(i: Image) {
-    io::write_all(1, b" | at");
-    put(cast::long(i.position));
-}
-
-fn show_entries(entries: &[i32]) {
-    io::write_all(1, b" | entries");
-    if entries.len() >= 4 {
-        put(cast::word(entries[0]));
-        put(cast::word(entries[1]));
-        put(cast::word(entries[2]));
-        put(cast::word(entries[3]));
-    }
-    io::write_all(1, b"\n");
-}
-
-fn show_poll(name: &[u8], r: PollReply, entries: &[i32]) {
-    io::write_all(1, name);
-    let answer = r.answer;
-    match answer {
-        Polled::Refused(e) => {
-            refused(e);
-        }
-        Polled::Fragments(n, m) => {
-            put(0);
-            put(n);
-            put(m);
-        }
-    }
-    position(r.next);
-    show_entries(entries);
-}
-
-fn show_peek(name: &[u8], r: PeekReply, entries: &[i32]) {
-    io::write_all(1, name);
-    let answer = r.answer;
-    match answer {
-        Peeked::Refused(e) => {
-            refused(e);
-        }
-        Peeked::Position(p, n) => {
-            put(0);
-            put(cast::long(p));
-            put(n);
-        }
-    }
-    show_entries(entries);
-}
-
-fn show_block(name: &[u8], r: BlockReply) {
-    io::write_all(1, name);
-    let answer = r.answer;
-    match answer {
-        BlockPolled::Refused(e) => {
-            refused(e);
-        }
-        BlockPolled::Block(offset, n, session, id) => {
-            put(0);
-            put(offset);
-            put(n);
-            put(cast::word(session));
-            put(cast::word(id));
-        }
-    }
-    position(r.next);
-    io::write_all(1, b"\n");
-}
-
-fn show_image(name: &[u8], r: ImageReply) {
-    io::write_all(1, name);
-    let answer = r.answer;
-    match answer {
-        Outcome::Refused(e) => {
-            refused(e);
-        }
-        Outcome::Done => {
-            put(0);
-        }
-    }
-    position(r.next);
-    io::write_all(1, b"\n");
-}
-
-fn show_end(name: &[u8], answer: EndOfStream) {
-    io::write_all(1, name);
-    match answer {
-        EndOfStream::Refused(e) => {
-            refused(e);
-        }
-        EndOfStream::Is(yes) => {
-            put(0);
-            if yes {
-                put(1);
-            } else {
-                put(0);
+impl fmt::Display for Refusal {
+    fn fmt<W: fmt::Write>(&self, f: &mut fmt::Formatter<W>) -> fmt::Result {
+        let number = errors::number(self.0);
+        match self.0 {
+            Error::FrameTooShort(place) | Error::FramePastTerm(place) => {
+                write!(f, "{number} {place}")
             }
+            _ => write!(f, "{number}"),
         }
     }
-    io::write_all(1, b"\n");
+}
+
+fn print_entries(rt: &impl Print, entries: &[i32]) -> io::Result<()> {
+    print!(rt; " | entries")?;
+    for entry in entries.iter().take(4) {
+        print!(rt; " {entry}")?;
+    }
+    println!(rt)
+}
+
+fn show_poll(rt: &impl Print, name: &str, reply: PollReply, entries: &[i32]) -> io::Result<()> {
+    print!(rt; "{name}: ")?;
+    match reply.answer {
+        Ok(Polled { fragments, entries }) => print!(rt; "0 {fragments} {entries}")?,
+        Err(e) => print!(rt; "{}", Refusal(e))?,
+    }
+    print!(rt; " | at {}", reply.next.position)?;
+    print_entries(rt, entries)
+}
+
+fn show_peek(rt: &impl Print, name: &str, reply: PeekReply, entries: &[i32]) -> io::Result<()> {
+    print!(rt; "{name}: ")?;
+    match reply.answer {
+        Ok(Peeked { position, entries }) => print!(rt; "0 {position} {entries}")?,
+        Err(e) => print!(rt; "{}", Refusal(e))?,
+    }
+    print_entries(rt, entries)
+}
+
+fn show_block(rt: &impl Print, name: &str, reply: BlockReply) -> io::Result<()> {
+    print!(rt; "{name}: ")?;
+    match reply.answer {
+        Ok(block) => {
+            let Block {
+                offset,
+                length,
+                session_id,
+                term_id,
+            } = block;
+            print!(rt; "0 {offset} {length} {session_id} {term_id}")?;
+        }
+        Err(e) => print!(rt; "{}", Refusal(e))?,
+    }
+    println!(rt; " | at {}", reply.next.position)
+}
+
+fn show_image(rt: &impl Print, name: &str, reply: ImageReply) -> io::Result<()> {
+    print!(rt; "{name}: ")?;
+    match reply.answer {
+        Ok(()) => print!(rt; "0")?,
+        Err(e) => print!(rt; "{}", Refusal(e))?,
+    }
+    println!(rt; " | at {}", reply.next.position)
+}
+
+fn show_end(rt: &impl Print, name: &str, answer: Result<bool, Error>) -> io::Result<()> {
+    match answer {
+        Ok(yes) => println!(rt; "{name}: 0 {}", u8::from(yes)),
+        Err(e) => println!(rt; "{name}: {}", Refusal(e)),
+    }
 }
 
 // The header of a frame of less than 256 bytes in term 7.
-fn frame(log: &mut [u8], at: usize, length: u8, flags: u8, kind: u8) {
+fn header(length: u8, flags: u8, kind: u8) -> [u8; 32] {
     let mut header = [0u8; 32];
     header[0] = length;
     header[5] = flags;
     header[6] = kind;
     header[20] = 7;
-    support::put(log, at, &header);
+    header
 }
 
 // Term 7 is the first; its tail is at 224, where the stream ends.
@@ -137,7 +100,7 @@ fn record(term_length: i32) -> LogRecord {
         tails: [30064771296, 25769803776, 21474836480],
         active_term_count: 0,
         initial_term_id: 7,
-        term_length: term_length,
+        term_length,
         mtu_length: 1408,
         session_id: 11,
         stream_id: 22,
@@ -153,142 +116,113 @@ fn record(term_length: i32) -> LogRecord {
     }
 }
 
-// Refusals.
-fn rows(log: &[u8]) {
+// Refusals that the arguments, the record or the image give.
+fn rows(rt: &impl Print, log: &[u8]) -> io::Result<()> {
     let mut entries = [0i32; 8];
     let rec = record(65536);
     let image = Image::new(0, 11);
-    show_poll(
-        b"1 too few entries:",
-        image.poll(rec, log, &mut entries, 5),
-        &entries,
-    );
-    show_poll(
-        b"1 action 5:",
-        image.controlled_poll(rec, log, &mut entries, b"\x05", 1),
-        &entries,
-    );
-    show_poll(
-        b"2 term length 65537:",
-        image.poll(record(65537), log, &mut entries, 4),
-        &entries,
-    );
-    show_poll(
-        b"3 position 8:",
-        Image::new(8, 11).poll(rec, log, &mut entries, 4),
-        &entries,
-    );
+    let poll = image.poll(rec, log, &mut entries, 5);
+    show_poll(rt, "1 too few entries", poll, &entries)?;
+    let poll = image.controlled_poll(rec, log, &mut entries, b"\x05", 1);
+    show_poll(rt, "1 action 5", poll, &entries)?;
+    let poll = image.poll(record(65537), log, &mut entries, 4);
+    show_poll(rt, "2 term length 65537", poll, &entries)?;
+    let poll = Image::new(8, 11).poll(rec, log, &mut entries, 4);
+    show_poll(rt, "3 position 8", poll, &entries)?;
     let later = Image::new(64, 11);
-    show_image(b"15 from 64 to 32:", later.set_position(rec, log, 32));
-    show_image(b"16 from 64 to 72:", later.set_position(rec, log, 72));
-    show_poll(
-        b"22 length 5:",
-        Image::new(224, 11).poll(rec, log, &mut entries, 4),
-        &entries,
-    );
-    show_poll(
-        b"23 past the term:",
-        Image::new(65504, 11).poll(rec, log, &mut entries, 4),
-        &entries,
-    );
-    show_poll(
-        b"22 three terms on:",
-        Image::new(196832, 11).poll(rec, log, &mut entries, 4),
-        &entries,
-    );
-    show_peek(
-        b"22 in a peek:",
-        Image::new(160, 11).controlled_peek(rec, log, &mut entries, b"\x04", 224, 65536),
-        &entries,
-    );
-    show_block(
-        b"22 in a block:",
-        Image::new(224, 11).block_poll(rec, log, 64),
-    );
+    for (name, position) in [("15 from 64 to 32", 32), ("16 from 64 to 72", 72)] {
+        show_image(rt, name, later.set_position(rec, log, position))?;
+    }
+    Ok(())
+}
+
+// Refusals that a frame gives.
+fn frame_rows(rt: &impl Print, log: &[u8]) -> io::Result<()> {
+    let mut entries = [0i32; 8];
+    let rec = record(65536);
+    let cases = [
+        ("22 length 5", 224),
+        ("23 past the term", 65504),
+        ("22 three terms on", 196832),
+    ];
+    for (name, position) in cases {
+        let poll = Image::new(position, 11).poll(rec, log, &mut entries, 4);
+        show_poll(rt, name, poll, &entries)?;
+    }
+    let peek = Image::new(160, 11).controlled_peek(rec, log, &mut entries, b"\x04", 224, 65536);
+    show_peek(rt, "22 in a peek", peek, &entries)?;
+    let block = Image::new(224, 11).block_poll(rec, log, 64);
+    show_block(rt, "22 in a block", block)
 }
 
 // What is read: two fragments of a message, a whole message, padding.
-fn reads(log: &[u8]) {
+fn reads(rt: &impl Print, log: &[u8]) -> io::Result<()> {
     let mut entries = [0i32; 8];
     let rec = record(65536);
     let image = Image::new(0, 11);
-    show_poll(
-        b"poll of 2:",
-        image.poll(rec, log, &mut entries, 2),
-        &entries,
-    );
-    show_poll(
-        b"poll to the unsound frame:",
-        image.poll(rec, log, &mut entries, 4),
-        &entries,
-    );
-    show_poll(
-        b"bounded by 64:",
-        image.bounded_poll(rec, log, &mut entries, 64, 4),
-        &entries,
-    );
-    show_poll(
-        b"abort at the second:",
-        image.controlled_poll(rec, log, &mut entries, b"\x04\x01", 2),
-        &entries,
-    );
-    show_peek(
-        b"peek, last byte 4:",
-        image.controlled_peek(rec, log, &mut entries, b"\x04", 0, 224),
-        &entries,
-    );
-    show_peek(
-        b"peek of 3:",
-        image.controlled_peek(rec, log, &mut entries, b"\x04\x04\x04", 0, 224),
-        &entries,
-    );
+    for (name, limit) in [("poll of 2", 2), ("poll to the unsound frame", 4)] {
+        let poll = image.poll(rec, log, &mut entries, limit);
+        show_poll(rt, name, poll, &entries)?;
+    }
+    let poll = image.bounded_poll(rec, log, &mut entries, 64, 4);
+    show_poll(rt, "bounded by 64", poll, &entries)?;
+    let poll = image.controlled_poll(rec, log, &mut entries, b"\x04\x01", 2);
+    show_poll(rt, "abort at the second", poll, &entries)?;
+    let cases: [(&str, &[u8]); 2] = [
+        ("peek, last byte 4", b"\x04"),
+        ("peek of 3", b"\x04\x04\x04"),
+    ];
+    for (name, actions) in cases {
+        let peek = image.controlled_peek(rec, log, &mut entries, actions, 0, 224);
+        show_peek(rt, name, peek, &entries)?;
+    }
+    Ok(())
 }
 
 // Blocks, a position that is set, the end of the stream.
-fn moves(log: &[u8]) {
+fn moves(rt: &impl Print, log: &[u8]) -> io::Result<()> {
     let rec = record(65536);
     let image = Image::new(0, 11);
-    show_block(b"block of 100:", image.block_poll(rec, log, 100));
-    show_block(
-        b"block of padding:",
-        Image::new(160, 11).block_poll(rec, log, 32),
-    );
-    show_image(b"set to 160:", image.set_position(rec, log, 160));
-    show_end(b"end at 0:", image.is_end_of_stream(rec, log));
+    let block = image.block_poll(rec, log, 100);
+    show_block(rt, "block of 100", block)?;
+    let block = Image::new(160, 11).block_poll(rec, log, 32);
+    show_block(rt, "block of padding", block)?;
+    show_image(rt, "set to 160", image.set_position(rec, log, 160))?;
+    show_end(rt, "end at 0", image.is_end_of_stream(rec, log))
 }
 
 // A closed image.
-fn closed(log: &[u8]) {
+fn closed(rt: &impl Print, log: &[u8]) -> io::Result<()> {
     let mut entries = [0i32; 8];
     let rec = record(65536);
     let closing = Image::new(224, 11).close(rec, log);
-    show_image(b"close:", closing);
+    show_image(rt, "close", closing)?;
     let image = closing.next;
-    show_poll(
-        b"closed poll:",
-        image.poll(rec, log, &mut entries, 4),
-        &entries,
-    );
-    show_peek(
-        b"closed peek:",
-        image.controlled_peek(rec, log, &mut entries, b"\x04", 96, 224),
-        &entries,
-    );
-    show_block(b"closed block:", image.block_poll(rec, log, 100));
-    show_image(b"closed set:", image.set_position(rec, log, 8));
-    show_end(b"closed end:", image.is_end_of_stream(rec, log));
+    let poll = image.poll(rec, log, &mut entries, 4);
+    show_poll(rt, "closed poll", poll, &entries)?;
+    let peek = image.controlled_peek(rec, log, &mut entries, b"\x04", 96, 224);
+    show_peek(rt, "closed peek", peek, &entries)?;
+    show_block(rt, "closed block", image.block_poll(rec, log, 100))?;
+    show_image(rt, "closed set", image.set_position(rec, log, 8))?;
+    show_end(rt, "closed end", image.is_end_of_stream(rec, log))
 }
 
-fn main() {
+fn main(rt: HostRuntime) -> io::Result<()> {
     let mut log = [0u8; 196608];
-    frame(&mut log, 0, 64, 128, 1);
-    frame(&mut log, 64, 40, 64, 1);
-    frame(&mut log, 128, 32, 192, 1);
-    frame(&mut log, 160, 64, 192, 0);
-    frame(&mut log, 224, 5, 192, 1);
-    frame(&mut log, 65504, 33, 192, 1);
-    rows(&log);
-    reads(&log);
-    moves(&log);
-    closed(&log);
+    let frames = [
+        (0, 64, 128, 1),
+        (64, 40, 64, 1),
+        (128, 32, 192, 1),
+        (160, 64, 192, 0),
+        (224, 5, 192, 1),
+        (65504, 33, 192, 1),
+    ];
+    for (at, length, flags, kind) in frames {
+        support::put(&mut log, at, &header(length, flags, kind));
+    }
+    rows(&rt, &log)?;
+    frame_rows(&rt, &log)?;
+    reads(&rt, &log)?;
+    moves(&rt, &log)?;
+    closed(&rt, &log)
 }

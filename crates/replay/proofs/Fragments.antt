@@ -1,4 +1,5 @@
 -- A data frame of the log by its numbers; and a fragment whose body is laid behind what its session holds is the assembler's own step, with the session's number kept apart from the array's.
+use Rattle.std.specs.Prelude.{Ok}
 use Prim.Native.Nat.{ℕ, zero, suc, ◌+◌, ◌-◌, ◌*◌, ◌/◌, ◌%◌, ◌≤◌, ◌<◌, min}
 use mathlib.Core.Path.{◌≡◌, refl, sym, ap, ap₂, ◌∙◌, subst}
 use mathlib.Core.Bool.{Bool, true, false, cond}
@@ -131,14 +132,14 @@ module _ (count place bytes : ℕ) (ids : List ℤ) (held buffer log : List ℕ)
         ∙ laid-joins AtHand buffer log i at framed small l16 (subst (λ (k : ℕ). Lying count k (get_or (set held place bytes) (place_of AtHand z) 0) f n (length log) (length buffer) (i + 32)) here
         (subst (λ (b : ℕ). Lying count place b f n (length log) (length buffer) (i + 32)) (sym found) laid))
 
-    pub lay-goes : ends f ≡ false → join_of AtHand buffer log i at ≡ record { answer = Nothing; next = After (from + n); buffer = Spliced }
+    pub lay-goes : ends f ≡ false → join_of AtHand buffer log i at ≡ record { answer = Ok Nothing; next = After (from + n); buffer = Spliced }
     lay-goes e =
-        sym is ∙ ap Does (cond-false (ends f) (Complete place from) (Join place from) e) ∙ ap {B = Assembly} (λ (t : Sessions). record { answer = Nothing; next = t; buffer = Spliced }) (leaves (from + n))
+        sym is ∙ ap Does (cond-false (ends f) (Complete place from) (Join place from) e) ∙ ap {B = Assembly} (λ (t : Sessions). record { answer = Ok Nothing; next = t; buffer = Spliced }) (leaves (from + n))
 
-    pub lay-ends : ends f ≡ true → join_of AtHand buffer log i at ≡ record { answer = Message (place * part) (from + n); next = After 0; buffer = Spliced }
+    pub lay-ends : ends f ≡ true → join_of AtHand buffer log i at ≡ record { answer = Ok (Message (place * part) (from + n)); next = After 0; buffer = Spliced }
     lay-ends e =
         sym is ∙ ap Does (cond-true (ends f) (Complete place from) (Join place from) e)
-        ∙ ap {B = Assembly} (λ (t : Sessions). record { answer = Message (place * part) (from + n); next = t; buffer = Spliced }) (leaves 0)
+        ∙ ap {B = Assembly} (λ (t : Sessions). record { answer = Ok (Message (place * part) (from + n)); next = t; buffer = Spliced }) (leaves 0)
 
     -- its place is the session's still
     pub lay-place : place ≡ place_in (take (min (entered_with count place) 16) (set ids place z)) z

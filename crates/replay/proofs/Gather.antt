@@ -1,4 +1,6 @@
 -- Data frames taken as they lie, step by step; and a replay goes on behind them as from the first of them.
+use Rattle.std.specs.Prelude.{Result, Ok, Err}
+use Rattle.model.specs.declared.Error.{Error}
 use Prim.Native.Nat.{ℕ, zero, suc, ◌+◌, ◌-◌, ◌*◌, ◌<◌}
 use mathlib.Core.Path.{◌≡◌, refl, sym, ap, ap₂, subst, ◌∙◌}
 use mathlib.Core.Bool.{Bool, true, false, cond, not, ◌&&◌}
@@ -13,11 +15,10 @@ use mir.Facts.{to_z-of_z, to_z_pos}
 use Rattle.model.specs.declared.LogRecord.{LogRecord}
 use Rattle.model.specs.declared.Reading.{Reading}
 use Rattle.model.specs.declared.Polled.{Polled}
-use Rattle.model.specs.declared.Polled.TheVariants.{Fragments, Refused as PollRefused}
 use Rattle.model.specs.declared.ReadVerdict.{ReadVerdict}
-use Rattle.model.specs.declared.ReadVerdict.TheVariants.{Read, Closed, Refuse}
+use Rattle.model.specs.declared.ReadVerdict.TheVariants.{Read, Closed}
 use Rattle.model.specs.declared.Assembled.{Assembled}
-use Rattle.model.specs.declared.Assembled.TheVariants.{Nothing, Fragment, Message, Refused as AssemblyRefused}
+use Rattle.model.specs.declared.Assembled.TheVariants.{Nothing, Fragment, Message}
 use Rattle.model.specs.declared.Replayed.{Replayed}
 use Rattle.model.specs.declared.Replayed.TheVariants.{End}
 use Rattle.model.specs.Bytes.{long}
@@ -38,27 +39,27 @@ use Rattle.replay.proofs.InPlace.{DataAt, Open, data-found, data-lies, open-foun
 -- ---- one frame
 
 -- what is led to, by its parts
-abbrev pub led_to : ℕ → ℕ → Sessions → List ℕ → Replayed → Gathering
+abbrev pub led_to : ℕ → ℕ → Sessions → List ℕ → Result Replayed Error → Gathering
 led_to left p s buffer answer = record { left = left; position = p; sessions = s; buffer = buffer; answer = answer }
 
 -- a reply is told where a frame gave one
-replied-so : (p n : ℕ) (a : Assembled) → elsewhere_on a ≡ false → is_end (replied_by p n a) ≡ false
-replied-so p n Nothing h = absurd (let z : ◌≡◌ {A = ℕ} 0 1 = cc in omega arith)
-replied-so p n (Fragment at m) h = refl
-replied-so p n (Message at m) h = refl
-replied-so p n (AssemblyRefused e) h = refl
+replied-so : (p n : ℕ) (a : Result Assembled Error) → elsewhere_on a ≡ false → is_end (replied_by p n a) ≡ false
+replied-so p n (Ok Nothing) h = absurd (let z : ◌≡◌ {A = ℕ} 0 1 = cc in omega arith)
+replied-so p n (Ok (Fragment at m)) h = refl
+replied-so p n (Ok (Message at m)) h = refl
+replied-so p n (Err e) h = refl
 
-refused-off : (a : Assembled) → is_refused a ≡ true → elsewhere_on a ≡ false
-refused-off Nothing h = absurd (let z : ◌≡◌ {A = ℕ} 0 1 = cc in omega arith)
-refused-off (Fragment at m) h = refl
-refused-off (Message at m) h = refl
-refused-off (AssemblyRefused e) h = refl
+refused-off : (a : Result Assembled Error) → is_refused a ≡ true → elsewhere_on a ≡ false
+refused-off (Ok Nothing) h = absurd (let z : ◌≡◌ {A = ℕ} 0 1 = cc in omega arith)
+refused-off (Ok (Fragment at m)) h = refl
+refused-off (Ok (Message at m)) h = refl
+refused-off (Err e) h = refl
 
-nothing_ends : (p n : ℕ) (a : Assembled) → elsewhere_on a ≡ true → is_end (replied_by p n a) ≡ true
-nothing_ends p n Nothing h = refl
-nothing_ends p n (Fragment at m) h = absurd (let z : ◌≡◌ {A = ℕ} 0 1 = cc in omega arith)
-nothing_ends p n (Message at m) h = absurd (let z : ◌≡◌ {A = ℕ} 0 1 = cc in omega arith)
-nothing_ends p n (AssemblyRefused e) h = absurd (let z : ◌≡◌ {A = ℕ} 0 1 = cc in omega arith)
+nothing_ends : (p n : ℕ) (a : Result Assembled Error) → elsewhere_on a ≡ true → is_end (replied_by p n a) ≡ true
+nothing_ends p n (Ok Nothing) h = refl
+nothing_ends p n (Ok (Fragment at m)) h = absurd (let z : ◌≡◌ {A = ℕ} 0 1 = cc in omega arith)
+nothing_ends p n (Ok (Message at m)) h = absurd (let z : ◌≡◌ {A = ℕ} 0 1 = cc in omega arith)
+nothing_ends p n (Err e) h = absurd (let z : ◌≡◌ {A = ℕ} 0 1 = cc in omega arith)
 
 -- where it comes to from there: it goes on if nothing came of the frames so far
 abbrev pub gone_on : List ℕ → ℕ → ℕ → Gathering → Gathering
@@ -68,9 +69,9 @@ module _ (log : List ℕ) (term stop p : ℕ) (s : Sessions) (buffer : List ℕ)
   abbrev J : Assembly
   J = joined_here log term p s buffer
 
-  pub gather_none : left ≡ 0 → led_to left p s buffer End ≡ gather_from left log term stop p s buffer
+  pub gather_none : left ≡ 0 → led_to left p s buffer (Ok End) ≡ gather_from left log term stop p s buffer
   unfolding gather_from
-  gather_none e = ap (λ (x : ℕ). led_to x p s buffer End) e ∙ sym (ap (λ (x : ℕ). gather_from x log term stop p s buffer) e)
+  gather_none e = ap (λ (x : ℕ). led_to x p s buffer (Ok End)) e ∙ sym (ap (λ (x : ℕ). gather_from x log term stop p s buffer) e)
 
   -- a data frame of so many bytes, or none
   module _ (h : 0 < left) (n : ℕ) (is : n ≡ data_at log term stop p) where
@@ -84,7 +85,7 @@ module _ (log : List ℕ) (term stop p : ℕ) (s : Sessions) (buffer : List ℕ)
         (cond (elsewhere_on J.answer) (onward n m) (led_to m (p + align n) J.next J.buffer (replied_by (index_at term p) n J.answer)))
 
     abbrev step_by : ℕ → ℕ → Gathering
-    step_by n m = cond (eqb n 0) (led_to (suc m) p s buffer End) (tested n m)
+    step_by n m = cond (eqb n 0) (led_to (suc m) p s buffer (Ok End)) (tested n m)
 
     back : suc (left - 1) ≡ left
     back = omega arith
@@ -93,12 +94,12 @@ module _ (log : List ℕ) (term stop p : ℕ) (s : Sessions) (buffer : List ℕ)
     unfolding gather_from
     step = ap (λ (x : ℕ). step_by x (left - 1)) is ∙ ap (λ (x : ℕ). gather_from x log term stop p s buffer) back
 
-    pub gather-stays : n ≡ 0 → led_to left p s buffer End ≡ gather_from left log term stop p s buffer
-    gather-stays e = ap (λ (x : ℕ). led_to x p s buffer End) (sym back) ∙ sym (eq_yes n 0 (led_to (suc (left - 1)) p s buffer End) (tested n (left - 1)) e) ∙ step
+    pub gather-stays : n ≡ 0 → led_to left p s buffer (Ok End) ≡ gather_from left log term stop p s buffer
+    gather-stays e = ap (λ (x : ℕ). led_to x p s buffer (Ok End)) (sym back) ∙ sym (eq_yes n 0 (led_to (suc (left - 1)) p s buffer (Ok End)) (tested n (left - 1)) e) ∙ step
 
     module _ (some : ¬ (n ≡ 0)) where
       taken : tested n (left - 1) ≡ gather_from left log term stop p s buffer
-      taken = sym (eq_no n 0 (led_to (suc (left - 1)) p s buffer End) (tested n (left - 1)) some) ∙ step
+      taken = sym (eq_no n 0 (led_to (suc (left - 1)) p s buffer (Ok End)) (tested n (left - 1)) some) ∙ step
 
       pub gather-refused : is_refused J.answer ≡ true → led_to left p s J.buffer (replied_by (index_at term p) n J.answer) ≡ gather_from left log term stop p s buffer
       gather-refused e =
@@ -136,6 +137,22 @@ led-left left p n i s a h = go (is_refused a.answer) refl
         let z : ◌≡◌ {A = ℕ} 0 1 = cc in omega arith)
     go false e = ap (λ (g : Gathering). g.left) (cond-false (is_refused a.answer) _ (led_to (left - 1) (p + align n) a.next a.buffer (replied_by i n a.answer)) e)
 
+-- a frame that is taken: the reply that it gives is the last, or the frames behind it follow
+module _ (log : List ℕ) (term stop p : ℕ) (s : Sessions) (buffer : List ℕ) (left : ℕ) (h : 0 < left) (n : ℕ) (is : n ≡ data_at log term stop p) (some : ¬ (n ≡ 0))
+    (g : Gathering) (e : g ≡ led_by left p n (index_at term p) s (joined_here log term p s buffer)) where
+  on : gone_on log term stop g ≡ gather_from left log term stop p s buffer
+  on = ap (gone_on log term stop) e ∙ led_on log term stop p s buffer left h n is some
+
+  pub taken_last : is_end g.answer ≡ false → g ≡ gather_from left log term stop p s buffer
+  taken_last f = sym (cond-false (is_end g.answer) (gather_from g.left log term stop g.position g.sessions g.buffer) g f) ∙ on
+
+  pub taken_on : (less : ℕ) → less ≡ left - 1 → is_end g.answer ≡ true → gather_from less log term stop g.position g.sessions g.buffer ≡ gather_from left log term stop p s buffer
+  taken_on less one f =
+      let one_less : g.left ≡ left - 1 = ap (λ (x : Gathering). x.left) e
+      ∙ led-left left p n (index_at term p) s (joined_here log term p s buffer) (sym (ap (λ (x : Gathering). is_end x.answer) e) ∙ f) in
+      ap (λ (k : ℕ). gather_from k log term stop g.position g.sessions g.buffer) (one ∙ sym one_less)
+      ∙ sym (cond-true (is_end g.answer) (gather_from g.left log term stop g.position g.sessions g.buffer) g f) ∙ on
+
 -- ---- from the first frame on
 
 module _ (r : LogRecord) (log : List ℕ) where
@@ -154,11 +171,11 @@ module _ (r : LogRecord) (log : List ℕ) where
   from left term s = gather_from left log term stop (long s.image.position) s.sessions s.buffer
 
   -- no frame passed
-  stays : (left : ℕ) (s : ReplayState) → SFits w64 s.image.position → resumed s.image (led_to left (long s.image.position) s.sessions s.buffer End) ≡ next_from left r log s
+  stays : (left : ℕ) (s : ReplayState) → SFits w64 s.image.position → resumed s.image (led_to left (long s.image.position) s.sessions s.buffer (Ok End)) ≡ next_from left r log s
   stays left s f = ap (λ (z : ℤ). next_from left r log (record { image = moved_to s.image z; sessions = s.sessions; buffer = s.buffer })) (to_z-of_z f)
 
   -- a reply by a frame
-  replies : (left : ℕ) (i : Image) (p n x : ℕ) (z : ℤ) (t : Sessions) (b c : List ℕ) (a : Assembled) → elsewhere_on a ≡ false → to_z w64 p ≡ z → b ≡ c
+  replies : (left : ℕ) (i : Image) (p n x : ℕ) (z : ℤ) (t : Sessions) (b c : List ℕ) (a : Result Assembled Error) → elsewhere_on a ≡ false → to_z w64 p ≡ z → b ≡ c
       → resumed i (led_to left p t b (replied_by x n a)) ≡ giving (record { image = moved_to i z; sessions = t; buffer = c }) (replied_by x n a)
   replies left i p n x z t b c a h e f =
       cond-false (is_end (replied_by x n a)) _ _ (replied-so x n a h)
@@ -225,7 +242,7 @@ module _ (r : LogRecord) (log : List ℕ) where
         ap (resumed s.image) (sym (gather-refused log T stop p s.sessions s.buffer (suc left) (omega arith) n is none eb))
         ∙ replies (suc left) s.image p n X s.image.position s.sessions A.buffer s.buffer A.answer (refused-off A.answer eb) (to_z-of_z f)
         (refused-left r log s n opens.sound-so opens.is_open opens.lent-so here ids x.0 x.1)
-        ∙ next-stops r log s (stops s (replied_by X n A.answer)) (sym (turn_is ∙ placed-refused s moved X n A.answer eb)) (suc left) (omega arith) refl
+        ∙ next-stops r log s (stops s (replied_by X n A.answer)) (sym (turn_is ∙ placed-refused s moved X n A.answer eb)) (suc left) (omega arith) (replied_by X n A.answer) refl
     by false true eb ec ih =
         ap (resumed s.image) (sym (gather-goes log T stop p s.sessions s.buffer (suc left) (omega arith) n is none eb ec))
         ∙ ap (λ (m : ℕ). resumed s.image (from m T moved)) one ∙ ih ∙ ap (λ (m : ℕ). next_from m r log moved) (sym one)
@@ -233,7 +250,7 @@ module _ (r : LogRecord) (log : List ℕ) where
     by false false eb ec ih =
         ap (resumed s.image) (sym (gather-stops log T stop p s.sessions s.buffer (suc left) (omega arith) n is none eb ec))
         ∙ replies (suc left - 1) s.image (p + align n) n X (pos (p + align n)) A.next A.buffer A.buffer A.answer ec (to_z_pos w64 near) refl
-        ∙ next-stops r log s (stops moved (replied_by X n A.answer)) (sym (turn_is ∙ placed-stops s moved X n A.answer eb ec)) (suc left) (omega arith) refl
+        ∙ next-stops r log s (stops moved (replied_by X n A.answer)) (sym (turn_is ∙ placed-stops s moved X n A.answer eb ec)) (suc left) (omega arith) (replied_by X n A.answer) refl
 
     passes : resumed moved.image (from left T moved) ≡ next_from left r log moved → resumed s.image (from (suc left) term s) ≡ next_from (suc left) r log s
     passes ih = ap (λ (x : ℕ). resumed s.image (from (suc left) x s)) (sym opens.term_is) ∙ by (is_refused A.answer) (elsewhere_on A.answer) refl refl ih
@@ -255,10 +272,10 @@ module _ (r : LogRecord) (log : List ℕ) where
 
 -- ---- an image that is open stays open
 
-image-closed : (i : Image) (n : ℕ) (x : ReadVerdict) → (image_by i n x).closed ≡ i.closed
-image-closed i n Read = refl
-image-closed i n Closed = refl
-image-closed i n (Refuse e) = refl
+image-closed : (i : Image) (n : ℕ) (x : Result ReadVerdict Error) → (image_by i n x).closed ≡ i.closed
+image-closed i n (Ok Read) = refl
+image-closed i n (Ok Closed) = refl
+image-closed i n (Err e) = refl
 
 module _ (r : LogRecord) (log : List ℕ) where
   poll-closed : (i : Image) → (poll_one r log i).next.closed ≡ i.closed
@@ -266,25 +283,25 @@ module _ (r : LogRecord) (log : List ℕ) where
   poll-closed i =
       image-closed i (walk_at (reading r) log (long i.position) (reading r).term 1 []).moved (poll_verdict (reading r) log i (good_entries 2 1) (reading r).term 1)
 
-  given-closed : (base : ℕ) (s t : ReplayState) (a : Assembled) (go : ReplayState → NextReply) → t.image.closed ≡ s.image.closed → (go t).next.image.closed ≡ s.image.closed
+  given-closed : (base : ℕ) (s t : ReplayState) (a : Result Assembled Error) (go : ReplayState → NextReply) → t.image.closed ≡ s.image.closed → (go t).next.image.closed ≡ s.image.closed
       → (given_by base s t a go).next.image.closed ≡ s.image.closed
-  given-closed base s t Nothing go e f = f
-  given-closed base s t (Fragment at n) go e f = e
-  given-closed base s t (Message at n) go e f = e
-  given-closed base s t (AssemblyRefused x) go e f = refl
+  given-closed base s t (Ok Nothing) go e f = f
+  given-closed base s t (Ok (Fragment at n)) go e f = e
+  given-closed base s t (Ok (Message at n)) go e f = e
+  given-closed base s t (Err x) go e f = refl
 
-  turn-closed : (s : ReplayState) (x : Polled) (go : ReplayState → NextReply) → ((t : ReplayState) → (go t).next.image.closed ≡ t.image.closed) → (turn_by r log s x go).next.image.closed ≡ s.image.closed
-  turn-closed s (PollRefused e) go k = refl
-  turn-closed s (Fragments n m) go k =
-      cond-case (λ (y : NextReply). y.next.image.closed ≡ s.image.closed) (eqb m 0) _ _
-      (λ _. cond-case (λ (y : NextReply). y.next.image.closed ≡ s.image.closed) (eqb (long (poll_one r log s.image).next.position) (long s.image.position)) (giving s End) _ (λ _. refl) (λ _. k _ ∙ poll-closed s.image))
+  turn-closed : (s : ReplayState) (x : Result Polled Error) (go : ReplayState → NextReply) → ((t : ReplayState) → (go t).next.image.closed ≡ t.image.closed) → (turn_by r log s x go).next.image.closed ≡ s.image.closed
+  turn-closed s (Err e) go k = refl
+  turn-closed s (Ok polled) go k =
+      cond-case (λ (y : NextReply). y.next.image.closed ≡ s.image.closed) (eqb polled.entries 0) _ _
+      (λ _. cond-case (λ (y : NextReply). y.next.image.closed ≡ s.image.closed) (eqb (long (poll_one r log s.image).next.position) (long s.image.position)) (giving s (Ok End)) _ (λ _. refl) (λ _. k _ ∙ poll-closed s.image))
       (λ _. given-closed (partition_of (long s.image.position) (reading r).term * (reading r).term) s (assembled_to (poll_one r log s.image).next (assemble_one r log s)) (assemble_one r log s).answer go (poll-closed s.image) (k _ ∙ poll-closed s.image))
 
   from-closed : (fuel : ℕ) (s : ReplayState) → (next_from fuel r log s).next.image.closed ≡ s.image.closed
   unfolding next_from
   from-closed zero s = refl
   from-closed (suc fuel) s =
-      cond-case (λ (y : NextReply). y.next.image.closed ≡ s.image.closed) (is_over r log s.image.position) (giving s End) _ (λ _. refl)
+      cond-case (λ (y : NextReply). y.next.image.closed ≡ s.image.closed) (is_over r log s.image.position) (giving s (Ok End)) _ (λ _. refl)
       (λ _. turn-closed s (poll_one r log s.image).answer (λ t. next_from fuel r log t) (from-closed fuel))
 
   -- so the term may be kept from one reply to the next

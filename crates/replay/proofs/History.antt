@@ -1,4 +1,6 @@
 -- What callers see of the running functions is what the definitions say, call after call; so the season's theorem and demand 3 hold of them.
+use Rattle.std.specs.Prelude.{Result, Ok}
+use Rattle.model.specs.declared.Error.{Error}
 use Prim.Native.Nat.{ℕ, zero, suc, ◌+◌, ◌-◌, ◌*◌}
 use mathlib.Core.Path.{◌≡◌, refl, sym, ap, ap₂, ◌∙◌, subst}
 use mathlib.Core.Bool.{Bool, true, false, cond}
@@ -9,7 +11,6 @@ use lib.ListN.{drop, get_or}
 use lib.IntN.{ℤ, pos}
 use Rattle.model.specs.declared.LogRecord.{LogRecord}
 use Rattle.model.specs.declared.Assembled.{Assembled}
-use Rattle.model.specs.declared.Outcome.TheVariants.{Done}
 use Rattle.model.specs.declared.RecordReply.{RecordReply}
 use Rattle.model.specs.declared.OfferReply.{OfferReply}
 use Rattle.model.specs.declared.ClaimReply.{ClaimReply}
@@ -74,7 +75,7 @@ given_is c ks s w [] g = tt
 given_is c ks s w (x ∷ xs) g = (g.0, given_is c (learn ks (step w x).answer) (tell_terms s x (step w x).answer) (step w x).next xs g.1)
 
 opened-is : {lent : List ℕ} {term mtu initial session stream : ℤ} {w : World} → Opened lent term mtu initial session stream w
-    → (w ≡ opened lent term mtu initial session stream) × ((open_of lent term mtu initial session stream).answer ≡ Done)
+    → (w ≡ opened lent term mtu initial session stream) × ((open_of lent term mtu initial session stream).answer ≡ Ok tt)
 opened-is (by-opening e d f) = (ap₂ (λ (r : RecordReply) (l : List ℕ). with-log r.next l) e f, sym (ap (λ (r : RecordReply). r.answer) e) ∙ d)
 
 -- ---- polls
@@ -95,7 +96,7 @@ module _ (r : LogRecord) (log : List ℕ) where
       let one : at i x.next x.buffer (out ++ handed_out log (k * (reading r).term) x.buffer x.answer)
       ≡ at i (sessions_of reply.next) left (out ++ handed_out log (k * (reading r).term) left reply.answer) =
       sym (ap₂ (λ (s : Sessions) (l : List ℕ). at i s l (out ++ handed_out log (k * (reading r).term) l reply.answer)) es eb
-      ∙ ap (λ (y : Assembled). at i x.next x.buffer (out ++ handed_out log (k * (reading r).term) x.buffer y)) ea) in
+      ∙ ap (λ (y : Result Assembled Error). at i x.next x.buffer (out ++ handed_out log (k * (reading r).term) x.buffer y)) ea) in
       ap (feed_all r log k n (drop 2 slots)) one ∙ fed-is i f
 
   -- the rounds of polls that go where they are told to
@@ -260,7 +261,7 @@ seen-free w session lent ms d =
           (⊎_elim (λ e. absurd (let z : ◌≡◌ {A = ℕ} 0 1 = cc in omega arith)) (λ q. q) (still-is r l wherever 0 session lent ps x n st)));
     }
 
-module _ (lent : List ℕ) (term mtu initial session stream : ℤ) (done : (open_of lent term mtu initial session stream).answer ≡ Done) where
+module _ (lent : List ℕ) (term mtu initial session stream : ℤ) (done : (open_of lent term mtu initial session stream).answer ≡ Ok tt) where
   abbrev w₀ : World
   w₀ = opened lent term mtu initial session stream
 

@@ -1,14 +1,11 @@
 -- A data frame that is found as it lies is the fragment that a poll of one gives; a whole message is the reply that it leads to.
+use Rattle.std.specs.Prelude.{is_err, Result, Ok, Err}
 use Prim.Native.Nat.{ℕ, zero, suc, ◌+◌, ◌-◌, ◌*◌, ◌/◌, ◌%◌, ◌≤◌, ◌<◌, min}
 use mathlib.Core.Path.{◌≡◌, refl, sym, ap, ap₂, ◌∙◌, subst}
 use mathlib.Core.Bool.{Bool, true, false, cond, ◌&&◌, not}
 use mathlib.Core.List.{List, [], ◌∷◌}
 use native.Mathlib.Nat.{mod-lt, mul-le-mul_right, mod-mod_of_dvd, dvd_of_mod-eq-zero}
-use mathlib.Core.Logic.{⊎_elim}
 use native.Mathlib.Omega.{arith}
-use types.Run.{OneOf}
-use denote.Enum.Declared.{tag_of}
-use Rattle.model.specs.contracts.Assembled.{the_type as assembled-type}
 use Rattle.logbuffer.specs.Assembler.{join_of}
 use Rattle.logbuffer.specs.Whole.{data_length, whole_frame}
 use Rattle.logbuffer.proofs.Whole.{whole-as}
@@ -28,17 +25,15 @@ use Rattle.model.specs.declared.Reading.{Reading}
 use Rattle.model.specs.declared.Frame.TheVariants.{Unsound, Padding, Data}
 use Rattle.model.specs.declared.ReadVerdict.{ReadVerdict}
 use Rattle.model.specs.declared.ReadVerdict.TheVariants.{Read}
-use Rattle.model.specs.declared.Verdict.TheVariants.{Pass}
 use Rattle.model.specs.declared.FrameLength.{FrameLength}
 use Rattle.model.specs.declared.FrameLength.TheVariants.{Free, Writing, Finished}
 use Rattle.model.specs.declared.Polled.{Polled}
-use Rattle.model.specs.declared.Polled.TheVariants.{Fragments, Refused as PollRefused}
 use Rattle.model.specs.declared.Error.{Error}
 use Rattle.model.specs.declared.Assembled.{Assembled}
-use Rattle.model.specs.declared.Assembled.TheVariants.{Nothing, Fragment, Message, Refused as AssemblyRefused}
+use Rattle.model.specs.declared.Assembled.TheVariants.{Nothing, Fragment, Message}
 use Rattle.model.specs.declared.Joining.{Joining}
 use Rattle.model.specs.declared.Joining.TheVariants.{Through, Ignore, Full, TooLong, Join, Complete}
-use Rattle.model.specs.declared.Replayed.TheVariants.{InLog, InBuffer, End, Refused as ReplayRefused}
+use Rattle.model.specs.declared.Replayed.TheVariants.{InLog, InBuffer, End}
 use Rattle.model.specs.Bytes.{long, u32}
 use Rattle.model.specs.DataFrameHeader.{header_at}
 use Rattle.model.specs.FrameDescriptor.{align, is_finished, length_at, unsound_length, frame_by, frame_at, flags_at, begins, ends}
@@ -312,22 +307,22 @@ module _ (r : LogRecord) (log : List ℕ) (s : ReplayState) (n : ℕ) (sound-so 
       and_no true = refl
       and_no false = refl
 
-  let-in : Read ≡ readable (good_entries 2 1) v (length log) i Read
+  let-in : (Ok Read) ≡ readable (good_entries 2 1) v (length log) i (Ok Read)
   let-in =
       let g : good_position v p ≡ true = in-range v p p refl high d.p-32 in
-      position-by (good_entries 2 1) v (length log) i true g refl sound-so is_open Read
+      position-by (good_entries 2 1) v (length log) i true g refl sound-so is_open (Ok Read)
 
-  judged : Read ≡ poll_verdict v log i (good_entries 2 1) T 1
+  judged : (Ok Read) ≡ poll_verdict v log i (good_entries 2 1) T 1
   judged = poll-by v log i (good_entries 2 1) T 1 false no-unsound let-in
 
   abbrev moved : Image
   moved = moved_to i (pos (p + align n))
 
-  pub data-poll : poll_one r log i ≡ record { answer = Fragments 1 1; next = moved; slots = pos (p % T + 32) ∷ pos (n - 32) ∷ [] }
+  pub data-poll : poll_one r log i ≡ record { answer = Ok (record { fragments = 1; entries = 1 }); next = moved; slots = pos (p % T + 32) ∷ pos (n - 32) ∷ [] }
   unfolding poll_of laid numbers
   data-poll =
-      ap₂ (λ (w : Walked) (x : ReadVerdict). poll_reply i (pos 0 ∷ pos 0 ∷ []) w x) walked (sym judged)
-      ∙ ap (λ (m : ℕ). record { answer = Fragments 1 1; next = moved_to i (pos (p + m)); slots = pos (p % T + 32) ∷ pos (n - 32) ∷ [] }) (let z : align n + 0 ≡ align n = omega arith in z)
+      ap₂ (λ (w : Walked) (x : Result ReadVerdict Error). poll_reply i (pos 0 ∷ pos 0 ∷ []) w x) walked (sym judged)
+      ∙ ap (λ (m : ℕ). record { answer = Ok (record { fragments = 1; entries = 1 }); next = moved_to i (pos (p + m)); slots = pos (p % T + 32) ∷ pos (n - 32) ∷ [] }) (let z : align n + 0 ≡ align n = omega arith in z)
 
   -- ---- and the assembler is given that frame
 
@@ -335,7 +330,7 @@ module _ (r : LogRecord) (log : List ℕ) (s : ReplayState) (n : ℕ) (sound-so 
     abbrev joined· : Assembly
     joined· = joined_at s.sessions s.buffer (drop (k * T + p % T) log) (p % T)
 
-    passes : assemble_verdict v log (length s.buffer) k (p % T) ≡ Pass
+    passes : assemble_verdict v log (length s.buffer) k (p % T) ≡ Ok tt
     unfolding assemble_verdict
     passes =
         let q = data-says (drop (k * T + p % T) log) (T - p % T) n seen in
@@ -351,23 +346,23 @@ module _ (r : LogRecord) (log : List ℕ) (s : ReplayState) (n : ℕ) (sound-so 
     data-given = ap (assemble_by s.sessions s.buffer (drop (k * T + p % T) log) (p % T)) passes
 
     -- the turn by a poll's reply
-    abbrev by-poll : PollReply → Polled → Turned
-    by-poll y (PollRefused e) = stops s (ReplayRefused e)
-    by-poll y (Fragments a m) =
-        cond (eqb m 0)
-        (cond (eqb (long y.next.position) p) (stops s End) (goes_on (record { image = y.next; sessions = s.sessions; buffer = s.buffer })))
+    abbrev by-poll : PollReply → Result Polled Error → Turned
+    by-poll y (Err e) = stops s (Err e)
+    by-poll y (Ok polled) =
+        cond (eqb polled.entries 0)
+        (cond (eqb (long y.next.position) p) (stops s (Ok End)) (goes_on (record { image = y.next; sessions = s.sessions; buffer = s.buffer })))
         (fragment_turn (k * T) s
         (assembled_to y.next (assemble_of r log s.sessions s.buffer (pos k) (pos (natural (get_or y.slots 0 (pos 0)) - 32))))
         (assemble_of r log s.sessions s.buffer (pos k) (pos (natural (get_or y.slots 0 (pos 0)) - 32))).answer)
 
-    turn_is : (x : Polled) → turn_said r log s x ≡ by-poll (poll_one r log i) x
-    turn_is (PollRefused e) = refl
-    turn_is (Fragments a m) = refl
+    turn_is : (x : Result Polled Error) → turn_said r log s x ≡ by-poll (poll_one r log i) x
+    turn_is (Err e) = refl
+    turn_is (Ok polled) = refl
 
     -- so a turn here is the fragment's
     pub data-turn : turn_of r log s ≡ fragment_turn (k * T) s (assembled_to moved joined·) joined·.answer
     data-turn =
-        cond-false (is_over r log i.position) (stops s End) _ on
+        cond-false (is_over r log i.position) (stops s (Ok End)) _ on
         ∙ turn_is (poll_one r log i).answer
         ∙ ap (λ (y : PollReply). by-poll y y.answer) data-poll
         ∙ ap (λ (a : Assembly). fragment_turn (k * T) s (assembled_to moved a) a.answer) (ap (λ (x : ℕ). assemble_of r log s.sessions s.buffer (pos k) (pos x)) (let z : p % T + 32 - 32 ≡ p % T = omega arith in z) ∙ data-given)
@@ -382,7 +377,7 @@ through s z flags n part b e = cond-true (begins flags && ends flags) Through _ 
 abbrev pub whole_reply : ℕ → ReplayState → ℕ → NextReply
 whole_reply term s n =
     giving (record { image = moved_to s.image (pos (long s.image.position + align n)); sessions = s.sessions; buffer = s.buffer })
-    (InLog (index_at term (long s.image.position) + 32) (n - 32))
+    (Ok (InLog (index_at term (long s.image.position) + 32) (n - 32)))
 
 module _ (r : LogRecord) (log : List ℕ) (s : ReplayState) (n : ℕ) (sound-so : sound (reading r) (length log) ≡ true) (is_open : s.image.closed ≡ false) (lent-so : length s.buffer ≤ 2147483647)
     (w : WholeAt log (reading r).term (stop_at (reading r)) (long s.image.position) n) where
@@ -395,21 +390,21 @@ module _ (r : LogRecord) (log : List ℕ) (s : ReplayState) (n : ℕ) (sound-so 
   abbrev x· : ℕ
   x· = index_at (reading r).term (long s.image.position)
 
-  joins : joined_at s.sessions s.buffer (drop x· log) (p· % T·) ≡ record { answer = Fragment (p· % T· + 32) (n - 32); next = s.sessions; buffer = s.buffer }
+  joins : joined_at s.sessions s.buffer (drop x· log) (p· % T·) ≡ record { answer = Ok (Fragment (p· % T· + 32) (n - 32)); next = s.sessions; buffer = s.buffer }
   joins =
       let q = data-says (drop x· log) (T· - p· % T·) n w.found.frame in
       ap (joined s.sessions s.buffer (drop x· log) (p· % T·)) (through s.sessions _ (flags_at (drop x· log)) _ _ w.begins-so w.ends_so)
-      ∙ ap (λ (x : ℕ). record { answer = Fragment (p· % T· + 32) (x - 32); next = s.sessions; buffer = s.buffer }) (sym q.word)
+      ∙ ap (λ (x : ℕ). record { answer = Ok (Fragment (p· % T· + 32) (x - 32)); next = s.sessions; buffer = s.buffer }) (sym q.word)
 
-  whole-turn : turn_of r log s ≡ stops (whole_reply T· s n).next (InLog (x· + 32) (n - 32))
+  whole-turn : turn_of r log s ≡ stops (whole_reply T· s n).next (Ok (InLog (x· + 32) (n - 32)))
   whole-turn =
       data-turn r log s n sound-so is_open w.found lent-so
       ∙ ap (λ (a : Assembly). fragment_turn (partition_of p· T· * T·) s (assembled_to (moved_to s.image (pos (p· + align n))) a) a.answer) joins
-      ∙ ap (λ (x : ℕ). stops (whole_reply T· s n).next (InLog x (n - 32))) (let y : partition_of p· T· * T· + (p· % T· + 32) ≡ x· + 32 = omega arith in y)
+      ∙ ap (λ (x : ℕ). stops (whole_reply T· s n).next (Ok (InLog x (n - 32)))) (let y : partition_of p· T· * T· + (p· % T· + 32) ≡ x· + 32 = omega arith in y)
 
   pub whole-next : whole_reply T· s n ≡ next_of r log s
   whole-next =
-      next-stops r log s _ (sym whole-turn) (suc (3 * T·)) (omega arith) refl ∙ next-from r log s lent-so
+      next-stops r log s _ (sym whole-turn) (suc (3 * T·)) (omega arith) (Ok (InLog (x· + 32) (n - 32))) refl ∙ next-from r log s lent-so
 
 -- the same by the one number that says it
 pub whole_says : (r : LogRecord) (log : List ℕ) (s : ReplayState) (n : ℕ) → whole_of r log s.image (length s.buffer) ≡ n → 0 < n → whole_reply (reading r).term s n ≡ next_of r log s
@@ -497,17 +492,15 @@ module _ (i : Image) (v : Reading) (n lent : ℕ) where
 
 -- ---- a fragment given to the assembler's core
 
-pub kept-refused : (s t : Sessions) (a : Assembled) (e : Error) → a ≡ AssemblyRefused e → s ≡ kept_as s t a
-kept-refused s t a e h = ap (kept_as s t) (sym h)
-
-pub kept-else : (s t : Sessions) (a : Assembled) → OneOf (0 ∷ 1 ∷ 2 ∷ []) (tag_of assembled-type a) → t ≡ kept_as s t a
-kept-else s t Nothing h = refl
-kept-else s t (Fragment at n) h = refl
-kept-else s t (Message at n) h = refl
-kept-else s t (AssemblyRefused e) h = absurd (⊎_elim (λ e. omega arith) (⊎_elim (λ e. omega arith) (λ e. omega arith)) h)
+-- the library's question, by the definition
+pub refused-is : (a : Result Assembled Error) → is_err a ≡ is_refused a
+refused-is (Ok Nothing) = refl
+refused-is (Ok (Fragment at n)) = refl
+refused-is (Ok (Message at n)) = refl
+refused-is (Err e) = refl
 
 -- what passes through is the body that was asked for
-passes-through : (at n part a m : ℕ) (x : Joining) → assembled_by at n part x ≡ Fragment a m → (a ≡ at) × (m ≡ n)
+passes-through : (at n part a m : ℕ) (x : Joining) → assembled_by at n part x ≡ Ok (Fragment a m) → (a ≡ at) × (m ≡ n)
 passes-through at n part a m Through h = (cc, cc)
 passes-through at n part a m Ignore h = absurd (let z : ◌≡◌ {A = ℕ} 0 1 = cc in omega arith)
 passes-through at n part a m Full h = absurd (let z : ◌≡◌ {A = ℕ} 0 1 = cc in omega arith)
@@ -526,11 +519,11 @@ ids-long s session n (Join k from) = length-set s.ids k session
 ids-long s session n (Complete k from) = length-set s.ids k session
 
 -- the turn by the core's assembly, told by the index at which the frame lies
-abbrev pub placed_turn : ReplayState → ReplayState → ℕ → ℕ → Assembled → Turned
-placed_turn s t index n Nothing = goes_on t
-placed_turn s t index n (Fragment at m) = stops t (InLog (index + 32) (n - 32))
-placed_turn s t index n (Message at m) = stops t (InBuffer at m)
-placed_turn s t index n (AssemblyRefused e) = stops s (ReplayRefused e)
+abbrev pub placed_turn : ReplayState → ReplayState → ℕ → ℕ → Result Assembled Error → Turned
+placed_turn s t index n (Ok Nothing) = goes_on t
+placed_turn s t index n (Ok (Fragment at m)) = stops t (Ok (InLog (index + 32) (n - 32)))
+placed_turn s t index n (Ok (Message at m)) = stops t (Ok (InBuffer at m))
+placed_turn s t index n (Err e) = stops s (Err e)
 
 module _ (r : LogRecord) (log : List ℕ) (s : ReplayState) (n : ℕ) (sound-so : sound (reading r) (length log) ≡ true) (is_open : s.image.closed ≡ false) (lent-so : length s.buffer ≤ 2147483647)
     (d : DataAt log (reading r).term (stop_at (reading r)) (long s.image.position) n) (ids-16 : length s.sessions.ids ≡ 16) where
@@ -566,26 +559,26 @@ module _ (r : LogRecord) (log : List ℕ) (s : ReplayState) (n : ℕ) (sound-so 
   abbrev moved' : ReplayState
   moved' = assembled_to (moved_to s.image (pos (p' + align n))) J
 
-  pub given-turn : (a : Assembled) → J.answer ≡ a → turn_of r log s ≡ placed_turn s moved' x' n a
+  pub given-turn : (a : Result Assembled Error) → J.answer ≡ a → turn_of r log s ≡ placed_turn s moved' x' n a
   given-turn a e =
       data-turn r log s n sound-so is_open d lent-so
       ∙ ap (λ (y : Assembly). fragment_turn (partition_of p' T' * T') s (assembled_to (moved_to s.image (pos (p' + align n))) y) y.answer) join_is
       ∙ ap (fragment_turn (partition_of p' T' * T') s moved') e ∙ by a (ap (λ (y : Assembly). y.answer) join_is ∙ e)
     where
-      by : (a : Assembled) → (joined_at s.sessions s.buffer (drop x' log) (p' % T')).answer ≡ a → fragment_turn (partition_of p' T' * T') s moved' a ≡ placed_turn s moved' x' n a
-      by Nothing h = refl
-      by (Fragment at m) h =
+      by : (a : Result Assembled Error) → (joined_at s.sessions s.buffer (drop x' log) (p' % T')).answer ≡ a → fragment_turn (partition_of p' T' * T') s moved' a ≡ placed_turn s moved' x' n a
+      by (Ok Nothing) h = refl
+      by (Ok (Fragment at m)) h =
           let frame = drop x' log in
           let q = passes-through (p' % T' + 32) (u32 frame - 32) (length s.buffer / 16) at m (joining s.sessions (session_at frame) (flags_at frame) (u32 frame - 32) (length s.buffer / 16)) h in
           let w = says.word in
           let x : partition_of p' T' * T' + at ≡ x' + 32 = omega (arith, q.0) in
           let y : m ≡ n - 32 = omega (arith, q.1, w) in
-          ap₂ (λ (i j : ℕ). stops moved' (InLog i j)) x y
-      by (Message at m) h = refl
-      by (AssemblyRefused x) h = refl
+          ap₂ (λ (i j : ℕ). stops moved' (Ok (InLog i j))) x y
+      by (Ok (Message at m)) h = refl
+      by (Err x) h = refl
 
   -- a refused fragment leaves the buffer
-  pub refused-left : (e : Error) → J.answer ≡ AssemblyRefused e → J.buffer ≡ s.buffer
+  pub refused-left : (e : Error) → J.answer ≡ Err e → J.buffer ≡ s.buffer
   refused-left e h =
       let g = data-given r log s n sound-so is_open d lent-so ∙ join_is in
       ap (λ (y : Assembly). y.buffer) (sym g) ∙ refused-keeps r log s.sessions s.buffer (pos (partition_of p' T')) (pos (p' % T')) e (ap (λ (y : Assembly). y.answer) g ∙ h)
@@ -602,42 +595,42 @@ module _ (r : LogRecord) (log : List ℕ) (s : ReplayState) (n : ℕ) (sound-so 
       ∙ ids-long s.sessions (session_at frame) (body_length frame) (joining s.sessions (session_at frame) (flags_at frame) (body_length frame) (length s.buffer / 16)) ∙ ids-16
 
 -- the same turn by whether it was refused, and whether it goes on
-pub placed-refused : (s t : ReplayState) (p n : ℕ) (a : Assembled) → is_refused a ≡ true → placed_turn s t p n a ≡ stops s (replied_by p n a)
-placed-refused s t p n Nothing h = absurd (let z : ◌≡◌ {A = ℕ} 0 1 = cc in omega arith)
-placed-refused s t p n (Fragment at m) h = absurd (let z : ◌≡◌ {A = ℕ} 0 1 = cc in omega arith)
-placed-refused s t p n (Message at m) h = absurd (let z : ◌≡◌ {A = ℕ} 0 1 = cc in omega arith)
-placed-refused s t p n (AssemblyRefused e) h = refl
+pub placed-refused : (s t : ReplayState) (p n : ℕ) (a : Result Assembled Error) → is_refused a ≡ true → placed_turn s t p n a ≡ stops s (replied_by p n a)
+placed-refused s t p n (Ok Nothing) h = absurd (let z : ◌≡◌ {A = ℕ} 0 1 = cc in omega arith)
+placed-refused s t p n (Ok (Fragment at m)) h = absurd (let z : ◌≡◌ {A = ℕ} 0 1 = cc in omega arith)
+placed-refused s t p n (Ok (Message at m)) h = absurd (let z : ◌≡◌ {A = ℕ} 0 1 = cc in omega arith)
+placed-refused s t p n (Err e) h = refl
 
-pub placed-stops : (s t : ReplayState) (p n : ℕ) (a : Assembled) → is_refused a ≡ false → elsewhere_on a ≡ false → placed_turn s t p n a ≡ stops t (replied_by p n a)
-placed-stops s t p n Nothing h k = absurd (let z : ◌≡◌ {A = ℕ} 0 1 = cc in omega arith)
-placed-stops s t p n (Fragment at m) h k = refl
-placed-stops s t p n (Message at m) h k = refl
-placed-stops s t p n (AssemblyRefused e) h k = absurd (let z : ◌≡◌ {A = ℕ} 0 1 = cc in omega arith)
+pub placed-stops : (s t : ReplayState) (p n : ℕ) (a : Result Assembled Error) → is_refused a ≡ false → elsewhere_on a ≡ false → placed_turn s t p n a ≡ stops t (replied_by p n a)
+placed-stops s t p n (Ok Nothing) h k = absurd (let z : ◌≡◌ {A = ℕ} 0 1 = cc in omega arith)
+placed-stops s t p n (Ok (Fragment at m)) h k = refl
+placed-stops s t p n (Ok (Message at m)) h k = refl
+placed-stops s t p n (Err e) h k = absurd (let z : ◌≡◌ {A = ℕ} 0 1 = cc in omega arith)
 
-pub placed_on : (s t : ReplayState) (p n : ℕ) (a : Assembled) → elsewhere_on a ≡ true → placed_turn s t p n a ≡ goes_on t
-placed_on s t p n Nothing h = refl
-placed_on s t p n (Fragment at m) h = absurd (let z : ◌≡◌ {A = ℕ} 0 1 = cc in omega arith)
-placed_on s t p n (Message at m) h = absurd (let z : ◌≡◌ {A = ℕ} 0 1 = cc in omega arith)
-placed_on s t p n (AssemblyRefused e) h = absurd (let z : ◌≡◌ {A = ℕ} 0 1 = cc in omega arith)
+pub placed_on : (s t : ReplayState) (p n : ℕ) (a : Result Assembled Error) → elsewhere_on a ≡ true → placed_turn s t p n a ≡ goes_on t
+placed_on s t p n (Ok Nothing) h = refl
+placed_on s t p n (Ok (Fragment at m)) h = absurd (let z : ◌≡◌ {A = ℕ} 0 1 = cc in omega arith)
+placed_on s t p n (Ok (Message at m)) h = absurd (let z : ◌≡◌ {A = ℕ} 0 1 = cc in omega arith)
+placed_on s t p n (Err e) h = absurd (let z : ◌≡◌ {A = ℕ} 0 1 = cc in omega arith)
 
 -- and the sessions
-pub kept-not : (s t : Sessions) (a : Assembled) → is_refused a ≡ false → kept_as s t a ≡ t
-kept-not s t Nothing h = refl
-kept-not s t (Fragment at m) h = refl
-kept-not s t (Message at m) h = refl
-kept-not s t (AssemblyRefused e) h = absurd (let z : ◌≡◌ {A = ℕ} 0 1 = cc in omega arith)
+pub kept-not : (s t : Sessions) (a : Result Assembled Error) → is_refused a ≡ false → kept_as s t a ≡ t
+kept-not s t (Ok Nothing) h = refl
+kept-not s t (Ok (Fragment at m)) h = refl
+kept-not s t (Ok (Message at m)) h = refl
+kept-not s t (Err e) h = absurd (let z : ◌≡◌ {A = ℕ} 0 1 = cc in omega arith)
 
-pub kept-so : (s t : Sessions) (a : Assembled) → is_refused a ≡ true → kept_as s t a ≡ s
-kept-so s t Nothing h = absurd (let z : ◌≡◌ {A = ℕ} 0 1 = cc in omega arith)
-kept-so s t (Fragment at m) h = absurd (let z : ◌≡◌ {A = ℕ} 0 1 = cc in omega arith)
-kept-so s t (Message at m) h = absurd (let z : ◌≡◌ {A = ℕ} 0 1 = cc in omega arith)
-kept-so s t (AssemblyRefused e) h = refl
+pub kept-so : (s t : Sessions) (a : Result Assembled Error) → is_refused a ≡ true → kept_as s t a ≡ s
+kept-so s t (Ok Nothing) h = absurd (let z : ◌≡◌ {A = ℕ} 0 1 = cc in omega arith)
+kept-so s t (Ok (Fragment at m)) h = absurd (let z : ◌≡◌ {A = ℕ} 0 1 = cc in omega arith)
+kept-so s t (Ok (Message at m)) h = absurd (let z : ◌≡◌ {A = ℕ} 0 1 = cc in omega arith)
+kept-so s t (Err e) h = refl
 
-pub refusal-of : (a : Assembled) → is_refused a ≡ true → (e : Error) × (a ≡ AssemblyRefused e)
-refusal-of Nothing h = absurd (let z : ◌≡◌ {A = ℕ} 0 1 = cc in omega arith)
-refusal-of (Fragment at m) h = absurd (let z : ◌≡◌ {A = ℕ} 0 1 = cc in omega arith)
-refusal-of (Message at m) h = absurd (let z : ◌≡◌ {A = ℕ} 0 1 = cc in omega arith)
-refusal-of (AssemblyRefused e) h = (e, refl)
+pub refusal-of : (a : Result Assembled Error) → is_refused a ≡ true → (e : Error) × (a ≡ Err e)
+refusal-of (Ok Nothing) h = absurd (let z : ◌≡◌ {A = ℕ} 0 1 = cc in omega arith)
+refusal-of (Ok (Fragment at m)) h = absurd (let z : ◌≡◌ {A = ℕ} 0 1 = cc in omega arith)
+refusal-of (Ok (Message at m)) h = absurd (let z : ◌≡◌ {A = ℕ} 0 1 = cc in omega arith)
+refusal-of (Err e) h = (e, refl)
 
 -- where the frame of a data frame lies
 pub data-lies : (log : List ℕ) (term stop p n : ℕ) → DataAt log term stop p n → Lies n (term - p % term)

@@ -7,5 +7,6 @@ pub mod Batching
 pub mod Inside
 pub mod Again
 pub mod Counting
+pub mod Walks
 pub mod Taken
 pub mod History

@@ -1,4 +1,6 @@
 -- The batches of a replay give what its replies give: each lays some of the messages that are left, and leaves a replay that gives the rest.
+use Rattle.std.specs.Prelude.{Result, Ok, Err}
+use Rattle.model.specs.declared.Error.{Error}
 use Prim.Native.Nat.{ℕ, zero, suc, ◌+◌, ◌*◌, ◌/◌, ◌≤◌, ◌<◌}
 use mathlib.Core.Path.{◌≡◌, refl, sym, ap, ap₂, ◌∙◌, subst}
 use mathlib.Core.Bool.{cond}
@@ -12,7 +14,7 @@ use lib.IntN.{ℤ, pos}
 use Rattle.model.specs.declared.LogRecord.{LogRecord}
 use Rattle.model.specs.declared.Error.TheVariants.{IllegalArgument}
 use Rattle.model.specs.declared.Replayed.{Replayed}
-use Rattle.model.specs.declared.Replayed.TheVariants.{InLog, InBuffer, End, Refused as ReplayRefused}
+use Rattle.model.specs.declared.Replayed.TheVariants.{InLog, InBuffer, End}
 use Rattle.model.specs.Bytes.{long}
 use Rattle.model.specs.Image.{Image, new_image}
 use Rattle.model.specs.FragmentAssembler.{Sessions, fresh}
@@ -20,8 +22,6 @@ use Rattle.model.specs.Replay.{ReplayState, NextReply, from_start, next_of, stan
 use Rattle.model.specs.Demand.{GivesAll}
 use Rattle.model.proofs.Choice.{split, same?}
 use Rattle.replay.specs.declared.Replay.{Replay}
-use Rattle.replay.specs.declared.Batched.{Batched}
-use Rattle.replay.specs.declared.Batched.TheVariants.{Laid}
 use Rattle.replay.specs.Replays.{state_of}
 use Rattle.replay.specs.Batches.{Batch, laid_at, batch_reply_of, batch_by, batch_from, batch_of}
 use Rattle.replay.specs.History.{Batching, laid_by, laid_out, taken}
@@ -84,7 +84,7 @@ module _ (r : LogRecord) (log : List ℕ) where
   -- from a state the replies give these messages, and then the end at every call
   record Gives (s : ReplayState) (ms : List (List ℕ)) : Type 0 where
     each : (most : ℕ) → length ms < most → replayed most r log s ≡ ms
-    ended : (n : ℕ) → length ms ≤ n → (next_of r log (standing n r log s)).answer ≡ End
+    ended : (n : ℕ) → length ms ≤ n → (next_of r log (standing n r log s)).answer ≡ Ok End
 
   -- one reply and the state that it leaves
   record More (t : ReplayState) (m : List ℕ) (ms : List (List ℕ)) : Type 0 where
@@ -92,25 +92,25 @@ module _ (r : LogRecord) (log : List ℕ) where
     is : ms ≡ m ∷ rest
     after : Gives t rest
 
-  abbrev Step : ReplayState → List (List ℕ) → Replayed → Type 0
-  Step t ms (InLog from n) = More t (take n (drop from log)) ms
-  Step t ms (InBuffer at n) = More t (take n (drop at t.buffer)) ms
-  Step t ms End = (ms ≡ []) × Gives t []
-  Step t ms (ReplayRefused e) = ⊥
+  abbrev Step : ReplayState → List (List ℕ) → Result Replayed Error → Type 0
+  Step t ms (Ok (InLog from n)) = More t (take n (drop from log)) ms
+  Step t ms (Ok (InBuffer at n)) = More t (take n (drop at t.buffer)) ms
+  Step t ms (Ok End) = (ms ≡ []) × Gives t []
+  Step t ms (Err e) = ⊥
 
   module _ (s : ReplayState) (ms : List (List ℕ)) (g : Gives s ms) where
     abbrev t· : ReplayState
     t· = (next_of r log s).next
 
-    all : (a : Replayed) → (next_of r log s).answer ≡ a → (most : ℕ) → length ms ≤ most → message_by log t· a (replayed most r log t·) ≡ ms
+    all : (a : Result Replayed Error) → (next_of r log s).answer ≡ a → (most : ℕ) → length ms ≤ most → message_by log t· a (replayed most r log t·) ≡ ms
     unfolding replayed
-    all a e most h = ap (λ (x : Replayed). message_by log t· x (replayed most r log t·)) (sym e) ∙ g.each (suc most) (omega arith)
+    all a e most h = ap (λ (x : Result Replayed Error). message_by log t· x (replayed most r log t·)) (sym e) ∙ g.each (suc most) (omega arith)
 
-    later : (n : ℕ) → length ms ≤ suc n → (next_of r log (standing n r log t·)).answer ≡ End
+    later : (n : ℕ) → length ms ≤ suc n → (next_of r log (standing n r log t·)).answer ≡ Ok End
     unfolding standing
     later n h = g.ended (suc n) h
 
-    now-ended : ms ≡ [] → (next_of r log s).answer ≡ End
+    now-ended : ms ≡ [] → (next_of r log s).answer ≡ Ok End
     unfolding standing
     now-ended e = g.ended 0 (omega (arith, ap length e))
 
@@ -126,27 +126,27 @@ module _ (r : LogRecord) (log : List ℕ) where
           };
         }
 
-    step : (a : Replayed) → (next_of r log s).answer ≡ a → Step t· ms a
+    step : (a : Result Replayed Error) → (next_of r log s).answer ≡ a → Step t· ms a
     unfolding replayed standing
-    step (InLog from n) e = one_more (take n (drop from log)) (all (InLog from n) e)
-    step (InBuffer at n) e = one_more (take n (drop at t·.buffer)) (all (InBuffer at n) e)
-    step End e = (none, record { each = λ most h. ends most h; ended = λ n h. later n (omega (arith, ap length none)) })
+    step (Ok (InLog from n)) e = one_more (take n (drop from log)) (all (Ok (InLog from n)) e)
+    step (Ok (InBuffer at n)) e = one_more (take n (drop at t·.buffer)) (all (Ok (InBuffer at n)) e)
+    step (Ok End) e = (none, record { each = λ most h. ends most h; ended = λ n h. later n (omega (arith, ap length none)) })
       where
         none : ms ≡ []
-        none = sym (all End e (length ms) (omega arith))
+        none = sym (all (Ok End) e (length ms) (omega arith))
 
         ends : (most : ℕ) → 0 < most → replayed most r log t· ≡ []
         ends zero h = absurd (omega arith)
-        ends (suc most) h = ap (λ (x : Replayed). message_by log (next_of r log t·).next x (replayed most r log (next_of r log t·).next)) (later 0 (omega (arith, ap length none)))
-    step (ReplayRefused x) e =
-        let q = now-ended (sym (all (ReplayRefused x) e (length ms) (omega arith))) in
+        ends (suc most) h = ap (λ (x : Result Replayed Error). message_by log (next_of r log t·).next x (replayed most r log (next_of r log t·).next)) (later 0 (omega (arith, ap length none)))
+    step (Err x) e =
+        let q = now-ended (sym (all (Err x) e (length ms) (omega arith))) in
         let z : ◌≡◌ {A = ℕ} 0 1 = cc in omega arith
 
     -- row 1 let the lent buffer pass
     passed : length s.buffer ≤ 2147483647
     passed =
         split (length s.buffer) 2147483647 (λ h. h)
-        (λ h. absurd (step (ReplayRefused IllegalArgument) (sym (ap (λ (y : NextReply). y.answer) (next-refused r log s h)))))
+        (λ h. absurd (step (Err IllegalArgument) (sym (ap (λ (y : NextReply). y.answer) (next-refused r log s h)))))
 
   -- ---- one batch
 
@@ -154,7 +154,7 @@ module _ (r : LogRecord) (log : List ℕ) where
   record Lays (left : ℕ) (slots : List ℕ) (i : ℕ) (ms : List (List ℕ)) (b : Batch) : Type 0 where
     many : ℕ
     rest : List (List ℕ)
-    answer : b.answer ≡ Laid (i + many)
+    answer : b.answer ≡ Ok (i + many)
     cut : ms ≡ laid_out log b.next.buffer b.numbers i many ++ rest
     after : Gives b.next rest
     kept : (j : ℕ) → j < 4 * i → get_or b.numbers j 0 ≡ get_or slots j 0
@@ -162,9 +162,9 @@ module _ (r : LogRecord) (log : List ℕ) where
 
   by-reply : (left : ℕ) (t : ReplayState) (slots : List ℕ) (i : ℕ) (ms : List (List ℕ)) (go : List ℕ → Batch) → 4 * (i + suc left) ≤ length slots
       → ((out : List ℕ) (rest : List (List ℕ)) → Gives t rest → 4 * (i + 1 + left) ≤ length out → Lays left out (i + 1) rest (go out))
-      → (a : Replayed) → Step t ms a → Lays (suc left) slots i ms (batch_by t slots i a go)
+      → (a : Result Replayed Error) → Step t ms a → Lays (suc left) slots i ms (batch_by t slots i a go)
   unfolding laid_out
-  by-reply left t slots i ms go h ih (InLog from n) x =
+  by-reply left t slots i ms go h ih (Ok (InLog from n)) x =
       let p = long t.image.position in
       let out = laid_at slots i 1 from n p in
       let l : 4 * i + 4 ≤ length slots = omega arith in
@@ -173,7 +173,7 @@ module _ (r : LogRecord) (log : List ℕ) where
       record {
         many = suc y.many;
         rest = y.rest;
-        answer = y.answer ∙ ap Laid (let e : i + 1 + y.many ≡ i + suc y.many = omega arith in e);
+        answer = y.answer ∙ ap Ok (let e : i + 1 + y.many ≡ i + suc y.many = omega arith in e);
         cut = x.is
             ∙ ap₂ (λ (m : List ℕ) (rest : List (List ℕ)). m ∷ rest)
             (message-as log b.next.buffer 1 (get_or b.numbers (4 * i) 0) from (get_or b.numbers (4 * i + 1) 0) n (get_or b.numbers (4 * i + 2) 0)
@@ -185,7 +185,7 @@ module _ (r : LogRecord) (log : List ℕ) where
         kept = λ j k. y.kept j (omega arith) ∙ laid-else slots i 1 from n p l j k;
         some = λ _ z. absurd (omega arith);
       }
-  by-reply left t slots i ms go h ih (InBuffer at n) x =
+  by-reply left t slots i ms go h ih (Ok (InBuffer at n)) x =
       let p = long t.image.position in
       let l : 4 * i + 4 ≤ length slots = omega arith in
       record {
@@ -200,17 +200,17 @@ module _ (r : LogRecord) (log : List ℕ) where
         kept = λ j k. laid-else slots i 2 at n p l j k;
         some = λ _ z. absurd (omega arith);
       }
-  by-reply left t slots i ms go h ih End x =
+  by-reply left t slots i ms go h ih (Ok End) x =
       record {
         many = 0;
         rest = [];
-        answer = ap Laid (let e : i ≡ i + 0 = omega arith in e);
+        answer = ap Ok (let e : i ≡ i + 0 = omega arith in e);
         cut = x.0;
         after = x.1;
         kept = λ j k. refl;
         some = λ _ z. x.0;
       }
-  by-reply left t slots i ms go h ih (ReplayRefused e) x = absurd x
+  by-reply left t slots i ms go h ih (Err e) x = absurd x
 
   lays : (left : ℕ) (s : ReplayState) (slots : List ℕ) (i : ℕ) (ms : List (List ℕ)) → Gives s ms → 4 * (i + left) ≤ length slots → Lays left slots i ms (batch_from left r log s slots i)
   unfolding batch_from laid_out
@@ -218,7 +218,7 @@ module _ (r : LogRecord) (log : List ℕ) where
       record {
         many = 0;
         rest = ms;
-        answer = ap Laid (let e : i ≡ i + 0 = omega arith in e);
+        answer = ap Ok (let e : i ≡ i + 0 = omega arith in e);
         cut = refl;
         after = g;
         kept = λ j k. refl;
@@ -266,7 +266,7 @@ module _ (r : LogRecord) (log : List ℕ) where
       grown : taken x (suc n) ≡ taken x n ++ out
       unfolding taken
       grown =
-          ap (λ (b : Batched). taken x n ++ laid_out log (x.buffer (suc n)) (x.numbers n) 0 (laid_by b)) batch.answer
+          ap (λ (b : Result ℕ Error). taken x n ++ laid_out log (x.buffer (suc n)) (x.numbers n) 0 (laid_by b)) batch.answer
           ∙ ap (λ (k : ℕ). taken x n ++ laid_out log (x.buffer (suc n)) (x.numbers n) 0 k) (let e : 0 + batch.many ≡ batch.many = omega arith in e)
 
       grown-long : length (taken x (suc n)) ≡ length (taken x n) + batch.many
@@ -306,12 +306,12 @@ module _ (r : LogRecord) (log : List ℕ) where
     pub all-taken : (n : ℕ) → length ms ≤ n → taken x n ≡ ms
     all-taken n h = all-out n (⊎_elim (λ k. no_length (at n).rest (omega (arith, long-cut n))) (λ e. e) (at n).far)
 
-    pub none-laid : (n : ℕ) → taken x n ≡ ms → (x.reply n).answer ≡ Laid 0
+    pub none-laid : (n : ℕ) → taken x n ≡ ms → (x.reply n).answer ≡ Ok 0
     none-laid n e =
-        (batch n (at n)).answer ∙ ap Laid (let z : 0 + (batch n (at n)).many ≡ 0 = omega (arith, long-cut n, ap length e, long· n (at n)) in z)
+        (batch n (at n)).answer ∙ ap Ok (let z : 0 + (batch n (at n)).many ≡ 0 = omega (arith, long-cut n, ap length e, long· n (at n)) in z)
 
-    pub laid_none : (n : ℕ) → (x.reply n).answer ≡ Laid 0 → taken x n ≡ ms
+    pub laid_none : (n : ℕ) → (x.reply n).answer ≡ Ok 0 → taken x n ≡ ms
     laid_none n e =
-        let q : Laid (0 + (batch n (at n)).many) ≡ Laid 0 = sym (batch n (at n)).answer ∙ e in
+        let q : Ok (0 + (batch n (at n)).many) ≡ Ok 0 = sym (batch n (at n)).answer ∙ e in
         let z : 0 + (batch n (at n)).many ≡ 0 = cc in
         all-out n (nothing_left n (at n) (omega arith))

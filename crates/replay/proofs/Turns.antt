@@ -1,4 +1,5 @@
 -- One turn of a replay: by the poll's answer, by the assembler's, and before what follows it.
+use Rattle.std.specs.Prelude.{Option, Some, None, Result, Ok, Err, ⊤}
 use mathlib.Core.Path.{◌≡◌, refl, sym, ap, ap₂, ◌∙◌}
 use mathlib.Core.Bool.{Bool, true, false, cond}
 use mathlib.Core.List.{List, []}
@@ -9,18 +10,14 @@ use lib.ListN.{length, drop, get_or}
 use lib.IntN.{ℤ, pos}
 use Rattle.model.specs.declared.LogRecord.{LogRecord}
 use Rattle.model.specs.declared.Polled.{Polled}
-use Rattle.model.specs.declared.Polled.TheVariants.{Fragments, Refused}
 use Rattle.model.specs.declared.Error.{Error}
 use Rattle.model.specs.declared.Error.TheVariants.{IllegalArgument, IllegalRecord}
 use Rattle.model.specs.declared.ReadVerdict.{ReadVerdict}
-use Rattle.model.specs.declared.ReadVerdict.TheVariants.{Refuse as NoRead}
 use Rattle.model.specs.declared.Joining.{Joining}
 use Rattle.model.specs.declared.Joining.TheVariants.{Through, Ignore, Full, TooLong, Join, Complete}
-use Rattle.model.specs.declared.Verdict.{Verdict}
-use Rattle.model.specs.declared.Verdict.TheVariants.{Pass, Refuse}
 use Rattle.model.specs.declared.Assembled.{Assembled}
-use Rattle.model.specs.declared.Assembled.TheVariants.{Nothing, Fragment, Message, Refused as AssemblyRefused}
-use Rattle.model.specs.declared.Replayed.TheVariants.{End, Refused as ReplayRefused}
+use Rattle.model.specs.declared.Assembled.TheVariants.{Nothing, Fragment, Message}
+use Rattle.model.specs.declared.Replayed.TheVariants.{End}
 use Rattle.model.specs.Bytes.{word, long, u32, i32}
 use Rattle.model.specs.FrameDescriptor.{flags_at}
 use Rattle.model.specs.LogBufferDescriptor.{reading_of, reading, sound, partition_of}
@@ -36,23 +33,18 @@ use Rattle.logbuffer.specs.Assembler.{sessions_of}
 use Rattle.replay.specs.declared.Replay.{Replay}
 use Rattle.replay.specs.declared.TurnReply.{TurnReply}
 use Rattle.model.specs.declared.Replayed.{Replayed}
-use Rattle.replay.specs.declared.Counted.TheVariants.{Counts}
 use Rattle.replay.specs.Replays.{turned, Tally, added_to, gives_by, length_by, counted_by, count_from, count_of, state_of, Turned, stops, goes_on, fragment_turn, fragment_given, turn_said, turn_of}
 
--- a reply of the code, by its three parts
-pub turned_as : (t : TurnReply) (b : Bool) (a : Replayed) (p : Replay) (buffer : List ℕ) → (t.on ≡ b) × ((t.answer ≡ a) × (t.next ≡ p))
-    → turned t buffer ≡ record { on = b; answer = a; next = state_of p buffer }
-turned_as t b a p buffer e = ap (λ (x : Bool). like x t.answer t.next) e.0 ∙ ap₂ (like b) e.1.0 e.1.1
-  where
-    like : Bool → Replayed → Replay → Turned
-    like x y z = record { on = x; answer = y; next = state_of z buffer }
+-- a reply of the code that stops
+pub turned_as : (t : TurnReply) (a : Result Replayed Error) (p : Replay) (buffer : List ℕ) → (t.answer ≡ Some a) × (t.next ≡ p) → turned t buffer ≡ stops (state_of p buffer) a
+turned_as t a p buffer e = ap₂ {C = Turned} (λ (x : Option (Result Replayed Error)) (q : Replay). record { answer = x; next = state_of q buffer }) e.0 e.1
 
 -- ---- a poll that answers fragments judged the record
 
-refused_none : (w : Walked) (x : ReadVerdict) (e : Error) (n m : ℕ) → NoRead e ≡ x → polled_by w x ≡ Fragments n m → ⊥
-refused_none w x e n m q h = let k : Refused e ≡ Fragments n m = ap (polled_by w) q ∙ h in let z : ◌≡◌ {A = ℕ} 0 1 = cc in omega arith
+refused_none : (w : Walked) (x : Result ReadVerdict Error) (e : Error) (n m : ℕ) → Err e ≡ x → polled_by w x ≡ Ok (record { fragments = n; entries = m }) → ⊥
+refused_none w x e n m q h = let k : Err e ≡ Ok (record { fragments = n; entries = m }) = ap (polled_by w) q ∙ h in let z : ◌≡◌ {A = ℕ} 0 1 = cc in omega arith
 
-pub polled-sound : (r : LogRecord) (log : List ℕ) (i : Image) (n m : ℕ) → (poll_one r log i).answer ≡ Fragments n m → sound (reading r) (length log) ≡ true
+pub polled-sound : (r : LogRecord) (log : List ℕ) (i : Image) (n m : ℕ) → (poll_one r log i).answer ≡ Ok (record { fragments = n; entries = m }) → sound (reading r) (length log) ≡ true
 unfolding poll_of poll_verdict
 polled-sound r log i n m h = go (good_entries 2 1) (sound (reading r) (length log)) refl refl
   where
@@ -66,23 +58,23 @@ polled-sound r log i n m h = go (good_entries 2 1) (sound (reading r) (length lo
 
 -- ---- the assembler's answer
 
-pub fragment-is : (r : LogRecord) (log : List ℕ) (s : ReplayState) (i : Image) (k : ℕ) (entry p o : ℤ) (base : ℕ) (t : Sessions) (b : List ℕ) (a : Assembled)
+pub fragment-is : (r : LogRecord) (log : List ℕ) (s : ReplayState) (i : Image) (k : ℕ) (entry p o : ℤ) (base : ℕ) (t : Sessions) (b : List ℕ) (a : Result Assembled Error)
     → p ≡ pos k → o ≡ pos (natural entry - 32) → base ≡ k * (reading r).term
     → a ≡ (assemble_of r log s.sessions s.buffer p o).answer → t ≡ (assemble_of r log s.sessions s.buffer p o).next → b ≡ (assemble_of r log s.sessions s.buffer p o).buffer
     → fragment_turn base s (record { image = i; sessions = t; buffer = b }) a ≡ fragment_given r log s i k entry
 fragment-is r log s i k entry p o base t b a ep eo eb ea et ew =
     let made : ℤ → ℤ → Assembly = λ (x y : ℤ). assemble_of r log s.sessions s.buffer x y in
     ap₂ (λ (y : Sessions) (z : List ℕ). fragment_turn base s (record { image = i; sessions = y; buffer = z }) a) et ew
-    ∙ ap₂ (λ (x : ℕ) (y : Assembled). fragment_turn x s (assembled_to i (made p o)) y) eb ea
+    ∙ ap₂ (λ (x : ℕ) (y : Result Assembled Error). fragment_turn x s (assembled_to i (made p o)) y) eb ea
     ∙ ap₂ (λ (x y : ℤ). fragment_turn (k * (reading r).term) s (assembled_to i (made x y)) (made x y).answer) ep eo
 
 -- a refused fragment leaves the lent buffer as it was
 pub refused-keeps : (r : LogRecord) (log : List ℕ) (s : Sessions) (buffer : List ℕ) (p o : ℤ) (e : Error)
-    → (assemble_of r log s buffer p o).answer ≡ AssemblyRefused e → (assemble_of r log s buffer p o).buffer ≡ buffer
+    → (assemble_of r log s buffer p o).answer ≡ Err e → (assemble_of r log s buffer p o).buffer ≡ buffer
 unfolding assemble_of
 refused-keeps r log s buffer p o e h = go (assemble_verdict (reading r) log (length buffer) (word p) (word o)) h
   where
-    joined_keeps : (at n part : ℕ) (body : List ℕ) (x : Joining) → assembled_by at n part x ≡ AssemblyRefused e → buffer_by buffer body x ≡ buffer
+    joined_keeps : (at n part : ℕ) (body : List ℕ) (x : Joining) → assembled_by at n part x ≡ Err e → buffer_by buffer body x ≡ buffer
     joined_keeps at n part body Through h = refl
     joined_keeps at n part body Ignore h = refl
     joined_keeps at n part body Full h = refl
@@ -90,9 +82,9 @@ refused-keeps r log s buffer p o e h = go (assemble_verdict (reading r) log (len
     joined_keeps at n part body (Join k from) h = absurd (let z : ◌≡◌ {A = ℕ} 0 1 = cc in omega arith)
     joined_keeps at n part body (Complete k from) h = absurd (let z : ◌≡◌ {A = ℕ} 0 1 = cc in omega arith)
 
-    go : (x : Verdict) → (assemble_by s buffer (drop (word p * (reading r).term + word o) log) (word o) x).answer ≡ AssemblyRefused e → (assemble_by s buffer (drop (word p * (reading r).term + word o) log) (word o) x).buffer ≡ buffer
-    go (Refuse y) h = refl
-    go Pass h =
+    go : (x : Result ⊤ Error) → (assemble_by s buffer (drop (word p * (reading r).term + word o) log) (word o) x).answer ≡ Err e → (assemble_by s buffer (drop (word p * (reading r).term + word o) log) (word o) x).buffer ≡ buffer
+    go (Err y) h = refl
+    go (Ok _) h =
         let frame = drop (word p * (reading r).term + word o) log in
         joined_keeps (word o + 32) (u32 frame - 32) (length buffer / 16) _ (joining s (i32 (drop 12 frame)) (flags_at frame) (u32 frame - 32) (length buffer / 16)) h
 
@@ -106,14 +98,14 @@ module _ (r : LogRecord) (log : List ℕ) (s : ReplayState) (n m : ℕ) where
   Term = (reading r).term
 
   pub turn-fragment : ¬ (m ≡ 0)
-      → fragment_turn (partition_of P Term * Term) s (assembled_to (poll_one r log s.image).next (assemble_one r log s)) (assemble_one r log s).answer ≡ turn_said r log s (Fragments n m)
+      → fragment_turn (partition_of P Term * Term) s (assembled_to (poll_one r log s.image).next (assemble_one r log s)) (assemble_one r log s).answer ≡ turn_said r log s (Ok (record { fragments = n; entries = m }))
   turn-fragment e = sym (eq_no m 0 _ _ e)
 
-  pub turn-quiet : m ≡ 0 → long (poll_one r log s.image).next.position ≡ P → stops s End ≡ turn_said r log s (Fragments n m)
+  pub turn-quiet : m ≡ 0 → long (poll_one r log s.image).next.position ≡ P → stops s (Ok End) ≡ turn_said r log s (Ok (record { fragments = n; entries = m }))
   turn-quiet e q = sym (eq_yes m 0 _ _ e ∙ eq_yes (long (poll_one r log s.image).next.position) P _ _ q)
 
   pub turn-padding : m ≡ 0 → ¬ (long (poll_one r log s.image).next.position ≡ P)
-      → goes_on (record { image = (poll_one r log s.image).next; sessions = s.sessions; buffer = s.buffer }) ≡ turn_said r log s (Fragments n m)
+      → goes_on (record { image = (poll_one r log s.image).next; sessions = s.sessions; buffer = s.buffer }) ≡ turn_said r log s (Ok (record { fragments = n; entries = m }))
   turn-padding e q = sym (eq_yes m 0 _ _ e ∙ eq_no (long (poll_one r log s.image).next.position) P _ _ q)
 
   -- the fragment that came, by the code's own numbers
@@ -126,68 +118,72 @@ module _ (r : LogRecord) (log : List ℕ) (s : ReplayState) (n m : ℕ) where
 
 -- ---- a body that passes through lies in the log
 
-pass-through : (a n part at m : ℕ) (x : Joining) → assembled_by a n part x ≡ Fragment at m → a ≡ at
+pass-through : (a n part at m : ℕ) (x : Joining) → assembled_by a n part x ≡ Ok (Fragment at m) → a ≡ at
 pass-through a n part at m Through h = ap offset h
   where
-    offset : Assembled → ℕ
-    offset (Fragment i j) = i
-    offset Nothing = 0
-    offset (Message i j) = 0
-    offset (AssemblyRefused e) = 0
+    offset : Result Assembled Error → ℕ
+    offset (Ok (Fragment i j)) = i
+    offset (Ok Nothing) = 0
+    offset (Ok (Message i j)) = 0
+    offset (Err e) = 0
 pass-through a n part at m Ignore h = absurd (let x : ◌≡◌ {A = ℕ} 0 1 = cc in omega arith)
 pass-through a n part at m Full h = absurd (let x : ◌≡◌ {A = ℕ} 0 1 = cc in omega arith)
 pass-through a n part at m (TooLong k) h = absurd (let x : ◌≡◌ {A = ℕ} 0 1 = cc in omega arith)
 pass-through a n part at m (Join k from) h = absurd (let x : ◌≡◌ {A = ℕ} 0 1 = cc in omega arith)
 pass-through a n part at m (Complete k from) h = absurd (let x : ◌≡◌ {A = ℕ} 0 1 = cc in omega arith)
 
-passes : (s : Sessions) (buffer frame : List ℕ) (o at n : ℕ) → (assemble_by s buffer frame o Pass).answer ≡ Fragment at n → o + 32 ≡ at
+passes : (s : Sessions) (buffer frame : List ℕ) (o at n : ℕ) → (assemble_by s buffer frame o (Ok tt)).answer ≡ Ok (Fragment at n) → o + 32 ≡ at
 passes s buffer frame o at n h =
     pass-through (o + 32) (u32 frame - 32) (length buffer / 16) at n (joining s (i32 (drop 12 frame)) (flags_at frame) (u32 frame - 32) (length buffer / 16)) h
 
-pub fragment-in : (r : LogRecord) (log : List ℕ) (s : Sessions) (buffer : List ℕ) (k o at n : ℕ) → (assemble_of r log s buffer (pos k) (pos o)).answer ≡ Fragment at n
+pub fragment-in : (r : LogRecord) (log : List ℕ) (s : Sessions) (buffer : List ℕ) (k o at n : ℕ) → (assemble_of r log s buffer (pos k) (pos o)).answer ≡ Ok (Fragment at n)
     → k * (reading r).term + at ≤ length log
 unfolding assemble_of
 fragment-in r log s buffer k o at n h = go (assemble_verdict (reading r) log (length buffer) k o) refl h
   where
-    go : (x : Verdict) → assemble_verdict (reading r) log (length buffer) k o ≡ x → (assemble_by s buffer (drop (k * (reading r).term + o) log) o x).answer ≡ Fragment at n
+    go : (x : Result ⊤ Error) → assemble_verdict (reading r) log (length buffer) k o ≡ x → (assemble_by s buffer (drop (k * (reading r).term + o) log) o x).answer ≡ Ok (Fragment at n)
         → k * (reading r).term + at ≤ length log
-    go (Refuse e) q h = absurd (let x : ◌≡◌ {A = ℕ} 0 1 = cc in omega arith)
-    go Pass q h =
+    go (Err e) q h = absurd (let x : ◌≡◌ {A = ℕ} 0 1 = cc in omega arith)
+    go (Ok _) q h =
         let f = verdict-passed (reading r) log (length buffer) k o q in
         omega (arith, passes s buffer (drop (k * (reading r).term + o) log) o at n h, f.header, f.whole)
 
 -- ---- a turn, and what follows it
 
+abbrev follow_by : Option (Result Replayed Error) → ReplayState → (ReplayState → NextReply) → NextReply
+follow_by None s go = go s
+follow_by (Some a) s go = giving s a
+
 abbrev follow : Turned → (ReplayState → NextReply) → NextReply
-follow t go = cond t.on (go t.next) (giving t.next t.answer)
+follow t go = follow_by t.answer t.next go
 
 -- a choice between turns is followed as the turn chosen is
 follow-cond : (b : Bool) (x y : Turned) (p q : NextReply) (go : ReplayState → NextReply) → p ≡ follow x go → q ≡ follow y go → cond b p q ≡ follow (cond b x y) go
 follow-cond true x y p q go e f = e
 follow-cond false x y p q go e f = f
 
-follow-fragment : (base : ℕ) (s t : ReplayState) (a : Assembled) (go : ReplayState → NextReply) → given_by base s t a go ≡ follow (fragment_turn base s t a) go
-follow-fragment base s t Nothing go = refl
-follow-fragment base s t (Fragment at n) go = refl
-follow-fragment base s t (Message at n) go = refl
-follow-fragment base s t (AssemblyRefused e) go = refl
+follow-fragment : (base : ℕ) (s t : ReplayState) (a : Result Assembled Error) (go : ReplayState → NextReply) → given_by base s t a go ≡ follow (fragment_turn base s t a) go
+follow-fragment base s t (Ok Nothing) go = refl
+follow-fragment base s t (Ok (Fragment at n)) go = refl
+follow-fragment base s t (Ok (Message at n)) go = refl
+follow-fragment base s t (Err e) go = refl
 
-turn-follow : (r : LogRecord) (log : List ℕ) (s : ReplayState) (x : Polled) (go : ReplayState → NextReply) → turn_by r log s x go ≡ follow (turn_said r log s x) go
-turn-follow r log s (Refused e) go = refl
-turn-follow r log s (Fragments n m) go =
-    follow-cond (eqb m 0) _ _ _ _ go
-    (follow-cond (eqb (long (poll_one r log s.image).next.position) (long s.image.position)) (stops s End) (goes_on (record { image = (poll_one r log s.image).next; sessions = s.sessions; buffer = s.buffer })) (giving s End) _ go refl refl)
+turn-follow : (r : LogRecord) (log : List ℕ) (s : ReplayState) (x : Result Polled Error) (go : ReplayState → NextReply) → turn_by r log s x go ≡ follow (turn_said r log s x) go
+turn-follow r log s (Err e) go = refl
+turn-follow r log s (Ok polled) go =
+    follow-cond (eqb polled.entries 0) _ _ _ _ go
+    (follow-cond (eqb (long (poll_one r log s.image).next.position) (long s.image.position)) (stops s (Ok End)) (goes_on (record { image = (poll_one r log s.image).next; sessions = s.sessions; buffer = s.buffer })) (giving s (Ok End)) _ go refl refl)
     (follow-fragment (partition_of (long s.image.position) (reading r).term * (reading r).term) s (assembled_to (poll_one r log s.image).next (assemble_one r log s)) (assemble_one r log s).answer go)
 
 module _ (r : LogRecord) (log : List ℕ) (s : ReplayState) where
-  pub next-none : (left : ℕ) → left ≡ 0 → giving s End ≡ next_from left r log s
+  pub next-none : (left : ℕ) → left ≡ 0 → giving s (Ok End) ≡ next_from left r log s
   unfolding next_from
   next-none left e = sym (ap (λ (n : ℕ). next_from n r log s) e)
 
   next-turn : (n : ℕ) → next_from (suc n) r log s ≡ follow (turn_of r log s) (λ (t : ReplayState). next_from n r log t)
   unfolding next_from
   next-turn n =
-      follow-cond (is_over r log s.image.position) (stops s End) (turn_said r log s (poll_one r log s.image).answer) (giving s End) _ (λ (t : ReplayState). next_from n r log t) refl
+      follow-cond (is_over r log s.image.position) (stops s (Ok End)) (turn_said r log s (poll_one r log s.image).answer) (giving s (Ok End)) _ (λ (t : ReplayState). next_from n r log t) refl
       (turn-follow r log s (poll_one r log s.image).answer (λ (t : ReplayState). next_from n r log t))
 
   module _ (t : Turned) (e : t ≡ turn_of r log s) (left : ℕ) (h : 0 < left) where
@@ -196,20 +192,20 @@ module _ (r : LogRecord) (log : List ℕ) (s : ReplayState) where
         let l : suc (left - 1) ≡ left = omega arith in
         ap (λ (x : Turned). follow x (λ (u : ReplayState). next_from (left - 1) r log u)) e ∙ sym (next-turn (left - 1)) ∙ ap (λ (n : ℕ). next_from n r log s) l
 
-    pub next-stops : t.on ≡ false → giving t.next t.answer ≡ next_from left r log s
-    next-stops f = sym (cond-false t.on (next_from (left - 1) r log t.next) (giving t.next t.answer) f) ∙ turns
+    pub next-stops : (a : Result Replayed Error) → t.answer ≡ Some a → giving t.next a ≡ next_from left r log s
+    next-stops a f = sym (ap (λ (x : Option (Result Replayed Error)). follow_by x t.next (λ (u : ReplayState). next_from (left - 1) r log u)) f) ∙ turns
 
-    pub next-goes : t.on ≡ true → next_from (left - 1) r log t.next ≡ next_from left r log s
-    next-goes f = sym (cond-true t.on (next_from (left - 1) r log t.next) (giving t.next t.answer) f) ∙ turns
+    pub next-goes : t.answer ≡ None → next_from (left - 1) r log t.next ≡ next_from left r log s
+    next-goes f = sym (ap (λ (x : Option (Result Replayed Error)). follow_by x t.next (λ (u : ReplayState). next_from (left - 1) r log u)) f) ∙ turns
 
   -- row 1, and then the turns
-  pub next-refused : 2147483647 < length s.buffer → giving s (ReplayRefused IllegalArgument) ≡ next_of r log s
+  pub next-refused : 2147483647 < length s.buffer → giving s (Err IllegalArgument) ≡ next_of r log s
   unfolding next_of
-  next-refused h = sym (le-no (length s.buffer) 2147483647 (next_from (suc (3 * (reading r).term)) r log s) (giving s (ReplayRefused IllegalArgument)) h)
+  next-refused h = sym (le-no (length s.buffer) 2147483647 (next_from (suc (3 * (reading r).term)) r log s) (giving s (Err IllegalArgument)) h)
 
   pub next-from : length s.buffer ≤ 2147483647 → next_from (suc (3 * (reading r).term)) r log s ≡ next_of r log s
   unfolding next_of
-  next-from h = sym (le_yes (length s.buffer) 2147483647 (next_from (suc (3 * (reading r).term)) r log s) (giving s (ReplayRefused IllegalArgument)) h)
+  next-from h = sym (le_yes (length s.buffer) 2147483647 (next_from (suc (3 * (reading r).term)) r log s) (giving s (Err IllegalArgument)) h)
 
   pub next-starts : (w : ℕ) → w ≡ word r.term_length → length s.buffer ≤ 2147483647 → next_from (3 * w + 1) r log s ≡ next_of r log s
   unfolding reading_of
@@ -219,7 +215,7 @@ module _ (r : LogRecord) (log : List ℕ) (s : ReplayState) where
 -- ---- a whole log, counted
 
 module _ (r : LogRecord) (log : List ℕ) (s : ReplayState) (messages bytes : ℕ) where
-  pub count_none : (left : ℕ) → left ≡ 0 → ◌≡◌ {A = Tally} (record { answer = Counts messages bytes; buffer = s.buffer }) (count_from left r log s messages bytes)
+  pub count_none : (left : ℕ) → left ≡ 0 → ◌≡◌ {A = Tally} (record { answer = Ok (record { messages = messages; bytes = bytes }); buffer = s.buffer }) (count_from left r log s messages bytes)
   unfolding count_from
   count_none left e = sym (ap (λ (n : ℕ). count_from n r log s messages bytes) e)
 

@@ -1,8 +1,9 @@
 -- Data frames given to the assembler as they lie, one after another, until one gives a reply. `gather-next` (proofs/Gather.antt) says that a replay
 -- goes on behind them as from the first of them.
-use Rattle.std.specs.Prelude.{ℕ, zero, suc, ◌+◌, ◌-◌, ◌%◌, ◌<◌, min, ◌≡◌, Bool, true, false, cond, List, eqb, ℤ, pos, take, drop, set}
+use Rattle.std.specs.Prelude.{ℕ, zero, suc, ◌+◌, ◌-◌, ◌%◌, ◌<◌, min, ◌≡◌, Bool, true, false, cond, List, eqb, ℤ, pos, take, drop, set, Result, Ok, Err}
+use Rattle.model.specs.declared.Error.{Error}
 use Rattle.model.specs.declared.Replayed.{Replayed}
-use Rattle.model.specs.declared.Replayed.TheVariants.{InLog, InBuffer, End, Refused}
+use Rattle.model.specs.declared.Replayed.TheVariants.{InLog, InBuffer, End}
 use Rattle.model.specs.declared.Frame.TheVariants.{Data}
 use Rattle.model.specs.FrameDescriptor.{align, frame_at, flags_at}
 use Rattle.model.specs.FragmentAssembler.{Sessions, Assembly, place_in, session_at}
@@ -22,7 +23,7 @@ pub record Gathering : Type 0 where
   pub position : ℕ
   pub sessions : Sessions
   pub buffer : List ℕ
-  pub answer : Replayed
+  pub answer : Result Replayed Error
 
 -- no data frame, as a walk has it
 abbrev pub no_frame : DataFrame
@@ -46,7 +47,7 @@ abbrev pub at_hand : ℕ → List ℤ → List ℕ → Current → Sessions
 at_hand count ids held c = sessions_as count ids (set held c.place c.bytes)
 
 -- the code's own, by its numbers, and with what is lent
-abbrev pub gathered_as : ℕ → ℕ → ℕ → Replayed → Gathered
+abbrev pub gathered_as : ℕ → ℕ → ℕ → Result Replayed Error → Gathered
 gathered_as count left position answer = record { count = count; left = left; position = position; answer = answer }
 
 abbrev pub gathering_of : Gathered → List ℤ → List ℕ → List ℕ → Gathering
@@ -65,20 +66,20 @@ led_by left p n index s a =
 -- With so many turns left, from a position. A frame that is no data frame is not looked at, a refused one is not passed, and behind one that gives
 -- nothing it goes on.
 unfoldable pub gather_from : ℕ → List ℕ → ℕ → ℕ → ℕ → Sessions → List ℕ → Gathering
-gather_from zero log term stop p s buffer = record { left = zero; position = p; sessions = s; buffer = buffer; answer = End }
+gather_from zero log term stop p s buffer = record { left = zero; position = p; sessions = s; buffer = buffer; answer = Ok End }
 gather_from (suc left) log term stop p s buffer =
-    cond (eqb (data_at log term stop p) 0) (record { left = suc left; position = p; sessions = s; buffer = buffer; answer = End })
+    cond (eqb (data_at log term stop p) 0) (record { left = suc left; position = p; sessions = s; buffer = buffer; answer = Ok End })
     (cond (is_refused (joined_here log term p s buffer).answer)
     (record { left = suc left; position = p; sessions = s; buffer = (joined_here log term p s buffer).buffer; answer = replied_by (index_at term p) (data_at log term stop p) (joined_here log term p s buffer).answer })
     (cond (elsewhere_on (joined_here log term p s buffer).answer)
     (gather_from left log term stop (p + align (data_at log term stop p)) (joined_here log term p s buffer).next (joined_here log term p s buffer).buffer)
     (record { left = left; position = p + align (data_at log term stop p); sessions = (joined_here log term p s buffer).next; buffer = (joined_here log term p s buffer).buffer; answer = replied_by (index_at term p) (data_at log term stop p) (joined_here log term p s buffer).answer })))
 
-abbrev pub is_end : Replayed → Bool
-is_end (InLog from n) = false
-is_end (InBuffer at n) = false
-is_end End = true
-is_end (Refused e) = false
+abbrev pub is_end : Result Replayed Error → Bool
+is_end (Ok (InLog from n)) = false
+is_end (Ok (InBuffer at n)) = false
+is_end (Ok End) = true
+is_end (Err e) = false
 
 -- a reply whose sessions are lent
 abbrev pub lent_reply_of : LentReply → List ℤ → List ℕ → List ℕ → NextReply

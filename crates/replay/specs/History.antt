@@ -20,16 +20,14 @@
 -- `Opened`, `Called` and `Wrote` are what the callers of the writing functions see, `Polling`, `Ran`, `Batching` and a count what those of
 -- the reading functions see. `ReplaysHistory` says what holds then, whatever the calls were: of a season, and of demand 3's own polls. A body that was lent by `body` and written by hand is left
 -- with other bytes, as one call of `write` with these bytes leaves it.
-use Rattle.std.specs.Prelude.{ℕ, zero, suc, ◌+◌, ◌-◌, ◌*◌, ◌/◌, ◌≤◌, ◌<◌, ◌≡◌, Bool, true, false, cond, ◌⊎◌, List, [], ◌∷◌, ◌++◌, eqb, length, take, drop, get_or, ℤ, pos}
+use Rattle.std.specs.Prelude.{ℕ, zero, suc, ◌+◌, ◌-◌, ◌*◌, ◌/◌, ◌≤◌, ◌<◌, ◌≡◌, Bool, true, false, cond, ◌⊎◌, List, [], ◌∷◌, ◌++◌, eqb, length, take, drop, get_or, ℤ, pos, Result, Ok, Err, ⊤}
+use Rattle.model.specs.declared.Error.{Error}
 use Rattle.std.specs.Int.Signed.{lt_z}
 use Rattle.model.specs.declared.LogRecord.{LogRecord}
 use Rattle.model.specs.declared.Claim.{Claim}
-use Rattle.model.specs.declared.Outcome.{Outcome}
-use Rattle.model.specs.declared.Outcome.TheVariants.{Done}
 use Rattle.model.specs.declared.RecordReply.{RecordReply}
 use Rattle.model.specs.declared.OfferReply.{OfferReply}
 use Rattle.model.specs.declared.ClaimReply.{ClaimReply}
-use Rattle.model.specs.declared.Polled.TheVariants.{Fragments}
 use Rattle.model.specs.declared.Replayed.TheVariants.{End}
 use Rattle.model.specs.Bytes.{long}
 use Rattle.model.specs.LogBufferDescriptor.{reading, publisher_position, partition_of}
@@ -51,10 +49,7 @@ use Rattle.logbuffer.specs.Assembler.{sessions_of}
 use Rattle.replay.specs.declared.Replay.{Replay}
 use Rattle.replay.specs.declared.NextReply.{NextReply}
 use Rattle.replay.specs.declared.BatchReply.{BatchReply}
-use Rattle.replay.specs.declared.Batched.{Batched}
-use Rattle.replay.specs.declared.Batched.TheVariants.{Laid, Refused}
 use Rattle.replay.specs.declared.Counted.{Counted}
-use Rattle.replay.specs.declared.Counted.TheVariants.{Counts}
 use Rattle.replay.specs.Replays.{state_of, next_reply_of, count_of}
 use Rattle.replay.specs.Batches.{batch_reply_of, batch_of}
 
@@ -62,7 +57,7 @@ use Rattle.replay.specs.Batches.{batch_reply_of, batch_of}
 
 -- an opening that was done, and the record and the log that it leaves
 pub data Opened (lent : List ℕ) (term mtu initial session stream : ℤ) : World → Type 0 where
-  by-opening : {r : RecordReply} {log : List ℕ} → r ≡ open_of lent term mtu initial session stream → r.answer ≡ Done
+  by-opening : {r : RecordReply} {log : List ℕ} → r ≡ open_of lent term mtu initial session stream → r.answer ≡ Ok tt
       → log ≡ open_bytes lent term mtu initial session stream → Opened lent term mtu initial session stream (record { record· = r.next; log = log })
 
 -- one call on a record and a log, its answer, and what it leaves
@@ -71,11 +66,11 @@ pub data Called (w : World) : Call → Answer → World → Type 0 where
       → Called w (offer m reserved) (offered (is_trip r.rule) r.answer) (record { record· = r.next; log = log })
   by-claim : {n : ℤ} {r : ClaimReply} {log : List ℕ} → r ≡ claim_of w.record· w.log n → log ≡ claim_bytes w.record· w.log n
       → Called w (claim n) (claimed (is_trip r.rule) r.answer) (record { record· = r.next; log = log })
-  by-write : {k : Claim} {b : List ℕ} {r : Outcome} {log : List ℕ} → r ≡ write_of w.record· w.log k b → log ≡ write_bytes w.record· w.log k b
+  by-write : {k : Claim} {b : List ℕ} {r : Result ⊤ Error} {log : List ℕ} → r ≡ write_of w.record· w.log k b → log ≡ write_bytes w.record· w.log k b
       → Called w (fill k b) (outcome r) (record { record· = w.record·; log = log })
-  by-commit : {k : Claim} {r : Outcome} {log : List ℕ} → r ≡ commit_of w.record· w.log k → log ≡ commit_bytes w.record· w.log k
+  by-commit : {k : Claim} {r : Result ⊤ Error} {log : List ℕ} → r ≡ commit_of w.record· w.log k → log ≡ commit_bytes w.record· w.log k
       → Called w (commit k) (outcome r) (record { record· = w.record·; log = log })
-  by-abort : {k : Claim} {r : Outcome} {log : List ℕ} → r ≡ commit_of w.record· w.log k → log ≡ abort_bytes w.record· w.log k
+  by-abort : {k : Claim} {r : Result ⊤ Error} {log : List ℕ} → r ≡ commit_of w.record· w.log k → log ≡ abort_bytes w.record· w.log k
       → Called w (abort k) (outcome r) (record { record· = w.record·; log = log })
   by-limit : {n : ℤ} {r : RecordReply} → r ≡ limit_of w.record· n → Called w (set_limit n) (outcome r.answer) (record { record· = r.next; log = w.log })
   by-close : {r : RecordReply} → r ≡ close_of w.record· → Called w close (outcome r.answer) (record { record· = r.next; log = w.log })
@@ -128,7 +123,7 @@ pub record Polling (r : LogRecord) (log : List ℕ) (goes : ℤ → Bool) (from 
 
 -- nothing is polled any more, or at a poll nothing comes and nothing moves
 abbrev pub Still : {r : LogRecord} {log : List ℕ} {goes : ℤ → Bool} {from : ℕ} {session : ℤ} {lent : List ℕ} {ps : Polls} → Polling r log goes from session lent ps → ℕ → Type 0
-Still {goes = goes} x n = (goes (x.image n).position ≡ false) ⊎ (((x.reply n).answer ≡ Fragments 0 0) × ((x.reply n).next ≡ x.image n))
+Still {goes = goes} x n = (goes (x.image n).position ≡ false) ⊎ (((x.reply n).answer ≡ Ok (record { fragments = 0; entries = 0 })) × ((x.reply n).next ≡ x.image n))
 
 -- only while below the publisher's position, as document 02 has it of a season; or wherever the polls stand, as document 01 has it
 abbrev pub while_below : LogRecord → ℤ → Bool
@@ -172,9 +167,9 @@ pub record Batching (r : LogRecord) (log : List ℕ) (from : ℕ) (session : ℤ
   pub on : (i : ℕ) → replay (suc i) ≡ (reply i).next
 
 -- how many messages a batch laid
-abbrev pub laid_by : Batched → ℕ
-laid_by (Laid n) = n
-laid_by (Refused e) = 0
+abbrev pub laid_by : Result ℕ Error → ℕ
+laid_by (Ok n) = n
+laid_by (Err e) = 0
 
 -- so many messages from message i on, as the numbers say: from where, how many bytes, of the log or of the lent buffer
 unfoldable pub laid_out : List ℕ → List ℕ → List ℕ → ℕ → ℕ → List (List ℕ)
@@ -197,11 +192,11 @@ pub record Replays (r : LogRecord) (log : List ℕ) (p : ℕ) (session : ℤ) (l
   pub polls-end : (ps : Polls) → Allowed ps → (x : Polling r log (while_below r) p session lent ps) → (n : ℕ) × Still x n
   pub polls-give : (ps : Polls) → Allowed ps → (x : Polling r log (while_below r) p session lent ps) (n : ℕ) → Still x n → x.out n ≡ ms
   pub gives : (x : Ran r log p session lent) (most : ℕ) → length ms < most → gathered x most 0 ≡ ms
-  pub ends : (x : Ran r log p session lent) (n : ℕ) → length ms ≤ n → (x.reply n).answer ≡ End
+  pub ends : (x : Ran r log p session lent) (n : ℕ) → length ms ≤ n → (x.reply n).answer ≡ Ok End
   pub batches-give : (x : Batching r log p session lent) (n : ℕ) → length ms ≤ n → taken x n ≡ ms
-  pub batches-end : (x : Batching r log p session lent) (n : ℕ) → taken x n ≡ ms → (x.reply n).answer ≡ Laid 0
-  pub batches-only : (x : Batching r log p session lent) (n : ℕ) → (x.reply n).answer ≡ Laid 0 → taken x n ≡ ms
-  pub counts : (a : Counted) → a ≡ (count_of r log (pos p) session lent).answer → a ≡ Counts (length ms) (total ms)
+  pub batches-end : (x : Batching r log p session lent) (n : ℕ) → taken x n ≡ ms → (x.reply n).answer ≡ Ok 0
+  pub batches-only : (x : Batching r log p session lent) (n : ℕ) → (x.reply n).answer ≡ Ok 0 → taken x n ≡ ms
+  pub counts : (a : Result Counted Error) → a ≡ (count_of r log (pos p) session lent).answer → a ≡ Ok (record { messages = length ms; bytes = total ms })
 
 -- polls from 0 wherever they stand
 pub record Polls0 (r : LogRecord) (log : List ℕ) (session : ℤ) (lent : List ℕ) (ms : List (List ℕ)) : Type 0 where

@@ -1,13 +1,14 @@
 -- Data frames as they lie: what a replay takes without a poll. `whole_says` and `data-turn` (proofs/InPlace.antt) say that this is the turn
 -- of the definitions.
-use Rattle.std.specs.Prelude.{ℕ, ◌+◌, ◌-◌, ◌*◌, ◌%◌, ◌≤◌, ◌<◌, ◌≡◌, Bool, true, false, cond, ◌&&◌, not, List, eqb, leb, ltb, length, drop}
+use Rattle.std.specs.Prelude.{ℕ, ◌+◌, ◌-◌, ◌*◌, ◌%◌, ◌≤◌, ◌<◌, ◌≡◌, Bool, true, false, cond, ◌&&◌, not, List, eqb, leb, ltb, length, drop, Result, Ok, Err}
+use Rattle.model.specs.declared.Error.{Error}
 use Rattle.std.specs.Int.Count.{ones}
 use Rattle.model.specs.declared.LogRecord.{LogRecord}
 use Rattle.model.specs.declared.Reading.{Reading}
 use Rattle.model.specs.declared.Assembled.{Assembled}
-use Rattle.model.specs.declared.Assembled.TheVariants.{Nothing, Fragment, Message, Refused as AssemblyRefused}
+use Rattle.model.specs.declared.Assembled.TheVariants.{Nothing, Fragment, Message}
 use Rattle.model.specs.declared.Replayed.{Replayed}
-use Rattle.model.specs.declared.Replayed.TheVariants.{InLog, InBuffer, End, Refused as ReplayRefused}
+use Rattle.model.specs.declared.Replayed.TheVariants.{InLog, InBuffer, End}
 use Rattle.model.specs.Bytes.{long}
 use Rattle.model.specs.FrameDescriptor.{frame_at, flags_at, begins, ends}
 use Rattle.model.specs.LogBufferDescriptor.{reading, partition_of, publisher_position, good_position, sound}
@@ -71,24 +72,24 @@ unfoldable pub over_by : Reading → ℕ → ℕ → Bool
 over_by v n p = sound v n && (good_position v p && not (ltb p (stop_at v)))
 
 -- the sessions that a frame leaves: a refused one leaves them as they were
-abbrev pub kept_as : Sessions → Sessions → Assembled → Sessions
-kept_as s t Nothing = t
-kept_as s t (Fragment at n) = t
-kept_as s t (Message at n) = t
-kept_as s t (AssemblyRefused e) = s
+abbrev pub kept_as : Sessions → Sessions → Result Assembled Error → Sessions
+kept_as s t (Ok Nothing) = t
+kept_as s t (Ok (Fragment at n)) = t
+kept_as s t (Ok (Message at n)) = t
+kept_as s t (Err e) = s
 
 abbrev pub kept_by : Sessions → Assembly → Sessions
 kept_by s a = kept_as s a.next a.answer
 
-abbrev pub is_refused : Assembled → Bool
-is_refused Nothing = false
-is_refused (Fragment at n) = false
-is_refused (Message at n) = false
-is_refused (AssemblyRefused e) = true
+abbrev pub is_refused : Result Assembled Error → Bool
+is_refused (Ok Nothing) = false
+is_refused (Ok (Fragment at n)) = false
+is_refused (Ok (Message at n)) = false
+is_refused (Err e) = true
 
 -- the reply by the answer to the data frame of n bytes that lies at an index
-abbrev pub replied_by : ℕ → ℕ → Assembled → Replayed
-replied_by index n Nothing = End
-replied_by index n (Fragment at m) = InLog (index + 32) (n - 32)
-replied_by index n (Message at m) = InBuffer at m
-replied_by index n (AssemblyRefused e) = ReplayRefused e
+abbrev pub replied_by : ℕ → ℕ → Result Assembled Error → Result Replayed Error
+replied_by index n (Ok Nothing) = Ok End
+replied_by index n (Ok (Fragment at m)) = Ok (InLog (index + 32) (n - 32))
+replied_by index n (Ok (Message at m)) = Ok (InBuffer at m)
+replied_by index n (Err e) = Err e

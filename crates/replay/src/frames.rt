@@ -4,16 +4,15 @@ ghost use Rattle.std.specs.Prelude.{◌≡◌, ◌*◌, ◌/◌, ◌%◌, ◌≤
 ghost use Rattle.model.specs.LogBufferDescriptor.{partition_of, reading};
 ghost use Rattle.image.specs.Images.{state_of as image_state};
 ghost use Rattle.logbuffer.specs.Assembler.{sessions_as, join_of};
-ghost use Rattle.replay.specs.InPlace.{TermOrNone, TermsOf, stop_at, index_at, data_at, whole_at, found_none, open_term, whole_in, over_by, kept_by, replied_by, is_refused};
-ghost use Rattle.replay.specs.Replays.{elsewhere_on};
-ghost use Rattle.replay.specs.Gather.{gathered_as, gathering_of, gather_from, is_end};
+ghost use Rattle.replay.specs.InPlace.{TermOrNone, TermsOf, stop_at, index_at, whole_at, found_none, open_term, whole_in, over_by, kept_by, replied_by};
+ghost use Rattle.replay.specs.Gather.{gathered_as, is_end};
 
 use image::Image;
 use logbuffer::data_frame_header::HEADER_LENGTH;
 use logbuffer::frame_descriptor::{ALIGNMENT_MASK, FRAME_ALIGNMENT};
 use logbuffer::log_buffer_descriptor::PARTITION_COUNT;
 use logbuffer::{cast, fragment_assembler, frame_descriptor, log_buffer_descriptor};
-use model::{Assembled, Frame, LogRecord, Reading, Replayed};
+use model::{Assembled, Error, LogRecord, Reading, Replayed};
 
 // A whole message as it lies: the index of its frame, and the frame's length.
 #[derive(Clone, Copy)]
@@ -30,27 +29,6 @@ pub(crate) fn index_at(term: usize, p: usize) -> usize
     let bits = log_buffer_descriptor::position_bits_to_shift(term as u32);
     let k = log_buffer_descriptor::index_by_position(p as u64, bits);
     k * term + (p & (term - 1))
-}
-
-// The length of the data frame at a position below a stop, of a log of such terms; 0 where there is none, and for a term of 0.
-pub(crate) fn data_at(log: &[u8], term: usize, stop: usize, p: usize) -> usize
-    requires { TermOrNone term }
-    ensures { result ≡ data_at log.now term stop p }
-{
-    if p >= stop {
-        return 0;
-    }
-    if term == 0 {
-        return 0;
-    }
-    if p % FRAME_ALIGNMENT != 0 {
-        return 0;
-    }
-    let index = index_at(term, p);
-    let Frame::Data(n) = frame_descriptor::frame_at(log, index, term - (p & (term - 1))) else {
-        return 0;
-    };
-    n
 }
 
 // ---- one whole message after another
@@ -218,7 +196,7 @@ pub fn next_whole(image: Image, rec: LogRecord, log: &[u8], lent: usize) -> Whol
 #[derive(Clone, Copy)]
 pub(crate) struct Given {
     pub count: usize,
-    pub answer: Assembled,
+    pub answer: Result<Assembled, Error>,
 }
 
 // The frame at an index of the log. Its session is entered, unless it is refused: then the sessions stay as they were.
@@ -239,7 +217,7 @@ pub(crate) fn give(
     let joined = fragment_assembler::join(count, ids, held, log, buffer, index, offset);
     let answer = joined.answer;
     let place = joined.place;
-    if let Assembled::Refused(_) = answer {
+    if answer.is_err() {
         return Given {
             count: count,
             answer: answer,
@@ -261,39 +239,18 @@ pub(crate) fn give(
 }
 
 // The reply by the answer to the data frame of n bytes at an index; the body of one that passes through lies behind its header.
-pub(crate) fn reply_by(answer: Assembled, index: usize, n: usize) -> Replayed
+pub(crate) fn reply_by(
+    answer: Result<Assembled, Error>,
+    index: usize,
+    n: usize,
+) -> Result<Replayed, Error>
     requires { (index < 4294967296) × (32 ≤ n) }
     ensures { result ≡ replied_by index n answer }
 {
-    match answer {
-        Assembled::Nothing => Replayed::End,
-        Assembled::Fragment(_, _) => Replayed::InLog(index + HEADER_LENGTH, n - HEADER_LENGTH),
-        Assembled::Message(at, length) => Replayed::InBuffer(at, length),
-        Assembled::Refused(e) => Replayed::Refused(e),
-    }
-}
-
-// Whether a turn goes on after an answer.
-pub(crate) fn is_nothing(answer: Assembled) -> bool
-    ensures { result ≡ elsewhere_on answer }
-{
-    match answer {
-        Assembled::Nothing => true,
-        Assembled::Fragment(_, _) => false,
-        Assembled::Message(_, _) => false,
-        Assembled::Refused(_) => false,
-    }
-}
-
-// Whether an answer is a refusal.
-pub(crate) fn is_refused(answer: Assembled) -> bool
-    ensures { result ≡ is_refused answer }
-{
-    match answer {
-        Assembled::Nothing => false,
-        Assembled::Fragment(_, _) => false,
-        Assembled::Message(_, _) => false,
-        Assembled::Refused(_) => true,
+    match answer? {
+        Assembled::Nothing => Ok(Replayed::End),
+        Assembled::Fragment(_, _) => Ok(Replayed::InLog(index + HEADER_LENGTH, n - HEADER_LENGTH)),
+        Assembled::Message(at, length) => Ok(Replayed::InBuffer(at, length)),
     }
 }
 
@@ -305,10 +262,15 @@ pub(crate) struct Gathered {
     pub count: usize,
     pub left: usize,
     pub position: usize,
-    pub answer: Replayed,
+    pub answer: Result<Replayed, Error>,
 }
 
-pub(crate) fn gathered_as(count: usize, left: usize, position: usize, answer: Replayed) -> Gathered
+pub(crate) fn gathered_as(
+    count: usize,
+    left: usize,
+    position: usize,
+    answer: Result<Replayed, Error>,
+) -> Gathered
     ensures { result ≡ gathered_as count left position answer }
 {
     Gathered {
@@ -319,54 +281,9 @@ pub(crate) fn gathered_as(count: usize, left: usize, position: usize, answer: Re
     }
 }
 
-// Data frames from a position on, given to the assembler's core with the sessions in place, until one gives a reply. It stops before what is no data
-// frame, for a poll to read, and before a frame that is refused.
-pub(crate) fn gather(
-    count: usize,
-    ids: &mut [i32],
-    held: &mut [usize],
-    log: &[u8],
-    buffer: &mut [u8],
-    term: usize,
-    stop: usize,
-    position: usize,
-    most: usize,
-) -> Gathered
-    requires { (TermOrNone term × (0 < term → stop ≤ 2305843009213693952)) × ((length ids.old ≡ 16) × (length held.old ≡ 16)) }
-    ensures { gathering_of result ids.new held.new buffer.new ≡ gather_from most log.now term stop position (sessions_as count ids.old held.old) buffer.old }
-{
-    let mut entered = count;
-    let mut p = position;
-    let mut left = most;
-    while left > 0 {
-        let n = data_at(log, term, stop, p);
-        if n == 0 {
-            return gathered_as(entered, left, p, Replayed::End);
-        }
-        let at = index_at(term, p);
-        let given = give(entered, ids, held, log, buffer, at, p & (term - 1));
-        let answer = given.answer;
-        entered = given.count;
-        if is_refused(answer) {
-            return gathered_as(entered, left, p, reply_by(answer, at, n));
-        }
-        p = p + (n + ALIGNMENT_MASK) / FRAME_ALIGNMENT * FRAME_ALIGNMENT;
-        left = left - 1;
-        if !is_nothing(answer) {
-            return gathered_as(entered, left, p, reply_by(answer, at, n));
-        }
-    }
-    gathered_as(entered, left, p, Replayed::End)
-}
-
 // Whether nothing came of them.
-pub(crate) fn is_end(answer: Replayed) -> bool
+pub(crate) fn is_end(answer: Result<Replayed, Error>) -> bool
     ensures { result ≡ is_end answer }
 {
-    match answer {
-        Replayed::InLog(_, _) => false,
-        Replayed::InBuffer(_, _) => false,
-        Replayed::End => true,
-        Replayed::Refused(_) => false,
-    }
+    matches!(answer, Ok(Replayed::End))
 }

@@ -76,7 +76,7 @@ fn give_one(
     let given = frames::give(count, ids, held, log, buffer, index, p & (term - 1));
     let answer = given.answer;
     let reply = frames::reply_by(answer, index, n);
-    if frames::is_refused(answer) {
+    if answer.is_err() {
         return frames::gathered_as(given.count, left, p, reply);
     }
     let end = p + (n + ALIGNMENT_MASK) / FRAME_ALIGNMENT * FRAME_ALIGNMENT;
@@ -204,13 +204,13 @@ fn take(
                 entered,
                 left - 1,
                 end,
-                Replayed::InBuffer(from, laid.held),
+                Ok(Replayed::InBuffer(from, laid.held)),
             ),
         };
     }
     Step {
         current: current_as(place, session, laid.held),
-        gathered: frames::gathered_as(entered, left - 1, end, Replayed::End),
+        gathered: frames::gathered_as(entered, left - 1, end, Ok(Replayed::End)),
     }
 }
 
@@ -232,12 +232,12 @@ pub(crate) fn gather(
     let mut current = current_as(16, 0, 0);
     let mut entered = count;
     let mut p = position;
-    let mut left = most;
-    while left > 0 {
+    for taken in 0..most {
+        let left = most - taken;
         let frame = data_at(log, term, stop, p);
         if frame.length == 0 {
             settle(held, current.place, current.bytes);
-            return frames::gathered_as(entered, left, p, Replayed::End);
+            return frames::gathered_as(entered, left, p, Ok(Replayed::End));
         }
         let step = take(
             entered, ids, held, current, log, buffer, term, p, frame, left,
@@ -251,8 +251,7 @@ pub(crate) fn gather(
         }
         entered = gathered.count;
         p = gathered.position;
-        left = gathered.left;
     }
     settle(held, current.place, current.bytes);
-    frames::gathered_as(entered, left, p, Replayed::End)
+    frames::gathered_as(entered, 0, p, Ok(Replayed::End))
 }

@@ -2,8 +2,7 @@
 ghost use Rattle.std.specs.Prelude.{◌≡◌, ◌+◌, ◌*◌, ◌≤◌, ◌<◌, length as length_of};
 ghost use Rattle.replay.specs.Batches.{laid_at, last_by, last_numbers};
 
-use crate::Batched;
-use model::Replayed;
+use model::{Error, Replayed};
 
 // Message i: where it lies, from, its length, the position behind it.
 pub(crate) fn lay(
@@ -25,23 +24,28 @@ pub(crate) fn lay(
 }
 
 // The end of a batch by a reply that is no message in the log: after so many messages, one more in the lent buffer, or none.
-pub(crate) fn last(numbers: &mut [usize], laid: usize, answer: Replayed, position: usize) -> Batched
+pub(crate) fn last(
+    numbers: &mut [usize],
+    laid: usize,
+    answer: Result<Replayed, Error>,
+    position: usize,
+) -> Result<usize, Error>
     requires { (4 * laid + 4 ≤ length_of numbers.old) × (laid < 2147483648) }
     ensures value { result ≡ last_by laid answer }
     ensures numbers_after { numbers.new ≡ last_numbers numbers.old laid position answer }
 {
     match answer {
-        Replayed::InLog(_, _) => Batched::Laid(laid),
-        Replayed::InBuffer(at, length) => {
+        Ok(Replayed::InLog(_, _)) => Ok(laid),
+        Ok(Replayed::InBuffer(at, length)) => {
             lay(numbers, laid, 2, at, length, position);
-            Batched::Laid(laid + 1)
+            Ok(laid + 1)
         }
-        Replayed::End => Batched::Laid(laid),
-        Replayed::Refused(e) => {
+        Ok(Replayed::End) => Ok(laid),
+        Err(e) => {
             if laid == 0 {
-                return Batched::Refused(e);
+                return Err(e);
             }
-            Batched::Laid(laid)
+            Ok(laid)
         }
     }
 }

@@ -2,7 +2,7 @@
 // gives of a log that was made by any list of calls; read `next_of` in the definitions.
 #![tactic(auto)]
 
-ghost use Rattle.std.specs.Prelude.{◌≡◌, false, ◌-◌, ◌≤◌, ◌<◌, length, pos};
+ghost use Rattle.std.specs.Prelude.{◌≡◌, Some, ◌-◌, ◌≤◌, ◌<◌, length, pos};
 ghost use Rattle.model.specs.TermReader.{natural};
 ghost use Rattle.model.specs.Image.{new_image};
 ghost use Rattle.model.specs.FragmentAssembler.{fresh};
@@ -13,7 +13,7 @@ ghost use Rattle.logbuffer.specs.Assembler.{sessions_of};
 ghost use Rattle.replay.specs.InPlace.{open_term, stop_at};
 ghost use Rattle.replay.specs.Gather.{lent_reply_of};
 ghost use Rattle.replay.specs.Batches.{batch_reply_of, batch_of};
-ghost use Rattle.replay.specs.Replays.{replay_of, state_of, refusal_by, elsewhere_on, elsewhere_by, elsewhere_next, next_reply_of, added_to, gives_by, length_by, counted_by, count_of, turned, turn_of, fragment_given};
+ghost use Rattle.replay.specs.Replays.{replay_of, state_of, refusal_by, next_reply_of, added_to, gives_by, length_by, counted_by, count_of, turned, turn_of, fragment_given};
 
 use crate::frames::Reach;
 use image::Image;
@@ -37,7 +37,7 @@ pub struct Replay {
 #[derive(Clone, Copy)]
 pub struct NextReply {
     pub next: Replay,
-    pub answer: Replayed,
+    pub answer: Result<Replayed, Error>,
 }
 
 // A replay whose sessions are lent: its image, how many sessions are entered, and its answer.
@@ -45,34 +45,27 @@ pub struct NextReply {
 pub struct LentReply {
     pub image: Image,
     pub count: usize,
-    pub answer: Replayed,
+    pub answer: Result<Replayed, Error>,
 }
 
 // Many messages at once: how many were laid into the lent numbers.
 #[derive(Clone, Copy)]
-pub enum Batched {
-    Laid(usize),
-    Refused(Error),
-}
-
-#[derive(Clone, Copy)]
 pub struct BatchReply {
     pub next: Replay,
-    pub answer: Batched,
+    pub answer: Result<usize, Error>,
 }
 
 // A quick look at a log: how many messages, and how many bytes they have together.
 #[derive(Clone, Copy)]
-pub enum Counted {
-    Counts(usize, usize),
-    Refused(Error),
+pub struct Counted {
+    pub messages: usize,
+    pub bytes: usize,
 }
 
-// A turn: whether the replay goes on; if it does not, its answer.
+// A turn: the replay's answer, or none where it goes on.
 #[derive(Clone, Copy)]
 pub struct TurnReply {
-    pub on: bool,
-    pub answer: Replayed,
+    pub answer: Option<Result<Replayed, Error>>,
     pub next: Replay,
 }
 
@@ -89,44 +82,25 @@ fn frame_offset(entry: i32) -> usize
 }
 
 // The replay stays where it is, and this is its answer.
-fn stopped(replay: Replay, answer: Replayed) -> TurnReply
-    ensures { (result.on ≡ false) × ((result.answer ≡ answer) × (result.next ≡ replay)) }
+fn stopped(replay: Replay, answer: Result<Replayed, Error>) -> TurnReply
+    ensures { (result.answer ≡ Some answer) × (result.next ≡ replay) }
 {
     TurnReply {
-        on: false,
-        answer: answer,
+        answer: Some(answer),
         next: replay,
     }
 }
 
 // What a poll that read nothing answers.
-fn refusal(answer: Polled) -> Replayed
+fn refusal(answer: Result<Polled, Error>) -> Result<Replayed, Error>
     ensures { result ≡ refusal_by answer }
 {
-    match answer {
-        Polled::Fragments(_, _) => Replayed::End,
-        Polled::Refused(e) => Replayed::Refused(e),
-    }
+    answer?;
+    Ok(Replayed::End)
 }
 
-// The turn by an assembler's answer that is no part of the log: nothing yet, a message in the lent buffer, a refusal, which leaves the
-// replay before the fragment.
-fn elsewhere(before: Replay, next: Replay, answer: Assembled) -> TurnReply
-    ensures { (result.on ≡ elsewhere_on answer) × ((result.answer ≡ elsewhere_by answer) × (result.next ≡ elsewhere_next before next answer)) }
-{
-    match answer {
-        Assembled::Nothing => TurnReply {
-            on: true,
-            answer: Replayed::End,
-            next: next,
-        },
-        Assembled::Fragment(_, _) => stopped(next, Replayed::End),
-        Assembled::Message(at, n) => stopped(next, Replayed::InBuffer(at, n)),
-        Assembled::Refused(e) => stopped(before, Replayed::Refused(e)),
-    }
-}
-
-// A fragment of a partition, given to the assembler: the image has passed it.
+// A fragment of a partition, given to the assembler: the image has passed it. It leads to nothing yet, to a message in the log or in the lent buffer, or to a
+// refusal, which leaves the replay before the fragment.
 fn give(
     before: Replay,
     passed: Image,
@@ -148,13 +122,14 @@ fn give(
         image: passed,
         assembler: assembler,
     };
-    let Assembled::Fragment(at, n) = answer else {
-        return elsewhere(before, next, answer);
-    };
-    TurnReply {
-        on: false,
-        answer: Replayed::InLog(k * v.term + at, n),
-        next: next,
+    match answer {
+        Ok(Assembled::Nothing) => TurnReply {
+            answer: None,
+            next: next,
+        },
+        Ok(Assembled::Fragment(at, n)) => stopped(next, Ok(Replayed::InLog(k * v.term + at, n))),
+        Ok(Assembled::Message(at, n)) => stopped(next, Ok(Replayed::InBuffer(at, n))),
+        Err(e) => stopped(before, Err(e)),
     }
 }
 
@@ -168,26 +143,25 @@ fn turn(replay: Replay, rec: LogRecord, log: &[u8], buffer: &mut [u8]) -> TurnRe
     let assembler = replay.assembler;
     let p = cast::long(image.position);
     if frames::is_over(v, log.len(), p) {
-        return stopped(replay, Replayed::End);
+        return stopped(replay, Ok(Replayed::End));
     }
     let one = image.poll_one(rec, log);
     let polled = one.polled;
     let next = polled.next;
     let answer = polled.answer;
-    let Polled::Fragments(_, m) = answer else {
+    let Ok(read) = answer else {
         return stopped(replay, refusal(answer));
     };
-    if m != 0 {
+    if read.entries != 0 {
         let bits = log_buffer_descriptor::position_bits_to_shift(term as u32);
         let k = log_buffer_descriptor::index_by_position(p as u64, bits);
         return give(replay, next, rec, log, buffer, k, one.entry);
     }
     if cast::long(next.position) == p {
-        return stopped(replay, Replayed::End);
+        return stopped(replay, Ok(Replayed::End));
     }
     TurnReply {
-        on: true,
-        answer: Replayed::End,
+        answer: None,
         next: Replay {
             image: next,
             assembler: assembler,
@@ -224,22 +198,19 @@ impl Replay {
         ensures { next_reply_of result buffer.new ≡ next_from most rec log.now (state_of self buffer.old) }
     {
         let mut replay = self;
-        let mut left = most;
-        while left > 0 {
+        for _ in 0..most {
             let t = turn(replay, rec, log, buffer);
-            let answer = t.answer;
             replay = t.next;
-            if !t.on {
+            if let Some(answer) = t.answer {
                 return NextReply {
                     next: replay,
                     answer: answer,
                 };
             }
-            left = left - 1;
         }
         NextReply {
             next: replay,
-            answer: Replayed::End,
+            answer: Ok(Replayed::End),
         }
     }
 }
@@ -299,7 +270,7 @@ impl Replay {
         if buffer.len() > 2147483647 {
             return NextReply {
                 next: self,
-                answer: Replayed::Refused(Error::IllegalArgument),
+                answer: Err(Error::IllegalArgument),
             };
         }
         let image = self.image;
@@ -329,7 +300,7 @@ impl Replay {
         if buffer.len() > 2147483647 {
             return NextReply {
                 next: self,
-                answer: Replayed::Refused(Error::IllegalArgument),
+                answer: Err(Error::IllegalArgument),
             };
         }
         let mut image = self.image;
@@ -343,13 +314,13 @@ impl Replay {
         self.image = image;
         NextReply {
             next: self,
-            answer: Replayed::InLog(whole.index + HEADER_LENGTH, n - HEADER_LENGTH),
+            answer: Ok(Replayed::InLog(whole.index + HEADER_LENGTH, n - HEADER_LENGTH)),
         }
     }
 }
 
 // A batch that ends with a reply of `next`, after so many messages.
-fn batch_reply(next: Replay, answer: Batched) -> BatchReply
+fn batch_reply(next: Replay, answer: Result<usize, Error>) -> BatchReply
     ensures { (result.next ≡ next) × (result.answer ≡ answer) }
 {
     BatchReply {
@@ -372,10 +343,10 @@ impl Replay {
         ensures { batch_reply_of result buffer.new numbers.new ≡ batch_of rec log.now (state_of self buffer.old) numbers.old }
     {
         if buffer.len() > 2147483647 {
-            return batch_reply(self, Batched::Refused(Error::IllegalArgument));
+            return batch_reply(self, Err(Error::IllegalArgument));
         }
         if numbers.len() > 2147483647 {
-            return batch_reply(self, Batched::Refused(Error::IllegalArgument));
+            return batch_reply(self, Err(Error::IllegalArgument));
         }
         let most = numbers.len() / 4;
         let mut image = self.image;
@@ -386,8 +357,7 @@ impl Replay {
         let reach = frames::reach_of(image, rec, log.len(), buffer.len());
         let mut number: usize = 0;
         let mut base: usize = 0;
-        let mut laid: usize = 0;
-        while laid < most {
+        for laid in 0..most {
             let p = cast::long(image.position);
             let found = frames::whole_from(log, number, base, reach.term, reach.stop, p);
             number = found.number;
@@ -398,21 +368,19 @@ impl Replay {
                 let from = found.index + HEADER_LENGTH;
                 laying::lay(numbers, laid, 1, from, n - HEADER_LENGTH, end);
                 image.position = end as i64;
-                laid = laid + 1;
                 continue;
             }
             let reply = next_lent(image, count, &mut ids, &mut held, rec, log, buffer, reach);
             let answer = reply.answer;
             image = reply.image;
             count = reply.count;
-            let Replayed::InLog(from, length) = answer else {
+            let Ok(Replayed::InLog(from, length)) = answer else {
                 let answer = laying::last(numbers, laid, answer, cast::long(image.position));
                 return batch_reply(replay_of(image, count, ids, held), answer);
             };
             laying::lay(numbers, laid, 1, from, length, cast::long(image.position));
-            laid = laid + 1;
         }
-        batch_reply(replay_of(image, count, ids, held), Batched::Laid(laid))
+        batch_reply(replay_of(image, count, ids, held), Ok(most))
     }
 }
 
@@ -427,38 +395,34 @@ fn added(bytes: usize, n: usize) -> usize
 }
 
 // Whether an answer gives a message, and its length.
-fn gives(answer: Replayed) -> bool
+fn gives(answer: Result<Replayed, Error>) -> bool
     ensures { result ≡ gives_by answer }
 {
-    match answer {
-        Replayed::InLog(_, _) => true,
-        Replayed::InBuffer(_, _) => true,
-        Replayed::End => false,
-        Replayed::Refused(_) => false,
-    }
+    matches!(answer, Ok(Replayed::InLog(_, _) | Replayed::InBuffer(_, _)))
 }
 
-fn length_of(answer: Replayed) -> usize
+fn length_of(answer: Result<Replayed, Error>) -> usize
     ensures { result ≡ length_by answer }
 {
     match answer {
-        Replayed::InLog(_, n) => n,
-        Replayed::InBuffer(_, n) => n,
-        Replayed::End => 0,
-        Replayed::Refused(_) => 0,
+        Ok(Replayed::InLog(_, n) | Replayed::InBuffer(_, n)) => n,
+        _ => 0,
     }
 }
 
 // What was counted, unless the replay was refused.
-fn count_of(answer: Replayed, messages: usize, bytes: usize) -> Counted
+fn count_of(
+    answer: Result<Replayed, Error>,
+    messages: usize,
+    bytes: usize,
+) -> Result<Counted, Error>
     ensures { result ≡ counted_by answer messages bytes }
 {
-    match answer {
-        Replayed::InLog(_, _) => Counted::Counts(messages, bytes),
-        Replayed::InBuffer(_, _) => Counted::Counts(messages, bytes),
-        Replayed::End => Counted::Counts(messages, bytes),
-        Replayed::Refused(e) => Counted::Refused(e),
-    }
+    answer?;
+    Ok(Counted {
+        messages: messages,
+        bytes: bytes,
+    })
 }
 
 // Replays a log from a position by a fresh image into a fresh assembler, and counts what comes back. A refusal ends it. Whole messages are counted as
@@ -469,12 +433,12 @@ pub fn count(
     buffer: &mut [u8],
     position: i64,
     session_id: i32,
-) -> Counted
+) -> Result<Counted, Error>
     ensures value { result ≡ (count_of rec log.now position session_id buffer.old).answer }
     ensures buffer_after { buffer.new ≡ (count_of rec log.now position session_id buffer.old).buffer }
 {
     if buffer.len() > 2147483647 {
-        return Counted::Refused(Error::IllegalArgument);
+        return Err(Error::IllegalArgument);
     }
     let mut image = Image::new(position, session_id);
     let mut count: usize = 0;
@@ -483,10 +447,9 @@ pub fn count(
     let reach = frames::reach_of(image, rec, log.len(), buffer.len());
     let mut number: usize = 0;
     let mut base: usize = 0;
-    let mut messages: usize = 0;
     let mut bytes: usize = 0;
     let most = 3 * cast::word(rec.term_length) + 1;
-    while messages < most {
+    for messages in 0..most {
         let p = cast::long(image.position);
         let found = frames::whole_from(log, number, base, reach.term, reach.stop, p);
         number = found.number;
@@ -495,7 +458,6 @@ pub fn count(
         if n != 0 {
             image.position = (p + (n + ALIGNMENT_MASK) / FRAME_ALIGNMENT * FRAME_ALIGNMENT) as i64;
             bytes = added(bytes, n - HEADER_LENGTH);
-            messages = messages + 1;
             continue;
         }
         let reply = next_lent(image, count, &mut ids, &mut held, rec, log, buffer, reach);
@@ -506,7 +468,9 @@ pub fn count(
         image = reply.image;
         count = reply.count;
         bytes = added(bytes, length_of(answer));
-        messages = messages + 1;
     }
-    Counted::Counts(messages, bytes)
+    Ok(Counted {
+        messages: most,
+        bytes: bytes,
+    })
 }

@@ -5,221 +5,174 @@
 // lowest (R-8 of document 02): the same lines again.
 #![tactic(auto)]
 
-use logbuffer::{buffer_claim, cast, errors};
-use model::{Claim, ClaimReply, Claimed, Error, LogRecord, Offered, Outcome, Replayed};
+use logbuffer::{buffer_claim, errors};
+use model::{ClaimReply, Error, LogRecord, Replayed};
 use publication::{opening, positions};
 use replay::{Counted, Replay};
+use std::io;
 
 // A call's line: its refusal's number, 0 for none, and its position.
-fn line(name: &[u8], number: usize, value: usize) {
-    io::write_all(1, name);
-    io::write_all(1, b": number ");
-    io::print_decimal(1, number as u64);
-    io::write_all(1, b", position ");
-    io::print_decimal(1, value as u64);
-    io::write_all(1, b"\n");
+fn tell(rt: &impl Print, name: &str, answer: Result<i64, Error>) -> io::Result<()> {
+    let number = answer.map_or_else(errors::number, |_| 0);
+    let position = answer.unwrap_or(0);
+    println!(rt; "{name}: number {number}, position {position}")
 }
 
-fn refused(name: &[u8], e: Error) {
-    line(name, cast::word(errors::number(e)), 0);
-}
-
-fn offer(name: &[u8], rec: LogRecord, log: &mut [u8], message: &[u8]) -> LogRecord {
+fn offer(
+    rt: &impl Print,
+    name: &str,
+    rec: LogRecord,
+    log: &mut [u8],
+    message: &[u8],
+) -> io::Result<LogRecord> {
     let reply = publication::offer(rec, log, message, 0);
-    let answer = reply.answer;
-    match answer {
-        Offered::Position(p) => line(name, 0, cast::long(p)),
-        Offered::Refused(e) => refused(name, e),
-    }
-    reply.next
+    tell(rt, name, reply.answer)?;
+    Ok(reply.next)
 }
 
-fn done(name: &[u8], answer: Outcome) {
-    match answer {
-        Outcome::Done => line(name, 0, 0),
-        Outcome::Refused(e) => refused(name, e),
-    }
-}
-
-// The claim's body begins with 7, where there is one.
-fn fill(rec: LogRecord, log: &mut [u8], claim: Claim) {
-    let bytes = [7u8];
-    buffer_claim::write(rec, log, claim, &bytes);
-}
-
-fn claim(name: &[u8], rec: LogRecord, log: &mut [u8], n: i32) -> ClaimReply {
+fn claim(
+    rt: &impl Print,
+    name: &str,
+    rec: LogRecord,
+    log: &mut [u8],
+    n: i32,
+) -> io::Result<ClaimReply> {
     let reply = publication::try_claim(rec, log, n);
-    let answer = reply.answer;
-    match answer {
-        Claimed::Position(p, _) => line(name, 0, cast::long(p)),
-        Claimed::Refused(e) => refused(name, e),
-    }
-    reply
+    tell(rt, name, reply.answer.map(|claimed| claimed.position))?;
+    Ok(reply)
 }
 
-// The claim filled, and committed or aborted.
-fn finish(reply: ClaimReply, log: &mut [u8], commit: bool) -> LogRecord {
-    let next = reply.next;
-    let answer = reply.answer;
-    if let Claimed::Position(_, claim) = answer {
-        fill(next, log, claim);
-        if commit {
-            done(b"commit", buffer_claim::commit(next, log, claim));
-        } else {
-            done(b"abort", buffer_claim::abort(next, log, claim));
-        }
-    }
-    next
-}
-
-// Small messages, claims, and offers that a limit refuses.
-fn small_calls(rec: LogRecord, log: &mut [u8]) -> LogRecord {
+// Small messages.
+fn small_calls(rt: &impl Print, rec: LogRecord, log: &mut [u8]) -> io::Result<LogRecord> {
     let message = [1u8; 200];
-    let a = offer(b"offer 10", rec, log, &message[..10]);
-    offer(b"offer 200", a, log, &message)
+    let next = offer(rt, "offer 10", rec, log, &message[..10])?;
+    offer(rt, "offer 200", next, log, &message)
 }
 
-fn claim_calls(rec: LogRecord, log: &mut [u8]) -> LogRecord {
-    let a = finish(claim(b"claim 20", rec, log, 20), log, true);
-    finish(claim(b"claim 30", a, log, 30), log, false)
+// The claim's body begins with 7.
+fn committed_claim(rt: &impl Print, rec: LogRecord, log: &mut [u8]) -> io::Result<LogRecord> {
+    let reply = claim(rt, "claim 20", rec, log, 20)?;
+    let next = reply.next;
+    if let Ok(claimed) = reply.answer {
+        let _ = buffer_claim::write(next, log, claimed.claim, &[7]);
+        let answer = buffer_claim::commit(next, log, claimed.claim);
+        tell(rt, "commit", answer.map(|()| 0))?;
+    }
+    Ok(next)
 }
 
-fn refused_calls(rec: LogRecord, log: &mut [u8]) -> LogRecord {
+fn aborted_claim(rt: &impl Print, rec: LogRecord, log: &mut [u8]) -> io::Result<LogRecord> {
+    let reply = claim(rt, "claim 30", rec, log, 30)?;
+    let next = reply.next;
+    if let Ok(claimed) = reply.answer {
+        let _ = buffer_claim::write(next, log, claimed.claim, &[7]);
+        let answer = buffer_claim::abort(next, log, claimed.claim);
+        tell(rt, "abort", answer.map(|()| 0))?;
+    }
+    Ok(next)
+}
+
+// Offers under a limit that is set first: the first is refused for it, the last for its length.
+fn limited_calls(rt: &impl Print, rec: LogRecord, log: &mut [u8]) -> io::Result<LogRecord> {
     let message = [2u8; 8193];
-    let a = offer(
-        b"offer 64, limit 0",
-        positions::set_publication_limit(rec, 0).next,
-        log,
-        &message[..64],
-    );
-    let b = offer(
-        b"offer 0",
-        positions::set_publication_limit(a, 1099511627776).next,
-        log,
-        &message[..0],
-    );
-    offer(b"offer 8193", b, log, &message)
+    let cases = [
+        ("offer 64, limit 0", 0, 64),
+        ("offer 0", 1099511627776, 0),
+        ("offer 8193", 1099511627776, 8193),
+    ];
+    let mut next = rec;
+    for (name, limit, n) in cases {
+        let limited = positions::set_publication_limit(next, limit).next;
+        next = offer(rt, name, limited, log, support::part(&message, 0, n))?;
+    }
+    Ok(next)
 }
 
-// Long messages, over the end of a term.
-fn long_calls(rec: LogRecord, log: &mut [u8], value: u8) -> LogRecord {
+// Long messages, over the end of a term, four times over; each time they begin with another byte.
+fn long_calls(rt: &impl Print, rec: LogRecord, log: &mut [u8]) -> io::Result<LogRecord> {
+    let cases = [("offer 8192", 8192), ("offer 8191", 8191), ("offer 65", 65)];
     let mut message = [3u8; 8192];
-    message[0] = value;
-    let a = offer(b"offer 8192", rec, log, &message);
-    let b = offer(b"offer 8191", a, log, &message[..8191]);
-    offer(b"offer 65", b, log, &message[..65])
+    let mut next = rec;
+    for first in 4..=7 {
+        message[0] = first;
+        for (name, n) in cases {
+            next = offer(rt, name, next, log, support::part(&message, 0, n))?;
+        }
+    }
+    Ok(next)
 }
 
-// Nothing from an open claim on comes back.
-fn open_calls(rec: LogRecord, log: &mut [u8]) -> LogRecord {
+// Nothing from an open claim on comes back. The last offer comes after the close.
+fn last_calls(rt: &impl Print, rec: LogRecord, log: &mut [u8]) -> io::Result<LogRecord> {
     let message = [8u8; 10];
-    let open = claim(b"claim 10, left open", rec, log, 10);
-    offer(b"offer 10", open.next, log, &message)
+    let open = claim(rt, "claim 10, left open", rec, log, 10)?;
+    let behind = offer(rt, "offer 10", open.next, log, &message)?;
+    let closed = positions::close(behind).next;
+    offer(rt, "offer 10, closed", closed, log, &message)
 }
 
-fn message(place: u64, bytes: &[u8], from: usize, n: usize) {
-    let body = support::part(bytes, from, n);
-    io::write_all(1, b"message: in ");
-    io::print_decimal(1, place);
-    io::write_all(1, b", length ");
-    io::print_decimal(1, n as u64);
-    if n > 0 {
-        io::write_all(1, b", from ");
-        io::print_decimal(1, support::byte(body, 0) as u64);
-        io::write_all(1, b" to ");
-        io::print_decimal(1, support::byte(body, n - 1) as u64);
-    }
-    io::write_all(1, b"\n");
-}
-
-fn next(replay: Replay, rec: LogRecord, log: &[u8], buffer: &mut [u8]) -> Replay {
-    let reply = replay.next(rec, log, buffer);
-    let answer = reply.answer;
-    match answer {
-        Replayed::InLog(from, n) => message(0, log, from, n),
-        Replayed::InBuffer(from, n) => message(1, buffer, from, n),
-        Replayed::End => {
-            io::write_all(1, b"end\n");
-        }
-        Replayed::Refused(e) => refused(b"replay", e),
-    }
-    reply.next
-}
-
-fn four(replay: Replay, rec: LogRecord, log: &[u8], buffer: &mut [u8]) -> Replay {
-    let a = next(replay, rec, log, buffer);
-    let b = next(a, rec, log, buffer);
-    let c = next(b, rec, log, buffer);
-    next(c, rec, log, buffer)
-}
-
-fn replay_all(rec: LogRecord, log: &[u8]) {
-    let mut buffer = [0u8; 131072];
-    let a = four(Replay::new(0, 11), rec, log, &mut buffer);
-    let b = four(a, rec, log, &mut buffer);
-    let c = four(b, rec, log, &mut buffer);
-    let _d = four(c, rec, log, &mut buffer);
-}
-
-fn short_buffer(rec: LogRecord, log: &[u8]) {
-    let mut buffer = [0u8; 16];
-    let a = next(Replay::new(0, 11), rec, log, &mut buffer);
-    let _b = next(a, rec, log, &mut buffer);
-}
-
-fn count_all(rec: LogRecord, log: &[u8]) {
-    let mut buffer = [0u8; 131072];
-    match replay::count(rec, log, &mut buffer, 0, 11) {
-        Counted::Counts(messages, bytes) => {
-            io::write_all(1, b"count: messages ");
-            io::print_decimal(1, messages as u64);
-            io::write_all(1, b", bytes ");
-            io::print_decimal(1, bytes as u64);
-            io::write_all(1, b"\n");
-        }
-        Counted::Refused(e) => refused(b"count", e),
-    }
-}
-
-fn first_calls(rec: LogRecord, log: &mut [u8]) -> LogRecord {
-    let a = small_calls(rec, log);
-    refused_calls(claim_calls(a, log), log)
-}
-
-// Into the second term.
-fn full_calls(rec: LogRecord, log: &mut [u8]) -> LogRecord {
-    let a = long_calls(long_calls(rec, log, 4), log, 5);
-    long_calls(long_calls(a, log, 6), log, 7)
-}
-
-fn fresh(initial_term_id: i32, log: &mut [u8]) -> LogRecord {
+// The list of calls, on a log opened for it.
+fn calls(rt: &impl Print, initial_term_id: i32, log: &mut [u8]) -> io::Result<LogRecord> {
     let opened = opening::open_log(log, 65536, 96, initial_term_id, 11, 12);
-    positions::set_publication_limit(opened.next, 1099511627776).next
+    let fresh = positions::set_publication_limit(opened.next, 1099511627776).next;
+    let small = small_calls(rt, fresh, log)?;
+    let committed = committed_claim(rt, small, log)?;
+    let aborted = aborted_claim(rt, committed, log)?;
+    let limited = limited_calls(rt, aborted, log)?;
+    let long = long_calls(rt, limited, log)?;
+    last_calls(rt, long, log)
 }
 
-fn last_calls(rec: LogRecord, log: &mut [u8]) -> LogRecord {
-    let a = open_calls(rec, log);
-    offer(
-        b"offer 10, closed",
-        positions::close(a).next,
-        log,
-        &[8u8; 10],
-    )
+// A message that came back: where it lies, 0 the log and 1 the lent buffer, and its bytes.
+fn message(rt: &impl Print, place: u8, bytes: &[u8]) -> io::Result<()> {
+    let n = bytes.len();
+    print!(rt; "message: in {place}, length {n}")?;
+    if let (Some(first), Some(last)) = (bytes.first(), bytes.last()) {
+        print!(rt; ", from {first} to {last}")?;
+    }
+    println!(rt)
 }
 
-// The list of calls, on a log just opened.
-fn calls(rec: LogRecord, log: &mut [u8]) -> LogRecord {
-    last_calls(full_calls(first_calls(rec, log), log), log)
+// The first answers of a replay from position 0 on, so many of them.
+fn tell_messages(
+    rt: &impl Print,
+    rec: LogRecord,
+    log: &[u8],
+    buffer: &mut [u8],
+    answers: u32,
+) -> io::Result<()> {
+    let mut replay = Replay::new(0, 11);
+    for _ in 0..answers {
+        let reply = replay.next(rec, log, buffer);
+        match reply.answer {
+            Ok(Replayed::InLog(from, n)) => message(rt, 0, support::part(log, from, n))?,
+            Ok(Replayed::InBuffer(from, n)) => message(rt, 1, support::part(buffer, from, n))?,
+            Ok(Replayed::End) => println!(rt; "end")?,
+            Err(e) => tell(rt, "replay", Err(e))?,
+        }
+        replay = reply.next;
+    }
+    Ok(())
 }
 
-fn main() {
+// All fifteen messages and the end; then the count.
+fn replay_all(rt: &impl Print, rec: LogRecord, log: &[u8]) -> io::Result<()> {
+    let mut buffer = [0u8; 131072];
+    tell_messages(rt, rec, log, &mut buffer, 16)?;
+    match replay::count(rec, log, &mut buffer, 0, 11) {
+        Ok(Counted { messages, bytes }) => println!(rt;
+            "count: messages {messages}, bytes {bytes}"
+        ),
+        Err(e) => tell(rt, "count", Err(e)),
+    }
+}
+
+fn main(rt: HostRuntime) -> io::Result<()> {
     let mut log = [0u8; 196608];
-    let rec = calls(fresh(7, &mut log), &mut log);
-    replay_all(rec, &log);
-    count_all(rec, &log);
-    short_buffer(rec, &log);
-    io::write_all(1, b"from the largest term id on\n");
-    let over = calls(fresh(2147483647, &mut log), &mut log);
-    replay_all(over, &log);
-    count_all(over, &log);
+    let rec = calls(&rt, 7, &mut log)?;
+    replay_all(&rt, rec, &log)?;
+    tell_messages(&rt, rec, &log, &mut [0u8; 16], 2)?;
+    println!(rt; "from the largest term id on")?;
+    let over = calls(&rt, 2147483647, &mut log)?;
+    replay_all(&rt, over, &log)
 }

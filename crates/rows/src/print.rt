@@ -1,109 +1,130 @@
 // A line for an answer: its call, its number, its value, and the active term count of the record after it; of an offer or a claim also the rule that
 // decided. The value of a frame that is refused is its place.
 use crate::rules;
-use logbuffer::{cast, errors};
+use logbuffer::errors;
 use model::{
-    AppendReply, Appended, AvailabilityScanned, ClaimReply, Claimed, Error, GapScanned, LogRecord,
-    OfferReply, Offered, Outcome, RecordReply, Rule, Scanned, TermRead,
+    AppendReply, Appended, ClaimReply, Error, GapScanned, LogRecord, OfferReply, RecordReply, Rule,
+    TermRead,
 };
+use std::io;
 
-fn head(name: &[u8], number: usize, value: usize, rec: LogRecord) {
-    io::write_all(1, name);
-    io::write_all(1, b": number ");
-    io::print_decimal(1, number as u64);
-    io::write_all(1, b", value ");
-    io::print_decimal(1, value as u64);
-    io::write_all(1, b", count ");
-    io::print_decimal(1, cast::word(rec.active_term_count) as u64);
+// The line without its end.
+fn head(rt: &impl Print, name: &str, number: i32, value: u64, rec: LogRecord) -> io::Result<()> {
+    let count = rec.active_term_count;
+    print!(rt; "{name}: number {number}, value {value}, count {count}")
 }
 
-pub fn line(name: &[u8], number: usize, value: usize, rec: LogRecord) {
-    head(name, number, value, rec);
-    io::write_all(1, b"\n");
+pub fn line(
+    rt: &impl Print,
+    name: &str,
+    number: i32,
+    value: u64,
+    rec: LogRecord,
+) -> io::Result<()> {
+    head(rt, name, number, value, rec)?;
+    println!(rt)
 }
 
-fn by_rule(name: &[u8], number: usize, value: usize, rec: LogRecord, rule: Rule) {
-    head(name, number, value, rec);
-    rules::decided(rule);
-    io::write_all(1, b"\n");
-}
-
-fn refused(name: &[u8], e: Error, rec: LogRecord) {
-    line(
-        name,
-        cast::word(errors::number(e)),
-        errors::place(e) as usize,
-        rec,
-    );
-}
-
-pub fn offered(name: &[u8], reply: OfferReply) {
-    let rec = reply.next;
-    let answer = reply.answer;
-    let rule = reply.rule;
+// The number and the value of an answer: 0 and what is answered, or a refusal and its place.
+fn number_and_value(answer: Result<u64, Error>) -> (i32, u64) {
     match answer {
-        Offered::Position(p) => by_rule(name, 0, cast::long(p), rec, rule),
-        Offered::Refused(e) => by_rule(name, cast::word(errors::number(e)), 0, rec, rule),
+        Ok(value) => (0, value),
+        Err(refusal) => (errors::number(refusal), u64::from(errors::place(refusal))),
     }
 }
 
-pub fn claimed(name: &[u8], reply: ClaimReply) {
-    let rec = reply.next;
-    let answer = reply.answer;
-    let rule = reply.rule;
-    match answer {
-        Claimed::Position(p, _) => by_rule(name, 0, cast::long(p), rec, rule),
-        Claimed::Refused(e) => by_rule(name, cast::word(errors::number(e)), 0, rec, rule),
-    }
+fn answered(
+    rt: &impl Print,
+    name: &str,
+    rec: LogRecord,
+    answer: Result<u64, Error>,
+) -> io::Result<()> {
+    let (number, value) = number_and_value(answer);
+    line(rt, name, number, value, rec)
 }
 
-pub fn changed(name: &[u8], reply: RecordReply) {
-    let answer = reply.answer;
-    done(name, reply.next, answer);
+fn decided(
+    rt: &impl Print,
+    name: &str,
+    rec: LogRecord,
+    answer: Result<i64, Error>,
+    rule: Rule,
+) -> io::Result<()> {
+    let (number, value) = number_and_value(answer.map(|position| position.cast_unsigned()));
+    head(rt, name, number, value, rec)?;
+    println!(rt;
+        ", rule {} {}",
+        publication::rule::place(rule),
+        rules::name(rule)
+    )
 }
 
-pub fn done(name: &[u8], rec: LogRecord, answer: Outcome) {
-    match answer {
-        Outcome::Done => line(name, 0, 0, rec),
-        Outcome::Refused(e) => refused(name, e, rec),
-    }
+pub fn offered(rt: &impl Print, name: &str, reply: OfferReply) -> io::Result<()> {
+    decided(rt, name, reply.next, reply.answer, reply.rule)
 }
 
-pub fn appended(name: &[u8], reply: AppendReply) {
-    let rec = reply.next;
-    let answer = reply.answer;
-    match answer {
-        Appended::Offset(end) => line(name, 0, end, rec),
-        Appended::Tripped => line(name, 0, 0, rec),
-        Appended::Refused(e) => refused(name, e, rec),
-    }
+pub fn claimed(rt: &impl Print, name: &str, reply: ClaimReply) -> io::Result<()> {
+    let answer = reply.answer.map(|claimed| claimed.position);
+    decided(rt, name, reply.next, answer, reply.rule)
 }
 
-pub fn scanned(name: &[u8], rec: LogRecord, answer: Scanned) {
-    match answer {
-        Scanned::Offset(at) => line(name, 0, at, rec),
-        Scanned::Refused(e) => refused(name, e, rec),
-    }
+pub fn changed(rt: &impl Print, name: &str, reply: RecordReply) -> io::Result<()> {
+    done(rt, name, reply.next, reply.answer)
 }
 
-pub fn term_read(name: &[u8], rec: LogRecord, answer: TermRead) {
-    match answer {
-        TermRead::Outcome(at, _) => line(name, 0, at, rec),
-        TermRead::Refused(e) => refused(name, e, rec),
-    }
+pub fn done(
+    rt: &impl Print,
+    name: &str,
+    rec: LogRecord,
+    answer: Result<(), Error>,
+) -> io::Result<()> {
+    answered(rt, name, rec, answer.map(|()| 0))
 }
 
-pub fn gap_scanned(name: &[u8], rec: LogRecord, answer: GapScanned) {
-    match answer {
-        GapScanned::Gap(_, at, _, _) => line(name, 0, at, rec),
-        GapScanned::NoGap(at) => line(name, 0, at, rec),
-        GapScanned::Refused(e) => refused(name, e, rec),
-    }
+pub fn appended(rt: &impl Print, name: &str, reply: AppendReply) -> io::Result<()> {
+    let answer = match reply.answer {
+        Appended::Offset(end) => Ok(end as u64),
+        Appended::Tripped => Ok(0),
+        Appended::Refused(refusal) => Err(refusal),
+    };
+    answered(rt, name, reply.next, answer)
 }
 
-pub fn available(name: &[u8], rec: LogRecord, answer: AvailabilityScanned) {
-    match answer {
-        AvailabilityScanned::Outcome(n) => line(name, 0, cast::long(n), rec),
-        AvailabilityScanned::Refused(e) => refused(name, e, rec),
-    }
+pub fn scanned(
+    rt: &impl Print,
+    name: &str,
+    rec: LogRecord,
+    answer: Result<usize, Error>,
+) -> io::Result<()> {
+    answered(rt, name, rec, answer.map(|offset| offset as u64))
+}
+
+pub fn term_read(
+    rt: &impl Print,
+    name: &str,
+    rec: LogRecord,
+    answer: Result<TermRead, Error>,
+) -> io::Result<()> {
+    scanned(rt, name, rec, answer.map(|read| read.offset))
+}
+
+pub fn gap_scanned(
+    rt: &impl Print,
+    name: &str,
+    rec: LogRecord,
+    answer: Result<GapScanned, Error>,
+) -> io::Result<()> {
+    let offset = answer.map(|scanned| match scanned {
+        GapScanned::Gap(_, offset, _, _) | GapScanned::NoGap(offset) => offset,
+    });
+    self::scanned(rt, name, rec, offset)
+}
+
+pub fn available(
+    rt: &impl Print,
+    name: &str,
+    rec: LogRecord,
+    answer: Result<i64, Error>,
+) -> io::Result<()> {
+    answered(rt, name, rec, answer.map(|n| n.cast_unsigned()))
 }

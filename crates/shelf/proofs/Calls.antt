@@ -1,8 +1,10 @@
 -- A term laid down whole, a shelf judged header by header, and taken down frame by frame.
+use Rattle.std.specs.Prelude.{Result, Ok, Err, Some, ⊤}
+use Rattle.shelf.specs.declared.ShelfError.{ShelfError}
 use mathlib.Core.Path.{◌≡◌, refl, sym, ap, ap₂, ◌∙◌}
 use Prim.Native.Nat.{ℕ, zero, suc, ◌+◌, ◌-◌, ◌*◌, ◌%◌, ◌≤◌, ◌<◌}
 use mathlib.Core.Bool.{Bool, true, false, cond, ◌&&◌}
-use mathlib.Core.List.{List, [], ◌∷◌, ◌++◌, append_assoc, append-nil}
+use mathlib.Core.List.{List, [], ◌++◌, append_assoc, append-nil}
 use native.Mathlib.Omega.{arith}
 use borrow.Author.Tests.{eq-eqb, ne_eqb, eqb-true, leb-true}
 use lib.Dec.{eqb, leb}
@@ -18,12 +20,10 @@ use Rattle.model.proofs.Sound.{sound-true}
 use Rattle.model.proofs.SoundRecord.{sound-record-true}
 use Rattle.model.proofs.Both.{and-true, test}
 use Rattle.model.proofs.Splice.{drop-splice, length-splice}
-use Rattle.shelf.specs.Shelf.{size_at, frames_of, joined, filled, bodies, shelf_of, header_on, size_on, fits, accepted, frames_on, term_of}
+use Rattle.shelf.specs.Shelf.{size_at, size_found, frames_of, joined, filled, bodies, shelf_of, header_on, size_on, fits, accepted, frames_on, term_of}
 use Rattle.shelf.specs.declared.ShelfError.TheVariants.{IllegalArgument, IllegalRecord, NotFilled}
-use Rattle.shelf.specs.declared.Shelved.{Shelved}
-use Rattle.shelf.specs.declared.Shelved.TheVariants.{Done, Refused}
 use Rattle.shelf.specs.Calls.{rows, output_by, good_shelve, good_unshelve, term_in, shelve_of, shelve_bytes, unshelve_of, unshelve_bytes}
-use Rattle.shelf.proofs.Sizes.{Sized, size-front}
+use Rattle.shelf.proofs.Sizes.{Sized, size-front, found-some}
 use Rattle.shelf.proofs.Terms.{frames-whole, filled-joined}
 use Rattle.shelf.proofs.RoundTrips.{length-joined, fits-turn, fits-went, fits-room, size-on, no_room, length-header}
 use Rattle.shelf.proofs.Walks.{Laid, nothing-laid, lay-more, lay-all}
@@ -59,35 +59,35 @@ pub term-size : (v : Reading) (shelf out : ℕ) → good_unshelve v shelf out �
 term-size v shelf out g w = omega (arith, (sound-record-true v w).term-high, output-size v shelf out g)
 
 -- the answer by the rows, and the output by the answer
-pub row-1 : (good sound fit : Bool) → good ≡ false → rows good sound fit ≡ Refused IllegalArgument
+pub row-1 : (good sound fit : Bool) → good ≡ false → rows good sound fit ≡ Err IllegalArgument
 row-1 good sound fit g = rw g
 
-pub row-2 : (good sound fit : Bool) → good ≡ true → sound ≡ false → rows good sound fit ≡ Refused IllegalRecord
+pub row-2 : (good sound fit : Bool) → good ≡ true → sound ≡ false → rows good sound fit ≡ Err IllegalRecord
 row-2 good sound fit g s = rw (g, s)
 
-pub row-26 : (good sound fit : Bool) → good ≡ true → sound ≡ true → fit ≡ false → rows good sound fit ≡ Refused NotFilled
+pub row-26 : (good sound fit : Bool) → good ≡ true → sound ≡ true → fit ≡ false → rows good sound fit ≡ Err NotFilled
 row-26 good sound fit g s f = rw (g, s, f)
 
-pub no_row : (good sound fit : Bool) → good ≡ true → sound ≡ true → fit ≡ true → rows good sound fit ≡ Done
+pub no_row : (good sound fit : Bool) → good ≡ true → sound ≡ true → fit ≡ true → rows good sound fit ≡ Ok tt
 no_row good sound fit g s f = rw (g, s, f)
 
 -- both calls: what is answered, by the reading that the call took
-pub shelve-by : (rec : LogRecord) (log : List ℕ) (partition : ℤ) (out : List ℕ) (v : Reading) (p : ℕ) {a : Shelved} → v ≡ reading rec → p ≡ word partition
+pub shelve-by : (rec : LogRecord) (log : List ℕ) (partition : ℤ) (out : List ℕ) (v : Reading) (p : ℕ) {a : Result ⊤ ShelfError} → v ≡ reading rec → p ≡ word partition
     → rows (good_shelve v p (length out)) (sound v (length log)) (filled (term_in log p v.term)) ≡ a
     → (a ≡ shelve_of rec log partition (length out)) × (output_by a (shelf_of (term_in log p v.term)) out ≡ shelve_bytes rec log partition out)
 unfolding shelve_of shelve_bytes
 shelve-by rec log partition out v p {a} e q h =
     let s = ap₂ (λ (v : Reading) (p : ℕ). rows (good_shelve v p (length out)) (sound v (length log)) (filled (term_in log p v.term))) e q in
     let t = ap₂ (λ (v : Reading) (p : ℕ). shelf_of (term_in log p v.term)) e q in
-    (sym h ∙ s, ap₂ (λ (x : Shelved) (y : List ℕ). output_by x y out) (sym h ∙ s) t)
+    (sym h ∙ s, ap₂ (λ (x : Result ⊤ ShelfError) (y : List ℕ). output_by x y out) (sym h ∙ s) t)
 
-pub unshelve-by : (rec : LogRecord) (shelf out : List ℕ) (v : Reading) {a : Shelved} → v ≡ reading rec
+pub unshelve-by : (rec : LogRecord) (shelf out : List ℕ) (v : Reading) {a : Result ⊤ ShelfError} → v ≡ reading rec
     → rows (good_unshelve v (length shelf) (length out)) (sound_record v) (accepted (length out) shelf) ≡ a
     → (a ≡ unshelve_of rec shelf (length out)) × (output_by a (term_of (length out) shelf) out ≡ unshelve_bytes rec shelf out)
 unfolding unshelve_of unshelve_bytes
 unshelve-by rec shelf out v {a} e h =
     let s = ap (λ (v : Reading). rows (good_unshelve v (length shelf) (length out)) (sound_record v) (accepted (length out) shelf)) e in
-    (sym h ∙ s, ap (λ (x : Shelved). output_by x (term_of (length out) shelf) out) (sym h ∙ s))
+    (sym h ∙ s, ap (λ (x : Result ⊤ ShelfError). output_by x (term_of (length out) shelf) out) (sym h ∙ s))
 
 -- the part of the log that is lent
 pub part-is : (log : List ℕ) (p t : ℕ) → take (p * t + t - p * t) (drop (p * t) log) ≡ term_in log p t
@@ -98,21 +98,6 @@ part_length log p t h = ap length (part-is log p t) ∙ length-take-le t (drop (
 
 -- ---- laid down
 
--- the count tells whether the term is filled
-pub no_frames : (t : List ℕ) → 0 < length t → cond (filled t) (length (frames_of t)) 0 ≡ 0 → filled t ≡ false
-unfolding frames_of joined
-no_frames t h e = test (filled t) (λ q.
-    let n : length (frames_of t) ≡ 0 = ap (λ (b : Bool). cond b (length (frames_of t)) 0) (sym q) ∙ e in
-    absurd (omega (arith, ap length (filled-joined t q), none (frames_of t) n))) (λ q. q)
-  where
-    none : (fs : List (List ℕ)) → length fs ≡ 0 → length (joined fs) ≡ 0
-    none [] n = refl
-    none (f ∷ fs) n = absurd (omega arith)
-
-pub some-frames : (t : List ℕ) (n : ℕ) → n ≡ cond (filled t) (length (frames_of t)) 0 → (n ≡ 0 → ⊥) → (filled t ≡ true) × (n ≡ length (frames_of t))
-some-frames t n e h =
-    test (filled t) (λ q. (q, e ∙ ap (λ (b : Bool). cond b (length (frames_of t)) 0) q)) (λ q. absurd (h (e ∙ ap (λ (b : Bool). cond b (length (frames_of t)) 0) q)))
-
 pub lay-room : (t : List ℕ) → filled t ≡ true → length t ≡ 32 * length (frames_of t) + length (bodies (frames_of t))
 unfolding frames_of
 lay-room t h = ap length (sym (filled-joined t h)) ∙ length-joined (frames_of t) (frames-whole (length t) t).0
@@ -121,6 +106,10 @@ lay-room t h = ap length (sym (filled-joined t h)) ∙ length-joined (frames_of 
 pub count_kept : (out : List ℕ) (n : ℕ) → 4 ≤ length out → length (splice out 0 (le4 n)) ≡ length out
 unfolding le4
 count_kept out n h = length-splice out 0 (le4 n) (omega arith)
+
+pub lay-full : (t out now : List ℕ) (n : ℕ) → filled t ≡ true → n ≡ length (frames_of t) → length out ≡ length t + 4 → now ≡ splice out 0 (le4 n)
+    → length now ≡ 4 + 32 * n + length (bodies (frames_of t))
+lay-full t out now n h c l e = omega (arith, ap length e, count_kept out n (omega arith), lay-room t h)
 
 -- ---- judged
 
@@ -258,6 +247,14 @@ module _ (shelf : List ℕ) (n : ℕ) (out₀ out : List ℕ) (k at from : ℕ) 
   take-size h got z e q =
       sym (q ∙ ap₂ (λ (x : List ℕ) (y : ℕ). size_at (drop at x) (y - at)) e (take-kept h got e)
       ∙ header_read shelf n k out at (length out₀ - at) (omega (arith, g.inside, g.laid.same)))
+
+  -- as the code finds it
+  pub next-found : k < n → (got : List ℕ) (z : ℕ) → got ≡ splice out at (header_on shelf n k) → Some z ≡ size_found (size_at (drop at got) (length got - at))
+      → (size_on shelf n k (length out₀ - at) ≡ z) × Next shelf n out₀ k at from z
+  next-found h got z e s =
+      let f = found-some _ z s in
+      let q : size_on shelf n k (length out₀ - at) ≡ z = take-size h got _ e refl ∙ f.0 in
+      (q, rw q at (next h))
 
   pub take_on : (z : ℕ) → size_on shelf n k (length out₀ - at) ≡ z → k < n
       → Taking shelf n out₀ (splice (splice out at (header_on shelf n k)) (at + 32) (take (z - 32) (drop from shelf))) (k + 1) (at + z) (from + (z - 32))

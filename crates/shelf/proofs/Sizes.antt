@@ -1,6 +1,9 @@
--- The size of a frame, by its length word alone.
+-- The size of a frame, by its length word alone, and what the code finds of it.
+use Rattle.std.specs.Prelude.{Option, Some, None}
+use Rattle.std.specs.Option.{IsSome}
+use mathlib.Core.Logic.{◌⊎◌, inl, inr}
 use mathlib.Core.Path.{◌≡◌, refl, sym, ap, ◌∙◌}
-use Prim.Native.Nat.{ℕ, ◌-◌, ◌≤◌, ◌<◌}
+use Prim.Native.Nat.{ℕ, zero, suc, ◌+◌, ◌-◌, ◌%◌, ◌≤◌, ◌<◌}
 use mathlib.Core.Bool.{Bool, true, false, cond, ◌||◌}
 use mathlib.Core.List.{List, ◌++◌}
 use native.Mathlib.Omega.{arith}
@@ -8,10 +11,11 @@ use borrow.Author.Tests.{ltb-true, ltb-false, lt-ltb, le-ltb, ne_eqb}
 use lib.Dec.{eqb, ltb}
 use lib.ListN.{length, drop, get_or-append}
 use Rattle.model.specs.declared.FrameLength.TheVariants.{Free, Writing, Finished}
-use Rattle.model.specs.declared.Frame.TheVariants.{Unsound, Padding, Data}
+use Rattle.model.specs.declared.Frame.{Frame}
+use Rattle.model.specs.declared.Frame.TheVariants.{Absent, Unsound, Padding, Data}
 use Rattle.model.specs.Bytes.{u16, u32}
 use Rattle.model.specs.FrameDescriptor.{align, frame_length_of, frame_by, frame_at}
-use Rattle.shelf.specs.Shelf.{size_by, size_at}
+use Rattle.shelf.specs.Shelf.{size_by, size_at, size_found}
 
 abbrev size_word : ℕ → ℕ → ℕ
 size_word w room = cond (eqb w 0) 0 (cond (ltb w 2147483648) (cond (ltb w 32 || ltb room (align w)) 0 (align w)) 0)
@@ -72,3 +76,28 @@ u32-front h r l =
 
 pub size-front : (h r : List ℕ) (room : ℕ) → 4 ≤ length h → size_at (h ++ r) room ≡ size_at h room
 size-front h r room l = by_word (h ++ r) room ∙ ap (λ (w : ℕ). size_word w room) (u32-front h r l) ∙ sym (by_word h room)
+
+-- ---- what the code finds
+
+pub no_frame : {f : Frame} → (f ≡ Absent) ⊎ ((n : ℕ) × (f ≡ Unsound n)) → size_by f ≡ 0
+no_frame (inl e) = ap size_by e
+no_frame (inr p) = ap size_by p.1
+
+pub found_none : (x : ℕ) → size_found x ≡ None → x ≡ 0
+found_none zero e = refl
+found_none (suc n) e = absurd cc
+
+pub found-some : (x z : ℕ) → Some z ≡ size_found x → (x ≡ z) × (0 < z)
+found-some zero z e = absurd cc
+found-some (suc n) z e = let p : suc n ≡ z = cc in (p, omega arith)
+
+pub found : (x : ℕ) → 0 < x → Some x ≡ size_found x
+found zero h = absurd (omega arith)
+found (suc n) h = refl
+
+pub is-found : {r : Option ℕ} (x : ℕ) → r ≡ size_found x → 0 < x → IsSome r
+is-found x e h = rw (e ∙ sym (found x h)) refl
+
+-- the library's next multiple of the alignment
+pub next-multiple : (n : ℕ) → n + (32 - n % 32) % 32 ≡ align n
+next-multiple n = omega arith

@@ -16,17 +16,14 @@ use logbuffer::{cast, log_buffer_descriptor};
 use model::{LogRecord, Reading};
 
 // NotFilled: the frames of a term do not reach its end, or no term of that length gives the shelf's bytes.
-#[derive(Clone, Copy)]
+#[derive(Clone, Copy, Debug, PartialEq, Eq, thiserror::Error)]
 pub enum ShelfError {
+    #[error("an argument is out of its range")]
     IllegalArgument,
+    #[error("the record or the log breaks its ranges")]
     IllegalRecord,
+    #[error("frames that do not fill the term, or shelf bytes that no term of that length gives")]
     NotFilled,
-}
-
-#[derive(Clone, Copy)]
-pub enum Shelved {
-    Done,
-    Refused(ShelfError),
 }
 
 pub fn error_number(error: ShelfError) -> i32
@@ -43,38 +40,25 @@ pub fn error_number(error: ShelfError) -> i32
 fn good_shelve(v: Reading, partition: usize, out: usize) -> bool
     ensures { result ≡ good_shelve v partition out }
 {
-    if partition > 2 {
-        return false;
-    }
-    if out > 2147483647 {
-        return false;
-    }
-    v.term == (out + 4294967292) % 4294967296
+    partition <= 2 && out <= 2147483647 && v.term == (out + 4294967292) % 4294967296
 }
 
 // An output of the term length.
 fn good_unshelve(v: Reading, shelf: usize, out: usize) -> bool
     ensures { result ≡ good_unshelve v shelf out }
 {
-    if shelf > 2147483647 {
-        return false;
-    }
-    if out > 2147483647 {
-        return false;
-    }
-    out == v.term
+    shelf <= 2147483647 && out <= 2147483647 && out == v.term
 }
 
 // A term laid on the shelf, if its frames fill it.
 fn shelve_term(term: &[u8], out: &mut [u8]) -> bool
-    requires { (0 < length term.now) × ((length term.now ≤ 1073741824) × (length out.old ≡ length term.now + 4)) }
+    requires { (length term.now ≤ 1073741824) × (length out.old ≡ length term.now + 4) }
     ensures value { result ≡ filled term.now }
     ensures out_after { out.new ≡ cond (filled term.now) (shelf_of term.now) out.old }
 {
-    let n = frames::count(term);
-    if n == 0 {
+    let Some(n) = frames::count(term) else {
         return false;
-    }
+    };
     laying::lay(term, n, out);
     true
 }
@@ -93,41 +77,41 @@ fn unshelve_term(shelf: &[u8], out: &mut [u8]) -> bool
 }
 
 // The term of a partition, with its headers together. Refuses 1, 2, 26, and leaves the output as it was then.
-pub fn shelve(rec: LogRecord, log: &[u8], partition: i32, out: &mut [u8]) -> Shelved
+pub fn shelve(rec: LogRecord, log: &[u8], partition: i32, out: &mut [u8]) -> Result<(), ShelfError>
     ensures value { result ≡ shelve_of rec log.now partition (length out.old) }
     ensures out_after { out.new ≡ shelve_bytes rec log.now partition out.old }
 {
     let v = log_buffer_descriptor::read_active(rec);
     let p = cast::word(partition);
     if !good_shelve(v, p, out.len()) {
-        return Shelved::Refused(ShelfError::IllegalArgument);
+        return Err(ShelfError::IllegalArgument);
     }
     if !log_buffer_descriptor::is_sound(v, log.len()) {
-        return Shelved::Refused(ShelfError::IllegalRecord);
+        return Err(ShelfError::IllegalRecord);
     }
     let term = v.term;
     let from = p * term;
     let to = from + term;
     if !shelve_term(&log[from..to], out) {
-        return Shelved::Refused(ShelfError::NotFilled);
+        return Err(ShelfError::NotFilled);
     }
-    Shelved::Done
+    Ok(())
 }
 
 // The term that a shelf came from. Refuses 1, 2, 26, and leaves the output as it was then.
-pub fn unshelve(rec: LogRecord, shelf: &[u8], out: &mut [u8]) -> Shelved
+pub fn unshelve(rec: LogRecord, shelf: &[u8], out: &mut [u8]) -> Result<(), ShelfError>
     ensures value { result ≡ unshelve_of rec shelf.now (length out.old) }
     ensures out_after { out.new ≡ unshelve_bytes rec shelf.now out.old }
 {
     let v = log_buffer_descriptor::read_active(rec);
     if !good_unshelve(v, shelf.len(), out.len()) {
-        return Shelved::Refused(ShelfError::IllegalArgument);
+        return Err(ShelfError::IllegalArgument);
     }
     if !log_buffer_descriptor::is_sound_record(v) {
-        return Shelved::Refused(ShelfError::IllegalRecord);
+        return Err(ShelfError::IllegalRecord);
     }
     if !unshelve_term(shelf, out) {
-        return Shelved::Refused(ShelfError::NotFilled);
+        return Err(ShelfError::NotFilled);
     }
-    Shelved::Done
+    Ok(())
 }

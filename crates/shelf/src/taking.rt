@@ -12,10 +12,8 @@ fn gather(shelf: &[u8], n: usize, k: usize, out: &mut [u8], to: usize)
     requires { (k < n) × ((4 + 32 * n ≤ length shelf.now) × (to + 32 ≤ length out.old)) }
     ensures { out.new ≡ splice out.old to (header_on shelf.now n k) }
 {
-    let mut b = 0;
-    while b < HEADER_LENGTH {
+    for b in 0..HEADER_LENGTH {
         out[to + b] = shelf[COUNT_LENGTH + b * n + k];
-        b += 1;
     }
 }
 
@@ -24,17 +22,14 @@ fn fits(shelf: &[u8], n: usize, term: usize) -> bool
     requires { 4 + 32 * n ≤ length shelf.now }
     ensures { result ≡ fits_on shelf.now n n 0 term }
 {
-    let mut k = 0;
     let mut room = term;
-    while k < n {
-        let mut header = [0u8; 32];
+    for k in 0..n {
+        let mut header = [0; HEADER_LENGTH];
         gather(shelf, n, k, &mut header, 0);
-        let z = frames::size(&header, 0, room);
-        if z == 0 {
+        let Some(z) = frames::size(&header, 0, room) else {
             return false;
-        }
+        };
         room -= z;
-        k += 1;
     }
     room == 0
 }
@@ -60,15 +55,14 @@ pub(crate) fn take_down(shelf: &[u8], out: &mut [u8])
     ensures { out.new ≡ term_of (length out.old) shelf.now }
 {
     let n = bytes::count_on(shelf);
-    let mut k = 0;
     let mut at = 0;
     let mut from = COUNT_LENGTH + HEADER_LENGTH * n;
-    while k < n {
+    for k in 0..n {
         gather(shelf, n, k, out, at);
-        let z = frames::size(out, at, out.len() - at);
-        bytes::copy(out, at + HEADER_LENGTH, shelf, from, z - HEADER_LENGTH);
-        from += z - HEADER_LENGTH;
+        let z = frames::size(out, at, out.len() - at).unwrap();
+        let body = z - HEADER_LENGTH;
+        bytes::copy(out, at + HEADER_LENGTH, shelf, from, body);
+        from += body;
         at += z;
-        k += 1;
     }
 }

@@ -1,6 +1,6 @@
 // A log whose first term is full: offers of 0 to 8,192 bytes, a claim that is committed and one that is aborted, and padding to the end.
 use logbuffer::buffer_claim;
-use model::{Claim, ClaimReply, Claimed, LogRecord};
+use model::LogRecord;
 use publication::{opening, positions};
 
 // An empty log of 65,536 bytes a term, mtu 1,408, with a limit of two terms.
@@ -9,71 +9,39 @@ pub fn fresh(log: &mut [u8]) -> LogRecord {
     positions::set_publication_limit(opened.next, 131072).next
 }
 
-fn offer(rec: LogRecord, log: &mut [u8], message: &[u8], n: usize) -> LogRecord {
-    publication::offer(rec, log, support::part(message, 0, n), 99).next
-}
-
-fn commit(rec: LogRecord, log: &mut [u8], claim: Claim) {
-    buffer_claim::write(rec, log, claim, &[8; 100]);
-    buffer_claim::commit(rec, log, claim);
-}
-
-fn committed(log: &mut [u8], reply: ClaimReply) -> LogRecord {
-    let next = reply.next;
-    let answer = reply.answer;
-    if let Claimed::Position(_, claim) = answer {
-        commit(next, log, claim);
+// An offer of the message's first bytes, for each of the lengths.
+fn offer_each(rec: LogRecord, log: &mut [u8], message: &[u8], lengths: &[usize]) -> LogRecord {
+    let mut next = rec;
+    for n in lengths {
+        next = publication::offer(next, log, support::part(message, 0, *n), 99).next;
     }
     next
 }
 
-fn aborted(log: &mut [u8], reply: ClaimReply) -> LogRecord {
-    let next = reply.next;
-    let answer = reply.answer;
-    if let Claimed::Position(_, claim) = answer {
-        buffer_claim::abort(next, log, claim);
+fn committed_claim(rec: LogRecord, log: &mut [u8]) -> LogRecord {
+    let reply = publication::try_claim(rec, log, 100);
+    if let Ok(claimed) = reply.answer {
+        let _ = buffer_claim::write(reply.next, log, claimed.claim, &[8; 100]);
+        let _ = buffer_claim::commit(reply.next, log, claimed.claim);
     }
-    next
+    reply.next
 }
 
-// A header alone, one with 31 bytes of slack behind its body, and one with 31 in the second line of 32.
-fn short(rec: LogRecord, log: &mut [u8], message: &[u8]) -> LogRecord {
-    let a = offer(rec, log, message, 0);
-    let b = offer(a, log, message, 1);
-    offer(b, log, message, 33)
+fn aborted_claim(rec: LogRecord, log: &mut [u8]) -> LogRecord {
+    let reply = publication::try_claim(rec, log, 50);
+    if let Ok(claimed) = reply.answer {
+        let _ = buffer_claim::abort(reply.next, log, claimed.claim);
+    }
+    reply.next
 }
 
-fn claims(rec: LogRecord, log: &mut [u8]) -> LogRecord {
-    let bead = publication::try_claim(rec, log, 100);
-    let next = committed(log, bead);
-    let dropped = publication::try_claim(next, log, 50);
-    aborted(log, dropped)
-}
-
-// Four of the longest messages, six frames each.
-fn longest(rec: LogRecord, log: &mut [u8], message: &[u8]) -> LogRecord {
-    let a = offer(rec, log, message, 8192);
-    let b = offer(a, log, message, 8192);
-    let c = offer(b, log, message, 8192);
-    offer(c, log, message, 8192)
-}
-
-// Three frames of one message between the short ones and the claims.
-fn mixed(rec: LogRecord, log: &mut [u8], message: &[u8]) -> LogRecord {
-    let a = short(rec, log, message);
-    let b = offer(a, log, message, 4000);
-    claims(b, log)
-}
-
-// Seven of the longest fit the rest of the term; the eighth trips, and leaves padding.
-fn rest(rec: LogRecord, log: &mut [u8], message: &[u8]) -> LogRecord {
-    let a = longest(rec, log, message);
-    longest(a, log, message)
-}
-
+// First a header alone, a frame with 31 bytes of slack behind its body, one with 31 in the second line of 32, and three frames of one message. Behind
+// the claims seven of the longest messages, six frames each, fit the rest of the term; the eighth trips, and leaves padding.
 pub fn fill(log: &mut [u8]) -> LogRecord {
     let message = [5u8; 8192];
-    let fresh = fresh(log);
-    let a = mixed(fresh, log, &message);
-    rest(a, log, &message)
+    let empty = fresh(log);
+    let mixed = offer_each(empty, log, &message, &[0, 1, 33, 4000]);
+    let committed = committed_claim(mixed, log);
+    let aborted = aborted_claim(committed, log);
+    offer_each(aborted, log, &message, &[8192; 8])
 }

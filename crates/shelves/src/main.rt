@@ -7,74 +7,66 @@ mod filling;
 mod print;
 mod refusals;
 
+use crate::print::Numbers;
 use model::LogRecord;
+use std::io;
 
 // A column's place, and a few of its bytes.
-fn column(name: &[u8], shelf: &[u8], at: usize, frames: usize) {
-    print::text(name);
-    print::place(at);
-    print::each(support::part(shelf, at, 9));
-    print::text(b" ..");
-    print::each(support::part(
-        shelf,
-        std::num::wrapping_add_usize(at, std::num::wrapping_sub_usize(frames, 1)),
-        1,
-    ));
-    print::text(b"\n");
+fn column(rt: &impl Print, name: &str, shelf: &[u8], at: usize, frames: usize) -> io::Result<()> {
+    let bytes = support::part(shelf, at, frames);
+    let first = Numbers(support::part(bytes, 0, 9));
+    let last = Numbers(support::part(bytes, frames.saturating_sub(1), 1));
+    println!(rt; "{name} at {at}:{first} ..{last}")
 }
 
-// The columns of a header's field of so many bytes; answers where the next field's begin.
-fn field(name: &[u8], width: usize, shelf: &[u8], from: usize, frames: usize) -> usize {
-    let mut at = from;
-    let mut i = 0;
-    while i < width {
-        column(name, shelf, at, frames);
-        at = std::num::wrapping_add_usize(at, frames);
-        i += 1;
+// The columns of each field of a header, one for each of its bytes. Answers where the bodies begin.
+fn columns(rt: &impl Print, shelf: &[u8], frames: usize) -> io::Result<usize> {
+    let fields = [
+        ("frame length", 4),
+        ("version", 1),
+        ("flags", 1),
+        ("type", 2),
+        ("term offset", 4),
+        ("session id", 4),
+        ("stream id", 4),
+        ("term id", 4),
+        ("reserved value", 8),
+    ];
+    let mut at = 4usize;
+    for (name, width) in fields {
+        for _ in 0..width {
+            column(rt, name, shelf, at, frames)?;
+            at = at.saturating_add(frames);
+        }
     }
-    at
-}
-
-fn columns(shelf: &[u8], frames: usize) -> usize {
-    let version = field(b"frame length", 4, shelf, 4, frames);
-    let flags = field(b"version", 1, shelf, version, frames);
-    let kind = field(b"flags", 1, shelf, flags, frames);
-    let offset = field(b"type", 2, shelf, kind, frames);
-    let session = field(b"term offset", 4, shelf, offset, frames);
-    let stream = field(b"session id", 4, shelf, session, frames);
-    let id = field(b"stream id", 4, shelf, stream, frames);
-    let reserved = field(b"term id", 4, shelf, id, frames);
-    field(b"reserved value", 8, shelf, reserved, frames)
+    Ok(at)
 }
 
 // What lies where, and the way back.
-fn shown(rec: LogRecord, log: &[u8], shelf: &[u8]) {
+fn show(rt: &impl Print, rec: LogRecord, log: &[u8], shelf: &[u8]) -> io::Result<()> {
     let frames = support::byte(shelf, 0) + 256 * support::byte(shelf, 1);
-    print::text(b"count of frames");
-    print::place(0);
-    print::each(support::part(shelf, 0, 4));
-    print::text(b"\n");
-    let bodies = columns(shelf, frames);
-    print::text(b"bodies");
-    print::place(bodies);
-    print::each(support::part(shelf, bodies, 9));
-    print::text(b"\n");
+    let count = Numbers(support::part(shelf, 0, 4));
+    println!(rt; "count of frames at 0:{count}")?;
+    let at = columns(rt, shelf, frames)?;
+    let bodies = Numbers(support::part(shelf, at, 9));
+    println!(rt; "bodies at {at}:{bodies}")?;
     let mut back = [255u8; 65536];
-    print::answer(b"unshelve", shelf::unshelve(rec, shelf, &mut back));
-    if print::is_same(&back, support::part(log, 0, 65536)) {
-        print::text(b", and every byte of the term is back\n");
+    let answer = shelf::unshelve(rec, shelf, &mut back);
+    print::answer(rt, "unshelve", answer)?;
+    if back.as_slice() == support::part(log, 0, 65536) {
+        println!(rt; ", and every byte of the term is back")
     } else {
-        print::text(b", and the term is another\n");
+        println!(rt; ", and the term is another")
     }
 }
 
-fn main() {
+fn main(rt: HostRuntime) -> io::Result<()> {
     let mut log = [0u8; 196608];
     let mut out = [255u8; 65540];
     let rec = filling::fill(&mut log);
-    print::answer(b"shelve", shelf::shelve(rec, &log, 0, &mut out));
-    print::text(b"\n");
-    shown(rec, &log, &out);
-    refusals::of_shelve(rec, &mut log);
-    refusals::of_unshelve(rec, &mut out);
+    print::answer(&rt, "shelve", shelf::shelve(rec, &log, 0, &mut out))?;
+    println!(rt)?;
+    show(&rt, rec, &log, &out)?;
+    refusals::of_shelve(&rt, rec, &mut log)?;
+    refusals::of_unshelve(&rt, rec, &mut out)
 }

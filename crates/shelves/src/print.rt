@@ -1,75 +1,38 @@
-// The lines of the program.
-use logbuffer::cast;
-use shelf::Shelved;
+// The parts of a line: bytes as numbers, an answer, and what became of an output.
+use shelf::ShelfError;
+use std::{fmt, io};
 
-pub fn text(t: &[u8]) {
-    io::write_all(1, t);
-}
+// Bytes as decimal numbers, a space before each.
+#[derive(Clone, Copy)]
+pub struct Numbers<'a>(pub &'a [u8]);
 
-fn decimal(n: usize) {
-    io::print_decimal(1, n as u64);
-}
-
-pub fn place(at: usize) {
-    text(b" at ");
-    decimal(at);
-    text(b":");
-}
-
-fn one(b: u8) {
-    text(b" ");
-    decimal(b as usize);
-}
-
-pub fn each(bytes: &[u8]) {
-    let mut i = 0;
-    while i < bytes.len() {
-        one(bytes[i]);
-        i += 1;
-    }
-}
-
-pub fn is_same(a: &[u8], b: &[u8]) -> bool {
-    if a.len() != b.len() {
-        return false;
-    }
-    let mut i = 0;
-    while i < a.len() {
-        if a[i] != b[i] {
-            return false;
+impl fmt::Display for Numbers<'_> {
+    fn fmt<W: fmt::Write>(&self, f: &mut fmt::Formatter<W>) -> fmt::Result {
+        for byte in self.0 {
+            write!(f, " {byte}")?;
         }
-        i += 1;
+        Ok(())
     }
-    true
 }
 
-// Whether every byte is 255.
-fn is_untouched(bytes: &[u8]) -> bool {
-    let mut i = 0;
-    while i < bytes.len() {
-        if bytes[i] != 255 {
-            return false;
-        }
-        i += 1;
-    }
-    true
-}
-
-pub fn answer(name: &[u8], answer: Shelved) {
-    text(name);
-    text(b": ");
-    match answer {
-        Shelved::Done => text(b"0"),
-        Shelved::Refused(e) => decimal(cast::word(shelf::error_number(e))),
-    }
+// A call by its name, and its refusal's number, 0 for none. The line stays open.
+pub fn answer(rt: &impl Print, name: &str, answer: Result<(), ShelfError>) -> io::Result<()> {
+    let number = answer.map_or_else(shelf::error_number, |()| 0);
+    print!(rt; "{name}: {number}")
 }
 
 // The answer, and whether the output, which was all 255, is as it was.
-pub fn left(name: &[u8], given: Shelved, out: &[u8]) {
-    answer(name, given);
-    if is_untouched(out) {
-        text(b", output as it was\n");
+pub fn left(
+    rt: &impl Print,
+    name: &str,
+    given: Result<(), ShelfError>,
+    out: &[u8],
+) -> io::Result<()> {
+    let left = if out.iter().all(|byte| *byte == 255) {
+        "as it was"
     } else {
-        text(b", output written\n");
-    }
+        "written"
+    };
+    answer(rt, name, given)?;
+    println!(rt; ", output {left}")
 }

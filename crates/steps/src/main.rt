@@ -1,15 +1,17 @@
 // R-14 of document 02, run beside the theorem: on one record, messages of every length up to 8,192 bytes are offered for several payload limits,
 // and each answered position is held against the one before it. A line for each payload limit: how often one byte more moved the position by
 // 64, by 32 and by 0, and how often by anything else than the rule says (never). Then the lengths around the first edges, with what is
-// answered, and the same for claims. A refused length answers 0.
+// answered, and the same for claims. A refused length is shown as 0.
 #![tactic(auto)]
 
-use logbuffer::cast;
-use model::{Claimed, LogRecord, Offered};
+ghost use Rattle.std.specs.Prelude.{◌<◌};
+
+use model::LogRecord;
 use publication::{opening, positions};
+use std::{fmt, io};
 
 // How many rises there were of each kind, and how many that the rule does not name.
-#[derive(Clone, Copy)]
+#[derive(Clone, Copy, Default)]
 struct Rises {
     by_64: u64,
     by_32: u64,
@@ -17,143 +19,116 @@ struct Rises {
     other: u64,
 }
 
+impl Rises {
+    fn count(&mut self, rise: Option<i64>, ruled: i64) {
+        let kind = match ruled {
+            _ if rise != Some(ruled) => &mut self.other,
+            64 => &mut self.by_64,
+            32 => &mut self.by_32,
+            _ => &mut self.by_0,
+        };
+        *kind = kind.saturating_add(1);
+    }
+}
+
+impl fmt::Display for Rises {
+    fn fmt<W: fmt::Write>(&self, f: &mut fmt::Formatter<W>) -> fmt::Result {
+        let Rises {
+            by_64,
+            by_32,
+            by_0,
+            other,
+        } = *self;
+        write!(
+            f,
+            "by 64 {by_64}, by 32 {by_32}, by 0 {by_0}, against the rule {other}"
+        )
+    }
+}
+
 fn fresh(log: &mut [u8], mtu: i32) -> LogRecord {
     let opened = opening::open_log(log, 65536, mtu, 7, 11, 12);
     positions::set_publication_limit(opened.next, 131072).next
 }
 
-fn offered(rec: LogRecord, log: &mut [u8], message: &[u8], n: usize) -> u64 {
-    let reply = publication::offer(rec, log, support::part(message, 0, n), 0);
-    let answer = reply.answer;
-    match answer {
-        Offered::Position(p) => cast::long(p) as u64,
-        Offered::Refused(_) => 0,
-    }
+// The position behind a message, if it is accepted.
+fn offered(rec: LogRecord, log: &mut [u8], message: &[u8]) -> Option<i64> {
+    publication::offer(rec, log, message, 0).answer.ok()
 }
 
-fn claimed(rec: LogRecord, log: &mut [u8], n: i32) -> u64 {
-    let reply = publication::try_claim(rec, log, n);
-    let answer = reply.answer;
-    match answer {
-        Claimed::Position(p, _) => cast::long(p) as u64,
-        Claimed::Refused(_) => 0,
-    }
+// The position behind a claim, if it is accepted.
+fn claimed(rec: LogRecord, log: &mut [u8], n: i32) -> Option<i64> {
+    let claimed = publication::try_claim(rec, log, n).answer.ok()?;
+    Some(claimed.position)
+}
+
+fn rise(before: Option<i64>, after: Option<i64>) -> Option<i64> {
+    after?.checked_sub(before?)
 }
 
 // The frames of a message of n bytes, by a reading of the rule that is not the port's: full ones, and one for what is left or for none.
-fn frames(payload: u64, n: u64) -> u64 {
-    if payload == 0 {
-        return 0;
-    }
-    let full = n / payload;
-    if n % payload == 0 {
-        if n == 0 { 1 } else { full }
+fn frames(payload: u64, n: u64) -> u64
+    requires { 0 < payload }
+{
+    n.div_ceil(payload).max(1)
+}
+
+// How far a message of one byte more than n moves the position.
+fn rule(payload: u64, n: u64) -> i64
+    requires { 0 < payload }
+{
+    if frames(payload, n.saturating_add(1)) != frames(payload, n) {
+        64
+    } else if n.is_multiple_of(32) {
+        32
     } else {
-        std::num::wrapping_add_u64(full, 1)
+        0
     }
-}
-
-fn rule(payload: u64, n: u64) -> u64 {
-    if frames(payload, std::num::wrapping_add_u64(n, 1)) != frames(payload, n) {
-        return 64;
-    }
-    if n % 32 == 0 { 32 } else { 0 }
-}
-
-fn counted(rises: Rises, rise: u64, ruled: u64) -> Rises {
-    let mut next = rises;
-    if rise != ruled {
-        next.other = std::num::wrapping_add_u64(next.other, 1);
-        return next;
-    }
-    if rise == 64 {
-        next.by_64 = std::num::wrapping_add_u64(next.by_64, 1);
-        return next;
-    }
-    if rise == 32 {
-        next.by_32 = std::num::wrapping_add_u64(next.by_32, 1);
-        return next;
-    }
-    next.by_0 = std::num::wrapping_add_u64(next.by_0, 1);
-    next
 }
 
 // Every length from 0 to 8,191, and one byte more.
-fn sweep(rec: LogRecord, log: &mut [u8], message: &[u8], payload: u64) -> Rises {
-    let mut rises = Rises {
-        by_64: 0,
-        by_32: 0,
-        by_0: 0,
-        other: 0,
-    };
+fn sweep(rec: LogRecord, log: &mut [u8], message: &[u8; 8192], payload: u64) -> Rises
+    requires { 0 < payload }
+{
+    let mut rises = Rises::default();
+    let mut before = offered(rec, log, &message[..0]);
     for n in 0..8192 {
-        let p = offered(rec, log, message, n);
-        let q = offered(rec, log, message, n + 1);
-        rises = counted(
-            rises,
-            std::num::wrapping_sub_u64(q, p),
-            rule(payload, n as u64),
-        );
+        let after = offered(rec, log, &message[..n + 1]);
+        rises.count(rise(before, after), rule(payload, n as u64));
+        before = after;
     }
     rises
 }
 
-fn told(payload: u64, rises: Rises) {
-    io::write_all(1, b"payload limit ");
-    io::print_decimal(1, payload);
-    io::write_all(1, b": by 64 ");
-    io::print_decimal(1, rises.by_64);
-    io::write_all(1, b", by 32 ");
-    io::print_decimal(1, rises.by_32);
-    io::write_all(1, b", by 0 ");
-    io::print_decimal(1, rises.by_0);
-    io::write_all(1, b", against the rule ");
-    io::print_decimal(1, rises.other);
-    io::write_all(1, b"\n");
-}
-
-fn edge(name: &[u8], n: u64, position: u64) {
-    io::write_all(1, name);
-    io::print_decimal(1, n);
-    io::write_all(1, b": ");
-    io::print_decimal(1, position);
-    io::write_all(1, b"\n");
+fn limit(rt: &impl Print, message: &[u8; 8192], mtu: i32, payload: u64) -> io::Result<()>
+    requires { 0 < payload }
+{
+    let mut log = [0u8; 196608];
+    let rec = fresh(&mut log, mtu);
+    let rises = sweep(rec, &mut log, message, payload);
+    println!(rt; "payload limit {payload}: {rises}")
 }
 
 // The lengths around the first edges of a payload limit of 64.
-fn edges(message: &[u8]) {
+fn edges(rt: &impl Print, message: &[u8; 8192]) -> io::Result<()> {
     let mut log = [0u8; 196608];
     let rec = fresh(&mut log, 96);
-    edge(b"offer ", 0, offered(rec, &mut log, message, 0));
-    edge(b"offer ", 1, offered(rec, &mut log, message, 1));
-    edge(b"offer ", 32, offered(rec, &mut log, message, 32));
-    edge(b"offer ", 33, offered(rec, &mut log, message, 33));
-    edge(b"offer ", 64, offered(rec, &mut log, message, 64));
-    edge(b"offer ", 65, offered(rec, &mut log, message, 65));
-    edge(b"offer ", 96, offered(rec, &mut log, message, 96));
-    edge(b"offer ", 97, offered(rec, &mut log, message, 97));
-    edge(b"offer ", 128, offered(rec, &mut log, message, 128));
-    edge(b"offer ", 129, offered(rec, &mut log, message, 129));
-    edge(b"claim ", 0, claimed(rec, &mut log, 0));
-    edge(b"claim ", 1, claimed(rec, &mut log, 1));
-    edge(b"claim ", 32, claimed(rec, &mut log, 32));
-    edge(b"claim ", 33, claimed(rec, &mut log, 33));
-    edge(b"claim ", 64, claimed(rec, &mut log, 64));
-    edge(b"claim ", 65, claimed(rec, &mut log, 65));
+    for n in [0, 1, 32, 33, 64, 65, 96, 97, 128, 129] {
+        let position = offered(rec, &mut log, message.get(..n).unwrap_or(message));
+        println!(rt; "offer {n}: {}", position.unwrap_or(0))?;
+    }
+    for n in [0, 1, 32, 33, 64, 65] {
+        let position = claimed(rec, &mut log, n);
+        println!(rt; "claim {n}: {}", position.unwrap_or(0))?;
+    }
+    Ok(())
 }
 
-fn limit(message: &[u8], mtu: i32, payload: u64) {
-    let mut log = [0u8; 196608];
-    let rec = fresh(&mut log, mtu);
-    told(payload, sweep(rec, &mut log, message, payload));
-}
-
-fn main() {
+fn main(rt: HostRuntime) -> io::Result<()> {
     let message = [1u8; 8192];
-    limit(&message, 64, 32);
-    limit(&message, 96, 64);
-    limit(&message, 128, 96);
-    limit(&message, 1408, 1376);
-    limit(&message, 8224, 8192);
-    edges(&message);
+    let limits = [(64, 32), (96, 64), (128, 96), (1408, 1376), (8224, 8192)];
+    for (mtu, payload) in limits {
+        limit(&rt, &message, mtu, payload)?;
+    }
+    edges(&rt, &message)
 }

@@ -1,17 +1,16 @@
 -- Worked cases at the edges. Most are on a stream of short terms, since a step asks for no sound record; the last are calls on a log of the least size.
+use Rattle.std.specs.Prelude.{Ok, Err}
 use Rattle.std.proofs.Common.{◌≡◌, ℕ, true, false, List, [], ◌∷◌, ◌++◌, replicate, pos, negsuc, refl}
 use lib.Count.{ones, ones_in}
 use Rattle.model.specs.declared.LogRecord.{LogRecord}
 use Rattle.model.specs.declared.Error.TheVariants.{IllegalArgument, PositionOutOfRange, FrameTooShort, FramePastTerm}
 use Rattle.model.specs.declared.Frame.TheVariants.{Padding, Data}
-use Rattle.model.specs.declared.Verdict.TheVariants.{Pass, Refuse}
 use Rattle.model.specs.Bytes.{le4, u16, u32}
 use Rattle.model.specs.FrameDescriptor.{frame_length_of, frame_at, negated, unsound_frame}
 use Rattle.model.specs.LogBufferDescriptor.{reading_of, sound_record, sound}
 use Rattle.model.proofs.Cases.{record_at}
 use Rattle.tally.specs.declared.step.Stop.TheVariants.{Reached, Writing, Free, OtherTerm, PastSecond, UnsoundFrame}
 use Rattle.tally.specs.declared.Sums.{Sums}
-use Rattle.tally.specs.declared.Tallied.TheVariants.{Tally, Refused}
 use Rattle.tally.specs.Walk.{Stream, stream_of, Passed, frame_in, own_id, met, walked, between, end_of, why}
 use Rattle.tally.specs.Span.{good_span, span_rows, first_frame}
 use Rattle.tally.specs.Tally.{sum, sums_of, tally_verdict, tally_of}
@@ -122,19 +121,19 @@ wraps = refl
 abbrev unsound : Stream
 unsound = record { term = 128; initial = 7; log = frame 32 1 7 8 ++ (frame 5 1 8 40 ++ (frame 129 1 7 40 ++ replicate 256 0)) }
 
-first-refuses : first_frame 128 unsound.log 32 64 ≡ Refuse (FrameTooShort 32)
+first-refuses : first_frame 128 unsound.log 32 64 ≡ Err (FrameTooShort 32)
 unfolding first_frame met frame_in own_id frame_at frame_length_of unsound_frame u16 u32 le4
 first-refuses = refl
 
-past-term : first_frame 128 unsound.log 96 128 ≡ Refuse (FramePastTerm 96)
+past-term : first_frame 128 unsound.log 96 128 ≡ Err (FramePastTerm 96)
 unfolding first_frame met frame_in own_id frame_at frame_length_of unsound_frame u16 u32 le4
 past-term = refl
 
-equal-look-at-none : first_frame 128 unsound.log 32 32 ≡ Pass
+equal-look-at-none : first_frame 128 unsound.log 32 32 ≡ Ok tt
 unfolding first_frame met frame_in own_id frame_at frame_length_of unsound_frame u16 u32 le4
 equal-look-at-none = refl
 
-later-stops : (first_frame 128 unsound.log 0 128 ≡ Pass) × (why unsound 128 32 ≡ UnsoundFrame)
+later-stops : (first_frame 128 unsound.log 0 128 ≡ Ok tt) × (why unsound 128 32 ≡ UnsoundFrame)
 unfolding first_frame why met frame_in own_id frame_at frame_length_of unsound_frame u16 u32 le4
 later-stops = (refl, refl)
 
@@ -192,17 +191,17 @@ short-end = refl
 abbrev rec : LogRecord
 rec = record_at (replicate 3 (pos 0)) (pos 7) 96 0 0 false
 
-walks-two : tally_of rec (frame 40 1 7 40 ++ frame 40 0 7 196520) (pos 0) (pos 65536) ≡ Tally (record { body = 8; headers = 32; slack = 24; padding = 64 }) (pos 128) Free
+walks-two : tally_of rec (frame 40 1 7 40 ++ frame 40 0 7 196520) (pos 0) (pos 65536) ≡ Ok (record { sums = record { body = 8; headers = 32; slack = 24; padding = 64 }; end = pos 128; stop = Free })
 unfolding tally_of tally_verdict stream_of span_rows good_span first_frame reading_of sound_record sound ones ones_in met frame_in own_id frame_at frame_length_of u16 u32 le4 walked sum end_of why
 walks-two = refl
 
 -- length 5 with another term's id
-first-unsound : tally_of rec (frame 5 1 8 196584) (pos 0) (pos 32) ≡ Refused (FrameTooShort 0)
+first-unsound : tally_of rec (frame 5 1 8 196584) (pos 0) (pos 32) ≡ Err (FrameTooShort 0)
 unfolding tally_of tally_verdict stream_of span_rows good_span first_frame reading_of sound_record sound ones ones_in met frame_in own_id frame_at frame_length_of unsound_frame u16 u32 le4 walked sum end_of why
 first-unsound = refl
 
 -- three terms from inside a term: 1, but 3 comes before
-four-terms : (partition_verdict rec (replicate 196608 0) (pos 32) (pos 196640) ≡ Refuse IllegalArgument)
-    × (partition_verdict rec (replicate 196608 0) (pos 8) (pos 196616) ≡ Refuse PositionOutOfRange)
+four-terms : (partition_verdict rec (replicate 196608 0) (pos 32) (pos 196640) ≡ Err IllegalArgument)
+    × (partition_verdict rec (replicate 196608 0) (pos 8) (pos 196616) ≡ Err PositionOutOfRange)
 unfolding partition_verdict span_rows good_span reading_of sound_record sound ones ones_in
 four-terms = (refl, refl)

@@ -1,12 +1,9 @@
 -- Why a walk ended, and the refusal of its first frame, by what was read at the place.
-use Rattle.std.proofs.Common.{◌≡◌, ℕ, ◌*◌, ◌%◌, ◌<◌, ◌≤◌, Bool, false, List, [], ◌∷◌, refl, ap, ⊎_elim, arith, le-ltb, lt-ltb, eq-eqb, ne_eqb}
-use types.Run.{OneOf}
-use denote.Enum.Declared.{tag_of}
-use Rattle.model.specs.contracts.Frame.{the_type}
+use Rattle.std.specs.Prelude.{Ok, Err}
+use Rattle.std.proofs.Common.{◌≡◌, ℕ, ◌*◌, ◌%◌, ◌<◌, ◌≤◌, Bool, false, List, refl, ap, le-ltb, lt-ltb, eq-eqb, ne_eqb}
 use Rattle.model.specs.declared.FrameLength.{FrameLength}
 use Rattle.model.specs.declared.Frame.{Frame}
 use Rattle.model.specs.declared.Frame.TheVariants.{Absent, Unsound, Padding, Data}
-use Rattle.model.specs.declared.Verdict.TheVariants.{Pass, Refuse}
 use Rattle.model.specs.FrameDescriptor.{length_at, is_unsound, unsound_frame}
 use Rattle.model.specs.LogBufferDescriptor.{partition_of}
 use Rattle.model.proofs.FrameLaws.{unsound-refusal}
@@ -15,9 +12,9 @@ use Rattle.tally.specs.Walk.{Stream, bytes_at, frame_in, seen, own_id, why_by, w
 use Rattle.tally.specs.Span.{first_frame}
 
 -- a frame by a match that has left the unsound ones behind
-pub not-unsound : (x : Frame) → OneOf (0 ∷ 2 ∷ 3 ∷ []) (tag_of the_type x) → is_unsound x ≡ false
+pub not-unsound : (x : Frame) → ((n : ℕ) → x ≡ Unsound n → ⊥) → is_unsound x ≡ false
 not-unsound Absent h = refl
-not-unsound (Unsound n) h = absurd (⊎_elim (λ e. omega arith) (⊎_elim (λ e. omega arith) (λ e. omega arith)) h)
+not-unsound (Unsound n) h = absurd (h n refl)
 not-unsound (Padding n) h = refl
 not-unsound (Data n) h = refl
 
@@ -31,14 +28,14 @@ module _ (s : Stream) (to p : ℕ) where
   why-by l u o n el eu eo = rw (ne_eqb p to n, el, eu, eo)
 
 module _ (term : ℕ) (log : List ℕ) (from to : ℕ) where
-  pub first-none : to ≤ from → Pass ≡ first_frame term log from to
+  pub first-none : to ≤ from → Ok tt ≡ first_frame term log from to
   unfolding first_frame
   first-none h = rw (le-ltb from to h)
 
-  pub first-sound : from < to → is_unsound (frame_in term log from) ≡ false → Pass ≡ first_frame term log from to
+  pub first-sound : from < to → is_unsound (frame_in term log from) ≡ false → Ok tt ≡ first_frame term log from to
   unfolding first_frame
   first-sound h e = rw (lt-ltb from to h, e)
 
-  pub first-unsound : (n : ℕ) → from < to → frame_in term log from ≡ Unsound n → Refuse (unsound_frame n (from % term)) ≡ first_frame term log from to
+  pub first-unsound : (n : ℕ) → from < to → frame_in term log from ≡ Unsound n → Err (unsound_frame n (from % term)) ≡ first_frame term log from to
   unfolding first_frame frame_in
-  first-unsound n h e = rw (lt-ltb from to h, e) (ap Refuse (unsound-refusal log (partition_of from term * term) term (from % term) n e))
+  first-unsound n h e = rw (lt-ltb from to h, e) (ap Err (unsound-refusal log (partition_of from term * term) term (from % term) n e))

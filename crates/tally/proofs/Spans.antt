@@ -1,10 +1,10 @@
 -- The rows that two positions meet, one by one; what is known where all of them pass; and what follows them.
+use Rattle.std.specs.Prelude.{Result, Ok, Err, ⊤}
+use Rattle.model.specs.declared.Error.{Error}
 use Rattle.std.proofs.Common.{◌≡◌, ℕ, zero, suc, ◌+◌, ◌-◌, ◌*◌, ◌%◌, ◌<◌, ◌≤◌, Bool, true, false, cond, ◌&&◌, leb, ℤ, pos, negsuc, ◌-ℤ◌, ◌*ℤ◌, neg_ℤ, sym, refl, ap, ◌∙◌, arith, w32, w64, SFits, le-ltb, leb-true}
 use lib.Signed.{le_z}
 use Rattle.model.specs.declared.LogRecord.{LogRecord}
 use Rattle.model.specs.declared.Error.TheVariants.{PositionOutOfRange}
-use Rattle.model.specs.declared.Verdict.{Verdict}
-use Rattle.model.specs.declared.Verdict.TheVariants.{Pass, Refuse}
 use Rattle.model.specs.Bytes.{word, long}
 use Rattle.model.specs.LogBufferDescriptor.{reading, sound, greatest, first_rows, good_position}
 use Rattle.model.proofs.Both.{and-true}
@@ -66,22 +66,22 @@ module _ (t from to : ℤ) where
 -- ---- the rows
 
 -- a verdict, and where it passes, what follows
-abbrev pub after : Verdict → Verdict → Verdict
-after Pass rest = rest
-after (Refuse e) rest = Refuse e
+abbrev pub after : Result ⊤ Error → Result ⊤ Error → Result ⊤ Error
+after (Ok _) rest = rest
+after (Err e) rest = Err e
 
 -- the four tests
-abbrev tests : Bool → Bool → Bool → Bool → Verdict → Verdict
-tests a b c d rest = first_rows a b (cond (c && d) rest (Refuse PositionOutOfRange))
+abbrev tests : Bool → Bool → Bool → Bool → Result ⊤ Error → Result ⊤ Error
+tests a b c d rest = first_rows a b (cond (c && d) rest (Err PositionOutOfRange))
 
-tests-after : (a b c d : Bool) (rest : Verdict) → after (tests a b c d Pass) rest ≡ tests a b c d rest
+tests-after : (a b c d : Bool) (rest : Result ⊤ Error) → after (tests a b c d (Ok tt)) rest ≡ tests a b c d rest
 tests-after false b c d rest = refl
 tests-after true false c d rest = refl
 tests-after true true false d rest = refl
 tests-after true true true false rest = refl
 tests-after true true true true rest = refl
 
-tests-pass : (a b c d : Bool) → tests a b c d Pass ≡ Pass → (a ≡ true) × ((b ≡ true) × ((c ≡ true) × (d ≡ true)))
+tests-pass : (a b c d : Bool) → tests a b c d (Ok tt) ≡ Ok tt → (a ≡ true) × ((b ≡ true) × ((c ≡ true) × (d ≡ true)))
 tests-pass false b c d h = absurd (let z : ◌≡◌ {A = ℕ} 0 1 = cc in omega arith)
 tests-pass true false c d h = absurd (let z : ◌≡◌ {A = ℕ} 0 1 = cc in omega arith)
 tests-pass true true false d h = absurd (let z : ◌≡◌ {A = ℕ} 0 1 = cc in omega arith)
@@ -104,17 +104,17 @@ in_order (negsuc m) b f g h k e = absurd (omega arith)
 module _ (r : LogRecord) (n : ℕ) (from to : ℤ) where
   -- with the value of each test
   pub span-by : (a b c d : Bool) → good_span r.term_length from to ≡ a → sound (reading r) n ≡ b → good_position (reading r) (long from) ≡ c → good_position (reading r) (long to) ≡ d
-      → tests a b c d Pass ≡ span_rows r n from to Pass
+      → tests a b c d (Ok tt) ≡ span_rows r n from to (Ok tt)
   unfolding span_rows
   span-by a b c d ea eb ec ed = sym (rw (ea, eb, ec, ed))
 
-  pub span-after : (x rest : Verdict) → x ≡ span_rows r n from to Pass → after x rest ≡ span_rows r n from to rest
+  pub span-after : (x rest : Result ⊤ Error) → x ≡ span_rows r n from to (Ok tt) → after x rest ≡ span_rows r n from to rest
   unfolding span_rows
   span-after x rest h =
-      ap (λ (y : Verdict). after y rest) h
+      ap (λ (y : Result ⊤ Error). after y rest) h
       ∙ tests-after (good_span r.term_length from to) (sound (reading r) n) (good_position (reading r) (long from)) (good_position (reading r) (long to)) rest
 
-  pub span-pass : SFits w64 from → SFits w64 to → Pass ≡ span_rows r n from to Pass → Spanned r n from to
+  pub span-pass : SFits w64 from → SFits w64 to → Ok tt ≡ span_rows r n from to (Ok tt) → Spanned r n from to
   unfolding span_rows good_span
   span-pass f g h =
       let v = reading r in
@@ -131,9 +131,9 @@ module _ (r : LogRecord) (n : ℕ) (from to : ℤ) where
       }
 
   -- what follows them passes only where they do
-  pub span-order : (rest : Verdict) → SFits w64 from → SFits w64 to → span_rows r n from to rest ≡ Pass → long from ≤ long to
-  span-order rest f g h = go (span_rows r n from to Pass) refl
+  pub span-order : (rest : Result ⊤ Error) → SFits w64 from → SFits w64 to → span_rows r n from to rest ≡ Ok tt → long from ≤ long to
+  span-order rest f g h = go (span_rows r n from to (Ok tt)) refl
     where
-      go : (x : Verdict) → span_rows r n from to Pass ≡ x → long from ≤ long to
-      go Pass e = (span-pass f g (sym e)).order
-      go (Refuse w) e = absurd (let q = span-after (Refuse w) rest (sym e) ∙ h in let z : ◌≡◌ {A = ℕ} 0 1 = cc in omega arith)
+      go : (x : Result ⊤ Error) → span_rows r n from to (Ok tt) ≡ x → long from ≤ long to
+      go (Ok _) e = (span-pass f g (sym e)).order
+      go (Err w) e = absurd (let q = span-after (Err w) rest (sym e) ∙ h in let z : ◌≡◌ {A = ℕ} 0 1 = cc in omega arith)

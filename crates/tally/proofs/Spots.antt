@@ -1,5 +1,5 @@
 -- A position by the bits to shift: a term has at most 30 of them, so that all that is worked out of it fits; and the stream of a sound record.
-use Rattle.std.proofs.Common.{◌≡◌, ℕ, ◌+◌, ◌-◌, ◌*◌, ◌/◌, ◌%◌, ◌^◌, ◌<◌, ◌≤◌, min, true, eqb, List, drop, sym, ap, ◌∙◌, ap₂, mod-lt, mul-le-mul, div-le_self, arith, pow_pos, pow_mono}
+use Rattle.std.proofs.Common.{◌≡◌, ℕ, ◌+◌, ◌-◌, ◌*◌, ◌/◌, ◌%◌, ◌^◌, ◌<◌, ◌≤◌, min, true, eqb, List, drop, sym, ap, ◌∙◌, ap₂, mod-lt, div-le_self, arith, pow_pos, pow_mono}
 use lib.Bits.{bit_and, and_mask}
 use lib.Pow.{split}
 use lib.Pow.{high as pow-high, low as pow_low}
@@ -16,34 +16,21 @@ use Rattle.tally.specs.Within.{spot_of}
 
 -- the term that some bits give
 module _ (shift bits : ℕ) (e : shift ≡ min bits 30) where
-  pub few : shift ≤ 30
+  few : shift ≤ 30
   few = omega (arith, e)
 
-  pub low : 0 < 2 ^ shift
-  low = pow_pos shift
-
-  pub high : 2 ^ shift ≤ 1073741824
+  high : 2 ^ shift ≤ 1073741824
   high = pow_mono few
 
   -- 1 shifted by them
-  pub one_shifted : 1 * 2 ^ shift % 18446744073709551616 ≡ 2 ^ min bits 30
+  one_shifted : 1 * 2 ^ shift % 18446744073709551616 ≡ 2 ^ min bits 30
   one_shifted =
       let h = high in
       let z : 1 * 2 ^ shift % 18446744073709551616 ≡ 2 ^ shift = omega (arith, h) in z ∙ ap (λ (n : ℕ). 2 ^ n) e
 
-  -- where a partition begins
-  pub begins : (p : ℕ) → p / 2 ^ shift % 3 * (1 * 2 ^ shift % 18446744073709551616) ≤ 2147483648
-  begins p =
-      let m : p / 2 ^ shift % 3 ≤ 2 = omega arith in
-      let t : 1 * 2 ^ shift % 18446744073709551616 ≤ 1073741824 = omega (arith, high) in
-      mul-le-mul m t
-
   -- the bits below the term length are the offset
-  pub masked : (p : ℕ) → bit_and p (1 * 2 ^ shift % 18446744073709551616 - 1) ≡ p % 2 ^ min bits 30
+  masked : (p : ℕ) → bit_and p (1 * 2 ^ shift % 18446744073709551616 - 1) ≡ p % 2 ^ min bits 30
   masked p = ap (λ (n : ℕ). bit_and p (n - 1)) one_shifted ∙ and_mask p (min bits 30)
-
-  pub below : (p : ℕ) → p % 2 ^ min bits 30 < 2 ^ min bits 30
-  below p = mod-lt p (pow_pos (min bits 30))
 
   -- and with both its count, its index and the room behind it
   pub spot_is : (p : ℕ) → let t = 1 * 2 ^ shift % 18446744073709551616 in let o = bit_and p (t - 1) in
@@ -74,25 +61,6 @@ stream-is r log bits i e f = ap₂ (λ (x y : ℕ). made x y log) e f
   where
     made : ℕ → ℕ → List ℕ → Stream
     made x y l = record { term = x; initial = y; log = l }
-
--- its numbers are small
-pub record Small (x : Spot) : Type 0 where
-  pub offset : x.offset < 1073741824
-  pub room : x.room ≤ 1073741824
-  pub index : x.index < 3221225472
-
-pub spot-small : (bits p : ℕ) (x : Spot) → x ≡ spot_of (2 ^ min bits 30) p → Small x
-spot-small bits p x e =
-    let t = 2 ^ min bits 30 in
-    let o : x.offset ≡ p % t = ap (λ (y : Spot). y.offset) e in
-    let i : x.index ≡ p / t % 3 * t + p % t = ap (λ (y : Spot). y.index) e in
-    let r : x.room ≡ t - p % t = ap (λ (y : Spot). y.room) e in
-    let b : p % t < t = mod-lt p (pow_pos (min bits 30)) in
-    let m : min bits 30 ≤ 30 = omega arith in
-    let h : t ≤ 1073741824 = pow_mono m in
-    let c : p / t % 3 ≤ 2 = omega arith in
-    let q : p / t % 3 * t ≤ 2147483648 = mul-le-mul c h in
-    record { offset = omega arith; room = omega arith; index = omega arith }
 
 -- ---- the term that a spot lies in
 

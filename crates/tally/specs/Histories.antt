@@ -2,8 +2,7 @@
 -- term that is cleared, its body bytes are those of the history's messages between the two, before the first claim that is still open, and its walk ends at that claim,
 -- or at the second position.
 -- `history-tallied` (proofs/Histories.antt) proves `HistoryTallied`.
-use Rattle.std.specs.Prelude.{◌≡◌, ℕ, ◌+◌, ◌≤◌, List, [], ◌∷◌, ◌++◌, ℤ}
-use Rattle.model.specs.declared.Outcome.TheVariants.{Done}
+use Rattle.std.specs.Prelude.{◌≡◌, ℕ, ◌+◌, ◌≤◌, List, [], ◌∷◌, ◌++◌, ℤ, Ok}
 use Rattle.model.specs.Publication.{open_of}
 use Rattle.model.specs.History.{Call, left, Shape, open·, committed, aborted, Extent, message, claimed·, padding, size_all, messages, total, no_terms, AllGiven}
 use Rattle.model.specs.Demand.{opened, shape, history, Start}
@@ -37,7 +36,7 @@ pub record Tallied (c : Shape) (s : Stream) (h : List Extent) (from to : ℕ) : 
 -- The stream may have outgrown its three terms. While no term is cleared, `Start` (model's Demand) asks only that a position is 0 or answered.
 abbrev pub HistoryTallied : Type 0
 HistoryTallied =
-    (log : List ℕ) (term mtu initial session stream : ℤ) → (open_of log term mtu initial session stream).answer ≡ Done
+    (log : List ℕ) (term mtu initial session stream : ℤ) → (open_of log term mtu initial session stream).answer ≡ Ok tt
     → (calls : List Call)
     → let w = opened log term mtu initial session stream in let end = left w calls in
     AllGiven (shape w) [] no_terms w calls

@@ -1,17 +1,15 @@
 -- The tally in partition order: the parts of the stream that lie in partitions 0, 1, 2, each walked by itself, and four sums for each.
 -- In order: 1, 2, 3, then 1 where the bytes between lie in more than three terms, 22 or 23. Read Theorems next.
-use Rattle.std.specs.Prelude.{ℕ, ◌+◌, ◌*◌, ◌/◌, ◌%◌, min, max, Bool, cond, ◌&&◌, List, [], ◌∷◌, length, ℤ, pos, ◌==◌, nat_le}
+use Rattle.std.specs.Prelude.{ℕ, ◌+◌, ◌*◌, ◌/◌, ◌%◌, min, max, Bool, cond, ◌&&◌, List, [], ◌∷◌, length, ℤ, pos, ◌==◌, nat_le, Result, Ok, Err, ⊤}
+use Rattle.model.specs.declared.Error.{Error}
 use Rattle.model.specs.declared.LogRecord.{LogRecord}
 use Rattle.model.specs.declared.Error.TheVariants.{IllegalArgument}
-use Rattle.model.specs.declared.Verdict.{Verdict}
-use Rattle.model.specs.declared.Verdict.TheVariants.{Pass, Refuse}
 use Rattle.model.specs.Answers.{Told, answered, refused}
 use Rattle.model.specs.Bytes.{long}
 use Rattle.model.specs.LogBufferDescriptor.{partition_of, reading}
 use Rattle.tally.specs.declared.Sums.{Sums}
 use Rattle.tally.specs.declared.Partitions.{Partitions}
 use Rattle.tally.specs.declared.PartitionTallied.{PartitionTallied}
-use Rattle.tally.specs.declared.PartitionTallied.TheVariants.{Tally, Refused}
 use Rattle.tally.specs.Walk.{Stream, stream_of, Passed, between, end_of, why}
 use Rattle.tally.specs.Span.{span_rows, first_frame}
 use Rattle.tally.specs.Tally.{sums_of, plus, stop_number, writing_size}
@@ -73,27 +71,27 @@ all_of x = plus (plus x.p0 x.p1) x.p2
 abbrev pub in_three : ℕ → ℕ → ℕ → Bool
 in_three term from to = nat_le to ((from / term + 3) * term)
 
-unfoldable pub partition_verdict : LogRecord → List ℕ → ℤ → ℤ → Verdict
+unfoldable pub partition_verdict : LogRecord → List ℕ → ℤ → ℤ → Result ⊤ Error
 partition_verdict r log from to =
     span_rows r (length log) from to
-    (cond (in_three (reading r).term (long from) (long to)) (first_frame (reading r).term log (long from) (long to)) (Refuse IllegalArgument))
+    (cond (in_three (reading r).term (long from) (long to)) (first_frame (reading r).term log (long from) (long to)) (Err IllegalArgument))
 
 -- each partition's sums, all of them, where the walk ended, and why
-abbrev pub partitioned_by : Stream → ℕ → ℕ → Verdict → PartitionTallied
-partitioned_by s from to Pass =
-    Tally (partitioned s from to) (all_of (partitioned s from to)) (pos (partitioned_end s from to)) (why s to (partitioned_end s from to))
-partitioned_by s from to (Refuse e) = Refused e
+abbrev pub partitioned_by : Stream → ℕ → ℕ → Result ⊤ Error → Result PartitionTallied Error
+partitioned_by s from to (Ok _) =
+    Ok (record { partitions = partitioned s from to; sums = all_of (partitioned s from to); end = pos (partitioned_end s from to); stop = why s to (partitioned_end s from to) })
+partitioned_by s from to (Err e) = Err e
 
-unfoldable pub partition_tally_of : LogRecord → List ℕ → ℤ → ℤ → PartitionTallied
+unfoldable pub partition_tally_of : LogRecord → List ℕ → ℤ → ℤ → Result PartitionTallied Error
 partition_tally_of r log from to = partitioned_by (stream_of r log) (long from) (long to) (partition_verdict r log from to)
 
 -- ---- the numbers of an answer: as a tally's, the sums of partitions 0, 1, 2 behind the totals
 
-abbrev pub partition_told : PartitionTallied → Told
-partition_told (Tally x s end stop) =
-    answered (end ∷ pos (stop_number stop) ∷ pos (writing_size stop)
-    ∷ pos s.body ∷ pos s.headers ∷ pos s.slack ∷ pos s.padding
-    ∷ pos x.p0.body ∷ pos x.p0.headers ∷ pos x.p0.slack ∷ pos x.p0.padding
-    ∷ pos x.p1.body ∷ pos x.p1.headers ∷ pos x.p1.slack ∷ pos x.p1.padding
-    ∷ pos x.p2.body ∷ pos x.p2.headers ∷ pos x.p2.slack ∷ pos x.p2.padding ∷ [])
-partition_told (Refused e) = refused e
+abbrev pub partition_told : Result PartitionTallied Error → Told
+partition_told (Ok tally) =
+    answered (tally.end ∷ pos (stop_number tally.stop) ∷ pos (writing_size tally.stop)
+    ∷ pos tally.sums.body ∷ pos tally.sums.headers ∷ pos tally.sums.slack ∷ pos tally.sums.padding
+    ∷ pos tally.partitions.p0.body ∷ pos tally.partitions.p0.headers ∷ pos tally.partitions.p0.slack ∷ pos tally.partitions.p0.padding
+    ∷ pos tally.partitions.p1.body ∷ pos tally.partitions.p1.headers ∷ pos tally.partitions.p1.slack ∷ pos tally.partitions.p1.padding
+    ∷ pos tally.partitions.p2.body ∷ pos tally.partitions.p2.headers ∷ pos tally.partitions.p2.slack ∷ pos tally.partitions.p2.padding ∷ [])
+partition_told (Err e) = refused e

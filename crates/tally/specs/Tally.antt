@@ -1,9 +1,8 @@
 -- Where a log's bytes went: four sums over the frames that a walk passed, each with its own meaning, where the walk ended, and why.
 -- In order: 1, 2, 3, 22 or 23. Read Theorems next.
-use Rattle.std.specs.Prelude.{ℕ, ◌+◌, ◌-◌, List, [], ◌∷◌, length, ℤ, pos}
+use Rattle.std.specs.Prelude.{ℕ, ◌+◌, ◌-◌, List, [], ◌∷◌, length, ℤ, pos, Result, Ok, Err, ⊤}
+use Rattle.model.specs.declared.Error.{Error}
 use Rattle.model.specs.declared.LogRecord.{LogRecord}
-use Rattle.model.specs.declared.Verdict.{Verdict}
-use Rattle.model.specs.declared.Verdict.TheVariants.{Pass, Refuse}
 use Rattle.model.specs.declared.Frame.{Frame}
 use Rattle.model.specs.declared.Frame.TheVariants.{Absent, Unsound, Padding, Data}
 use Rattle.model.specs.Answers.{Told, answered, refused}
@@ -14,7 +13,6 @@ use Rattle.tally.specs.declared.step.Stop.{Stop}
 use Rattle.tally.specs.declared.step.Stop.TheVariants.{Reached, Writing, Free, OtherTerm, PastSecond, UnsoundFrame}
 use Rattle.tally.specs.declared.Sums.{Sums}
 use Rattle.tally.specs.declared.Tallied.{Tallied}
-use Rattle.tally.specs.declared.Tallied.TheVariants.{Tally, Refused}
 use Rattle.tally.specs.Walk.{Stream, stream_of, Passed, between, end_of, why}
 use Rattle.tally.specs.Span.{span_rows, first_frame}
 
@@ -69,15 +67,15 @@ total s = s.body + s.headers + s.slack + s.padding
 
 -- ---- tally: record, log, two positions
 
-unfoldable pub tally_verdict : LogRecord → List ℕ → ℤ → ℤ → Verdict
+unfoldable pub tally_verdict : LogRecord → List ℕ → ℤ → ℤ → Result ⊤ Error
 tally_verdict r log from to = span_rows r (length log) from to (first_frame (reading r).term log (long from) (long to))
 
 -- the sums over the frames passed, where the walk from a position up to another ended, and why
-abbrev pub tallied_by : Stream → ℕ → ℕ → Verdict → Tallied
-tallied_by s from to Pass = Tally (sums_of (between s from to)) (pos (end_of from (between s from to))) (why s to (end_of from (between s from to)))
-tallied_by s from to (Refuse e) = Refused e
+abbrev pub tallied_by : Stream → ℕ → ℕ → Result ⊤ Error → Result Tallied Error
+tallied_by s from to (Ok _) = Ok (record { sums = sums_of (between s from to); end = pos (end_of from (between s from to)); stop = why s to (end_of from (between s from to)) })
+tallied_by s from to (Err e) = Err e
 
-unfoldable pub tally_of : LogRecord → List ℕ → ℤ → ℤ → Tallied
+unfoldable pub tally_of : LogRecord → List ℕ → ℤ → ℤ → Result Tallied Error
 tally_of r log from to = tallied_by (stream_of r log) (long from) (long to) (tally_verdict r log from to)
 
 -- ---- the numbers of an answer: the position where the walk ended, why by number, the size of a frame being written, and the four sums
@@ -98,7 +96,7 @@ writing_size OtherTerm = 0
 writing_size PastSecond = 0
 writing_size UnsoundFrame = 0
 
-abbrev pub tally_told : Tallied → Told
-tally_told (Tally s end stop) =
-    answered (end ∷ pos (stop_number stop) ∷ pos (writing_size stop) ∷ pos s.body ∷ pos s.headers ∷ pos s.slack ∷ pos s.padding ∷ [])
-tally_told (Refused e) = refused e
+abbrev pub tally_told : Result Tallied Error → Told
+tally_told (Ok tally) =
+    answered (tally.end ∷ pos (stop_number tally.stop) ∷ pos (writing_size tally.stop) ∷ pos tally.sums.body ∷ pos tally.sums.headers ∷ pos tally.sums.slack ∷ pos tally.sums.padding ∷ [])
+tally_told (Err e) = refused e

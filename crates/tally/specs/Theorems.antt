@@ -1,14 +1,13 @@
 -- What is proved of the definitions, as statements, for every log, sound or not, and any two positions. proofs/ has a proof of each, under the name that
 -- is said with it.
-use Rattle.std.specs.Prelude.{◌≡◌, ℕ, ◌+◌, ◌≤◌, true, List, ℤ, FitsSigned}
+use Rattle.std.specs.Prelude.{◌≡◌, ℕ, ◌+◌, ◌≤◌, true, List, ℤ, FitsSigned, Result, Ok, Err}
+use Rattle.model.specs.declared.Error.{Error}
 use Rattle.std.specs.Int.{w64}
 use Rattle.model.specs.declared.LogRecord.{LogRecord}
 use Rattle.model.specs.Bytes.{long}
 use Rattle.model.specs.LogBufferDescriptor.{reading}
 use Rattle.tally.specs.declared.Tallied.{Tallied}
-use Rattle.tally.specs.declared.Tallied.TheVariants.{Tally, Refused}
 use Rattle.tally.specs.declared.PartitionTallied.{PartitionTallied}
-use Rattle.tally.specs.declared.PartitionTallied.TheVariants.{Tally as PartitionTally, Refused as PartitionRefused}
 use Rattle.tally.specs.Walk.{Stream, size, met, between, end_of}
 use Rattle.tally.specs.Tally.{sums_of, total, tally_of}
 use Rattle.tally.specs.Partitions.{by_stream, in_three, partitioned, partition_tally_of}
@@ -31,9 +30,9 @@ EachInStream = (s : Stream) (from to : ℕ) → from ≤ to → in_three s.term 
     → partitioned s from to ≡ by_stream s.term (between s from to)
 
 -- without its partitions
-abbrev pub whole : PartitionTallied → Tallied
-whole (PartitionTally x s end stop) = Tally s end stop
-whole (PartitionRefused e) = Refused e
+abbrev pub whole : Result PartitionTallied Error → Result Tallied Error
+whole (Ok tally) = Ok (record { sums = tally.sums; end = tally.end; stop = tally.stop })
+whole (Err e) = Err e
 
 -- The answer, but for its partitions, is the tally's: all four totals, where the walk ended and why, and the refusals (Ordering, `stream-order`). The positions
 -- are any numbers of 64 bits.

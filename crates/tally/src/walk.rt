@@ -3,11 +3,11 @@ ghost use Rattle.std.specs.Prelude.{◌≡◌, ◌+◌, ◌<◌, ◌≤◌};
 ghost use Rattle.model.specs.Bytes.{word};
 ghost use Rattle.model.proofs.FrameLaws.{length_of};
 ghost use Rattle.tally.specs.Walk.{stream_by, size as size_of};
-ghost use Rattle.tally.specs.Tally.{share as share_of, plus as plus_of, total};
+ghost use Rattle.tally.specs.Tally.{share as share_of};
 ghost use Rattle.tally.specs.Within.{walk_of};
 
-use crate::step::Met;
-use crate::{Sums, step};
+use crate::Sums;
+use crate::step::{Met, Stream};
 use logbuffer::data_frame_header::HEADER_LENGTH;
 use model::Frame;
 
@@ -40,40 +40,29 @@ fn share(met: Met) -> Sums
     }
 }
 
-// Sums added up, one by one.
-fn plus(a: Sums, b: Sums) -> Sums
-    requires { total a + total b < 18446744073709551616 }
-    ensures { result ≡ plus_of a b }
-{
-    Sums {
-        body: a.body + b.body,
-        headers: a.headers + b.headers,
-        slack: a.slack + b.slack,
-        padding: a.padding + b.padding,
-    }
-}
-
-// From one position up to another: the sums, and where the walk ended.
-pub(crate) fn between(bits: u32, initial: i32, log: &[u8], from: usize, to: usize) -> Walked
-    ensures { result ≡ walk_of (stream_by bits (word initial) log.now) from to }
-{
-    let mut sums = Sums {
-        body: 0,
-        headers: 0,
-        slack: 0,
-        padding: 0,
-    };
-    let mut p = from;
-    let mut at = step::locate(bits, from);
-    loop {
-        let met = step::meet_at(bits, initial, log, to, p, at);
-        let n = met.size;
-        if n == 0 {
-            break;
+impl Stream<'_> {
+    // From one position up to another: the sums, and where the walk ended.
+    pub(crate) fn between(self, from: usize, to: usize) -> Walked
+        ensures { result ≡ walk_of (stream_by self.entry.bits (word self.entry.initial) self.entry.log.now) from to }
+    {
+        let mut sums = Sums {
+            body: 0,
+            headers: 0,
+            slack: 0,
+            padding: 0,
+        };
+        let mut p = from;
+        let mut at = self.locate(from);
+        loop {
+            let met = self.meet_at(to, p, at);
+            let n = met.size;
+            if n == 0 {
+                break;
+            }
+            sums = sums.plus(share(met));
+            at = self.onward(p, at, n);
+            p += n;
         }
-        sums = plus(sums, share(met));
-        at = step::onward(bits, p, at, n);
-        p += n;
+        Walked { sums, end: p }
     }
-    Walked { sums: sums, end: p }
 }

@@ -1,13 +1,13 @@
-// The assembler and the replay. Each has a buffer of its own in `rest`, behind the expected log, which nothing else touches between its
-// calls: the assembler's begins at 196,608, the replay's at 327,680.
+// The assembler and the replay. Each has a buffer of its own, which no other call touches.
 //
 // An answer is its number, where the message lies (0 there is none, 1 in the log, 2 in the lent buffer), its first place in the log, its
 // length, and whether its bytes are the payload.
 use crate::decode::Vector;
+use crate::kinds;
 use crate::values::Values;
-use crate::{decode, kinds, reading, values};
+use logbuffer::cast::to_i64;
 use logbuffer::fragment_assembler::FragmentAssembler;
-use model::{Assembled, LogRecord, Replayed};
+use model::{Assembled, Error, LogRecord, Replayed};
 use replay::{Counted, Replay};
 
 #[derive(Clone, Copy)]
@@ -22,173 +22,111 @@ pub struct Stepped {
     pub values: Values,
 }
 
-impl Joined {
-    fn new(next: FragmentAssembler, got: Values) -> Joined {
-        Joined {
-            assembler: next,
-            values: got,
-        }
-    }
-}
-
-impl Stepped {
-    fn new(next: Replay, got: Values) -> Stepped {
-        Stepped {
-            replay: next,
-            values: got,
-        }
-    }
-}
-
 // The first index of a partition, in terms of 65,536 bytes.
 fn base(partition: usize) -> usize {
-    if partition > 2 {
-        return 0;
+    match partition {
+        0..=2 => partition * 65536,
+        _ => 0,
     }
-    partition * 65536
 }
 
-// A message: n bytes of the log (place 1) or of the buffer (place 2), from an index on.
-fn message(
-    v: Vector,
-    input: &[u8],
-    place: i64,
-    start: usize,
-    bytes: &[u8],
-    from: usize,
-    n: usize,
-) -> Values {
-    let same = check::same(support::part(bytes, from, n), decode::payload(v, input));
-    values::five(
-        0,
-        place,
-        values::count(start),
-        values::count(n),
-        values::truth(same),
-    )
+// A message in the log, from a place of it or of its term on.
+fn in_log(v: Vector<'_>, start: usize, body: &[u8]) -> Values {
+    let n = to_i64(body.len());
+    let is_payload = body == v.payload();
+    Values::of(&[0, 1, to_i64(start), n, i64::from(is_payload)])
 }
 
-fn none() -> Values {
-    values::two(0, 0)
+fn in_buffer(v: Vector<'_>, body: &[u8]) -> Values {
+    let n = to_i64(body.len());
+    let is_payload = body == v.payload();
+    Values::of(&[0, 2, 0, n, i64::from(is_payload)])
 }
 
-fn assembled(v: Vector, input: &[u8], log: &[u8], buffer: &[u8], answer: Assembled) -> Values {
+fn assembled(v: Vector<'_>, log: &[u8], buffer: &[u8], answer: Result<Assembled, Error>) -> Values {
     match answer {
-        Assembled::Nothing => none(),
-        Assembled::Fragment(at, n) => {
-            let from = decode::plus(base(decode::size(v, input, 0)), at);
-            message(v, input, 1, at, log, from, n)
+        Ok(Assembled::Nothing) => Values::of(&[0, 0]),
+        Ok(Assembled::Fragment(at, n)) => {
+            let from = base(v.size(0)).saturating_add(at);
+            in_log(v, at, support::part(log, from, n))
         }
-        Assembled::Message(at, n) => message(v, input, 2, 0, buffer, at, n),
-        Assembled::Refused(e) => values::refused(e),
+        Ok(Assembled::Message(at, n)) => in_buffer(v, support::part(buffer, at, n)),
+        Err(e) => Values::refused(e),
     }
 }
 
-// The third argument says how much of the buffer is lent.
+// Argument 2 says how much of the buffer is lent.
 fn on_fragment(
-    v: Vector,
-    input: &[u8],
+    v: Vector<'_>,
     assembler: FragmentAssembler,
     rec: LogRecord,
     log: &[u8],
     buffer: &mut [u8],
 ) -> Joined {
-    let partition = decode::int(v, input, 0);
-    let offset = decode::int(v, input, 1);
-    let reply = assembler.on_fragment(rec, log, buffer, partition, offset);
-    let answer = reply.answer;
-    Joined::new(reply.next, assembled(v, input, log, buffer, answer))
-}
-
-fn fresh(number: i64) -> Joined {
-    Joined::new(FragmentAssembler::new(), values::one(number))
+    let n = v.size(2).min(buffer.len());
+    let lent = &mut buffer[..n];
+    let reply = assembler.on_fragment(rec, log, lent, v.int(0), v.int(1));
+    Joined {
+        assembler: reply.next,
+        values: assembled(v, log, lent, reply.answer),
+    }
 }
 
 pub fn assemble(
-    v: Vector,
-    input: &[u8],
+    kind: kinds::Assemble,
+    v: Vector<'_>,
     assembler: FragmentAssembler,
     rec: LogRecord,
     log: &[u8],
-    rest: &mut [u8],
+    buffer: &mut [u8],
 ) -> Joined {
-    let kind = v.kind;
-    if kind == kinds::NEW_ASSEMBLER {
-        return fresh(0);
-    }
-    if rest.len() < 458752 {
-        return fresh(1);
-    }
-    let n = reading::slots(v, input, 2, 131072);
-    on_fragment(v, input, assembler, rec, log, &mut rest[196608..196608 + n])
-}
-
-fn replayed(v: Vector, input: &[u8], log: &[u8], buffer: &[u8], answer: Replayed) -> Values {
-    match answer {
-        Replayed::End => none(),
-        Replayed::InLog(from, n) => message(v, input, 1, from, log, from, n),
-        Replayed::InBuffer(from, n) => message(v, input, 2, 0, buffer, from, n),
-        Replayed::Refused(e) => values::refused(e),
+    match kind {
+        kinds::Assemble::New => Joined {
+            assembler: FragmentAssembler::new(),
+            values: Values::of(&[0]),
+        },
+        kinds::Assemble::OnFragment => on_fragment(v, assembler, rec, log, buffer),
     }
 }
 
-fn next(
-    v: Vector,
-    input: &[u8],
-    replay: Replay,
-    rec: LogRecord,
-    log: &[u8],
-    buffer: &mut [u8],
-) -> Stepped {
+fn next(v: Vector<'_>, replay: Replay, rec: LogRecord, log: &[u8], buffer: &mut [u8]) -> Stepped {
     let reply = replay.next(rec, log, buffer);
-    let answer = reply.answer;
-    Stepped::new(reply.next, replayed(v, input, log, buffer, answer))
-}
-
-fn count(v: Vector, input: &[u8], rec: LogRecord, log: &[u8], buffer: &mut [u8]) -> Values {
-    match replay::count(rec, log, buffer, 0, decode::int(v, input, 0)) {
-        Counted::Counts(messages, bytes) => values::three(
-            0,
-            values::count(messages),
-            values::count(bytes),
-        ),
-        Counted::Refused(e) => values::refused(e),
+    let values = match reply.answer {
+        Ok(Replayed::End) => Values::of(&[0, 0]),
+        Ok(Replayed::InLog(from, n)) => in_log(v, from, support::part(log, from, n)),
+        Ok(Replayed::InBuffer(from, n)) => in_buffer(v, support::part(buffer, from, n)),
+        Err(e) => Values::refused(e),
+    };
+    Stepped {
+        replay: reply.next,
+        values,
     }
 }
 
-fn advance(
-    v: Vector,
-    input: &[u8],
-    replay: Replay,
-    rec: LogRecord,
-    log: &[u8],
-    buffer: &mut [u8],
-) -> Stepped {
-    let kind = v.kind;
-    if kind == kinds::REPLAY_NEXT {
-        return next(v, input, replay, rec, log, buffer);
+fn count(v: Vector<'_>, rec: LogRecord, log: &[u8], buffer: &mut [u8]) -> Values {
+    match replay::count(rec, log, buffer, 0, v.int(0)) {
+        Ok(Counted { messages, bytes }) => Values::of(&[0, to_i64(messages), to_i64(bytes)]),
+        Err(e) => Values::refused(e),
     }
-    Stepped::new(replay, count(v, input, rec, log, buffer))
-}
-
-fn started(number: i64, session: i32) -> Stepped {
-    Stepped::new(Replay::new(0, session), values::one(number))
 }
 
 pub fn step(
-    v: Vector,
-    input: &[u8],
+    kind: kinds::Replay,
+    v: Vector<'_>,
     replay: Replay,
     rec: LogRecord,
     log: &[u8],
-    rest: &mut [u8],
+    buffer: &mut [u8],
 ) -> Stepped {
-    let kind = v.kind;
-    if kind == kinds::NEW_REPLAY {
-        return started(0, decode::int(v, input, 0));
+    match kind {
+        kinds::Replay::New => Stepped {
+            replay: Replay::new(0, v.int(0)),
+            values: Values::of(&[0]),
+        },
+        kinds::Replay::Next => next(v, replay, rec, log, buffer),
+        kinds::Replay::Count => Stepped {
+            replay,
+            values: count(v, rec, log, buffer),
+        },
     }
-    if rest.len() < 458752 {
-        return started(1, 0);
-    }
-    advance(v, input, replay, rec, log, &mut rest[327680..458752])
 }

@@ -1,96 +1,170 @@
-// The kinds of vectors, by number. oracle/src/vectors.rs has the same numbers, and writes their names into the file's head.
-// main.rt says how a vector lies in the file; run.rt which call each kind makes.
-// Of the record alone.
-pub const SET_PUBLICATION_LIMIT: usize = 1;
+// The kinds of vectors, in families; run.rt says which module makes a family's calls. KINDS has the kinds in the order of their numbers in the
+// file. oracle/src/vector_file.rs has the same order, and writes their names into the file's head.
 
-pub const CLOSE: usize = 2;
+#[derive(Clone, Copy)]
+pub enum Kind {
+    Change(Change),
+    Ask(Ask),
+    Write(Write),
+    Read(Read),
+    Poll(Poll),
+    Move(Move),
+    Assemble(Assemble),
+    Replay(Replay),
+    Number(Number),
+    ByHand(ByHand),
+}
 
-pub const ROTATE_LOG: usize = 3;
+// Of the record alone, which the call hands out anew.
+#[derive(Clone, Copy)]
+pub enum Change {
+    SetPublicationLimit,
+    Close,
+    RotateLog,
+}
 
-pub const POSITION: usize = 4;
-
-pub const PUBLICATION_LIMIT: usize = 5;
-
-pub const AVAILABLE_WINDOW: usize = 6;
+// Of the record alone, a number.
+#[derive(Clone, Copy)]
+pub enum Ask {
+    Position,
+    PublicationLimit,
+    AvailableWindow,
+}
 
 // Writing.
-pub const OPEN_LOG: usize = 7;
-
-pub const OFFER: usize = 8;
-
-pub const TRY_CLAIM: usize = 9;
-
-pub const WRITE_BODY: usize = 10;
-
-pub const COMMIT: usize = 11;
-
-pub const ABORT: usize = 12;
-
-pub const APPEND_UNFRAGMENTED: usize = 13;
-
-pub const APPEND_FRAGMENTED: usize = 14;
-
-pub const APPEND_CLAIM: usize = 15;
+#[derive(Clone, Copy)]
+pub enum Write {
+    OpenLog,
+    Offer,
+    TryClaim,
+    Body,
+    Commit,
+    Abort,
+    AppendUnfragmented,
+    AppendFragmented,
+    AppendClaim,
+}
 
 // Reading a term.
-pub const HEADER_FIELDS: usize = 16;
+#[derive(Clone, Copy)]
+pub enum Read {
+    HeaderFields,
+    Term,
+    View,
+    Scan,
+    ScanForGap,
+    ScanForAvailability,
+}
 
-pub const READ: usize = 17;
+// Of an image, with entries.
+#[derive(Clone, Copy)]
+pub enum Poll {
+    Plain,
+    Bounded,
+    Controlled,
+    Peek,
+}
 
-pub const VIEW: usize = 18;
+// Of an image, without entries.
+#[derive(Clone, Copy)]
+pub enum Move {
+    BlockPoll,
+    SetPosition,
+    IsEndOfStream,
+    Close,
+}
 
-pub const SCAN: usize = 19;
+// Messages put together, frame by frame.
+#[derive(Clone, Copy)]
+pub enum Assemble {
+    New,
+    OnFragment,
+}
 
-pub const SCAN_FOR_GAP: usize = 20;
-
-pub const SCAN_FOR_AVAILABILITY: usize = 21;
-
-// Of an image.
-pub const POLL: usize = 22;
-
-pub const BOUNDED_POLL: usize = 23;
-
-pub const CONTROLLED_POLL: usize = 24;
-
-pub const CONTROLLED_PEEK: usize = 25;
-
-pub const BLOCK_POLL: usize = 26;
-
-pub const SET_POSITION: usize = 27;
-
-pub const IS_END_OF_STREAM: usize = 28;
-
-pub const CLOSE_IMAGE: usize = 29;
-
-// Messages put together.
-pub const NEW_ASSEMBLER: usize = 30;
-
-pub const ON_FRAGMENT: usize = 31;
-
-pub const NEW_REPLAY: usize = 32;
-
-pub const REPLAY_NEXT: usize = 33;
-
-pub const REPLAY_COUNT: usize = 34;
+// Messages replayed.
+#[derive(Clone, Copy)]
+pub enum Replay {
+    New,
+    Next,
+    Count,
+}
 
 // Plain numbers.
-pub const ALIGN: usize = 35;
+#[derive(Clone, Copy)]
+pub enum Number {
+    Align,
+    IsPowerOfTwo,
+    PositionBitsToShift,
+    TermId,
+    TermOffset,
+    IndexByTermCount,
+    IndexByPosition,
+    ComputePosition,
+}
 
-pub const IS_POWER_OF_TWO: usize = 36;
+// No call: fields of the record, bytes of the log.
+#[derive(Clone, Copy)]
+pub enum ByHand {
+    SetFields,
+    PutBytes,
+    Nothing,
+}
 
-pub const POSITION_BITS_TO_SHIFT: usize = 37;
+// In the order of their numbers. No vector of the list has the number 0, which reads as a rotation, nor one past the last, which reads as
+// nothing by hand.
+const KINDS: [Kind; 45] = [
+    Kind::Change(Change::RotateLog),
+    Kind::Change(Change::SetPublicationLimit),
+    Kind::Change(Change::Close),
+    Kind::Change(Change::RotateLog),
+    Kind::Ask(Ask::Position),
+    Kind::Ask(Ask::PublicationLimit),
+    Kind::Ask(Ask::AvailableWindow),
+    Kind::Write(Write::OpenLog),
+    Kind::Write(Write::Offer),
+    Kind::Write(Write::TryClaim),
+    Kind::Write(Write::Body),
+    Kind::Write(Write::Commit),
+    Kind::Write(Write::Abort),
+    Kind::Write(Write::AppendUnfragmented),
+    Kind::Write(Write::AppendFragmented),
+    Kind::Write(Write::AppendClaim),
+    Kind::Read(Read::HeaderFields),
+    Kind::Read(Read::Term),
+    Kind::Read(Read::View),
+    Kind::Read(Read::Scan),
+    Kind::Read(Read::ScanForGap),
+    Kind::Read(Read::ScanForAvailability),
+    Kind::Poll(Poll::Plain),
+    Kind::Poll(Poll::Bounded),
+    Kind::Poll(Poll::Controlled),
+    Kind::Poll(Poll::Peek),
+    Kind::Move(Move::BlockPoll),
+    Kind::Move(Move::SetPosition),
+    Kind::Move(Move::IsEndOfStream),
+    Kind::Move(Move::Close),
+    Kind::Assemble(Assemble::New),
+    Kind::Assemble(Assemble::OnFragment),
+    Kind::Replay(Replay::New),
+    Kind::Replay(Replay::Next),
+    Kind::Replay(Replay::Count),
+    Kind::Number(Number::Align),
+    Kind::Number(Number::IsPowerOfTwo),
+    Kind::Number(Number::PositionBitsToShift),
+    Kind::Number(Number::TermId),
+    Kind::Number(Number::TermOffset),
+    Kind::Number(Number::IndexByTermCount),
+    Kind::Number(Number::IndexByPosition),
+    Kind::Number(Number::ComputePosition),
+    Kind::ByHand(ByHand::SetFields),
+    Kind::ByHand(ByHand::PutBytes),
+];
 
-pub const TERM_ID: usize = 38;
-
-pub const TERM_OFFSET: usize = 39;
-
-pub const INDEX_BY_TERM_COUNT: usize = 40;
-
-pub const INDEX_BY_POSITION: usize = 41;
-
-pub const COMPUTE_POSITION: usize = 42;
-
-// By hand: fields of the record, bytes of the log.
-pub const SET_FIELDS: usize = 43;
-
-pub const PUT_BYTES: usize = 44;
+impl Kind {
+    pub fn of(number: usize) -> Kind {
+        match KINDS.get(number) {
+            Some(kind) => *kind,
+            None => Kind::ByHand(ByHand::Nothing),
+        }
+    }
+}

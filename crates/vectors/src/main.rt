@@ -18,6 +18,7 @@
 
 mod decode;
 mod images;
+mod input;
 mod joining;
 mod kinds;
 mod patch;
@@ -30,24 +31,21 @@ mod values;
 mod writing;
 
 use crate::decode::Vector;
+use crate::kinds::{ByHand, Kind, Write};
 use crate::record::Fields;
-use crate::report::Tally;
-use crate::run::Port;
-use crate::values::Values;
+use crate::report::{Difference, Tally};
+use crate::run::{Answered, Port};
 use logbuffer::fragment_assembler::FragmentAssembler;
-use model::LogRecord;
 use replay::Replay;
+use std::io;
 
-// The port's side, the expected record, the place in the file, what agreed so far; and of the last vector its kind and what differs
-// (0: nothing).
+// The port's side, the expected record, the place of the next vector in the file, and what agreed so far.
 #[derive(Clone, Copy)]
 struct Course {
     port: Port,
     want: Fields,
     at: usize,
     tally: Tally,
-    kind: usize,
-    wrong: usize,
 }
 
 fn start() -> Course {
@@ -58,135 +56,100 @@ fn start() -> Course {
             assembler: FragmentAssembler::new(),
             replay: Replay::new(0, 0),
         },
-        want: want,
+        want,
         at: 1160,
-        tally: report::empty(),
-        kind: 0,
-        wrong: 0,
+        tally: Tally::new(),
     }
 }
 
-// An accepted opening zeroes the log.
-fn expect_opening(v: Vector, input: &[u8], rest: &mut [u8]) {
-    let kind = v.kind;
-    if kind == kinds::OPEN_LOG {
-        if values::result(v, input, 0) == 0 {
-            support::copy(rest, &[0u8; 196608]);
+// The expected log after the call, which an accepted opening zeroes; what is written by hand goes into the port's too. Answers the place behind
+// the vector.
+fn prepare(kind: Kind, v: Vector<'_>, log: &mut [u8], rest: &mut [u8; 458752]) -> usize {
+    match kind {
+        Kind::Write(Write::OpenLog) if v.result(0) == Some(0) => rest[..196608].fill(0),
+        Kind::ByHand(ByHand::PutBytes) => {
+            patch::put_ranges(v, log);
+        }
+        _ => {}
+    }
+    patch::put_ranges(v, rest)
+}
+
+// The answer, the record, and all of the log after a call that can write it.
+fn judge(
+    kind: Kind,
+    v: Vector<'_>,
+    answered: Answered,
+    want: Fields,
+    log: &[u8],
+    expected: &[u8],
+) -> Result<(), Difference> {
+    if !answered.values.agrees_with(v) {
+        return Err(Difference::Answer);
+    }
+    if record::fields_of(answered.port.rec) != want {
+        return Err(Difference::Record);
+    }
+    if matches!(kind, Kind::Write(_)) && log != expected {
+        return Err(Difference::Log);
+    }
+    Ok(())
+}
+
+// The next vector's call, made and judged.
+fn step(
+    from: Course,
+    input: &[u8],
+    log: &mut [u8],
+    rest: &mut [u8; 458752],
+) -> Result<Course, Difference> {
+    let v = Vector::at(input, from.at);
+    let kind = Kind::of(v.number);
+    let at = prepare(kind, v, log, rest);
+    let want = record::changed(v, from.want);
+    let answered = run::run(kind, v, from.port, want, log, rest);
+    judge(kind, v, answered, want, log, &rest[..196608])?;
+    Ok(Course {
+        port: answered.port,
+        want,
+        at,
+        tally: from.tally.with(v),
+    })
+}
+
+// All vectors, or those before the first that differs, and what differs there.
+fn replay_list(
+    input: &[u8],
+    log: &mut [u8],
+    rest: &mut [u8; 458752],
+) -> (Course, Option<Difference>) {
+    let mut course = start();
+    for _ in 0..decode::word(input, 4) {
+        match step(course, input, log, rest) {
+            Ok(next) => course = next,
+            Err(difference) => return (course, Some(difference)),
+        }
+    }
+    (course, None)
+}
+
+// The port's log, and in one piece the rest: the expected log, the assembler's buffer and the replay's. A range past the log's end goes on
+// into the buffers.
+fn run_all(rt: &impl Print, input: &[u8]) -> io::Result<()> {
+    let mut log = [0u8; 196608];
+    let mut rest = [0u8; 458752];
+    let (course, difference) = replay_list(input, &mut log, &mut rest);
+    report::lines(rt, input, &course.tally)?;
+    match difference {
+        None => println!(rt; "0 differ"),
+        Some(difference) => {
+            let number = Vector::at(input, course.at).number;
+            report::differs(rt, input, &course.tally, number, difference)
         }
     }
 }
 
-fn put_by_hand(v: Vector, input: &[u8], log: &mut [u8]) {
-    let kind = v.kind;
-    if kind == kinds::PUT_BYTES {
-        patch::put_ranges(v, input, log);
-    }
-}
-
-// The expected log after the call; what is written by hand goes into the port's too. Answers the place behind the vector.
-fn prepare(v: Vector, input: &[u8], log: &mut [u8], rest: &mut [u8]) -> usize {
-    expect_opening(v, input, rest);
-    put_by_hand(v, input, log);
-    patch::put_ranges(v, input, rest)
-}
-
-fn judge(v: Vector, input: &[u8], got: Values, rec: LogRecord, want: Fields) -> usize {
-    if !values::agree(v, input, got) {
-        return 1;
-    }
-    if !record::same(record::fields_of(rec), want) {
-        return 2;
-    }
-    0
-}
-
-// All of the log, after a call that can write it.
-fn judge_log(v: Vector, wrong: usize, log: &[u8], rest: &[u8]) -> usize {
-    if wrong != 0 {
-        return wrong;
-    }
-    if !run::writes(v) {
-        return 0;
-    }
-    if check::same(log, support::part(rest, 0, 196608)) {
-        0
-    } else {
-        3
-    }
-}
-
-fn counted(tally: Tally, v: Vector, wrong: usize) -> Tally {
-    if wrong != 0 {
-        return tally;
-    }
-    report::agreed(tally, v.kind, v.source)
-}
-
-// The call, made and judged.
-fn make(v: Vector, input: &[u8], from: Course, log: &mut [u8], rest: &mut [u8]) -> Course {
-    let want = record::changed(v, input, from.want);
-    let answered = run::run(v, input, from.port, want, log, rest);
-    let port = answered.port;
-    let got = answered.values;
-    let rec = port.rec;
-    let wrong = judge_log(v, judge(v, input, got, rec, want), log, rest);
-    let tally = counted(from.tally, v, wrong);
-    Course {
-        port: port,
-        want: want,
-        at: from.at,
-        tally: tally,
-        kind: v.kind,
-        wrong: wrong,
-    }
-}
-
-// The next vector, unless one has differed.
-fn step(from: Course, input: &[u8], log: &mut [u8], rest: &mut [u8]) -> Course {
-    if from.wrong != 0 {
-        return from;
-    }
-    let v = decode::vector_at(input, from.at);
-    let mut moved = from;
-    moved.at = prepare(v, input, log, rest);
-    make(v, input, moved, log, rest)
-}
-
-fn replay_list(input: &[u8], log: &mut [u8], rest: &mut [u8]) -> Course {
-    let n = decode::word(input, 4);
-    let mut course = start();
-    let mut k = 0;
-    while k < n {
-        course = step(course, input, log, rest);
-        k += 1;
-    }
-    course
-}
-
-fn tell(input: &[u8], end: Course) {
-    report::lines(input, end.tally);
-    report::totals(end.tally);
-    if end.wrong == 0 {
-        report::none_differ();
-    } else {
-        report::differs(input, end.tally.agreed, end.kind, end.wrong);
-    }
-}
-
-// The port's log, and in one piece the rest: the expected log, the assembler's buffer and the replay's.
-fn with_memory(input: &[u8]) {
-    let mut log = [0u8; 196608];
-    let mut rest = [0u8; 458752];
-    let end = replay_list(input, &mut log, &mut rest);
-    tell(input, end);
-}
-
-fn with_file(file: &mut [u8]) {
-    let n = io::read_full(0, file);
-    with_memory(&file[..n]);
-}
-
-fn main() {
+fn main(rt: HostRuntime) -> io::Result<()> {
     let mut file = [0u8; 1572864];
-    with_file(&mut file);
+    run_all(&rt, input::read(&mut file))
 }

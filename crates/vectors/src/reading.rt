@@ -1,138 +1,95 @@
 // The calls that read a term: partition and offset are a vector's first two arguments.
-ghost use Rattle.std.specs.Prelude.{◌≤◌};
-
 use crate::decode::Vector;
-use crate::values::Values;
-use crate::{decode, kinds, values};
+use crate::kinds::Read;
+use crate::values::{UNTOUCHED, Values};
+use logbuffer::cast::to_i64;
 use logbuffer::{header, term_reader, term_scan};
-use model::{
-    AvailabilityScanned, GapScanned, HeaderFields, HeaderRead, LogRecord, Scanned, TermRead,
-};
-
-fn octet(b: u8) -> i64 {
-    values::count(b as usize)
-}
-
-fn short(h: u16) -> i64 {
-    values::count(h as usize)
-}
+use model::{Error, GapScanned, HeaderFields, LogRecord, TermRead};
 
 // The number, the eight fields in the order of the bytes, and the position.
 fn field_values(f: HeaderFields) -> Values {
-    let reserved = f.reserved_value;
-    let position = f.position;
-    let mut row = [values::UNTOUCHED; 72];
-    row[0] = 0;
-    row[1] = values::wide(f.frame_length);
-    row[2] = octet(f.version);
-    row[3] = octet(f.flags);
-    row[4] = short(f.frame_type);
-    row[5] = values::wide(f.term_offset);
-    row[6] = values::wide(f.session_id);
-    row[7] = values::wide(f.stream_id);
-    row[8] = values::wide(f.term_id);
-    row[9] = reserved;
-    row[10] = position;
-    Values { row: row }
+    Values::of(&[
+        0,
+        i64::from(f.frame_length),
+        i64::from(f.version),
+        i64::from(f.flags),
+        i64::from(f.frame_type),
+        i64::from(f.term_offset),
+        i64::from(f.session_id),
+        i64::from(f.stream_id),
+        i64::from(f.term_id),
+        f.reserved_value,
+        f.position,
+    ])
 }
 
-fn header_fields(v: Vector, input: &[u8], rec: LogRecord, log: &[u8]) -> Values {
-    match header::fields(rec, log, decode::int(v, input, 0), decode::int(v, input, 1)) {
-        HeaderRead::Fields(f) => field_values(f),
-        HeaderRead::Refused(e) => values::refused(e),
+fn header_fields(v: Vector<'_>, rec: LogRecord, log: &[u8]) -> Values {
+    match header::fields(rec, log, v.int(0), v.int(1)) {
+        Ok(fields) => field_values(fields),
+        Err(e) => Values::refused(e),
     }
 }
 
-fn term_read(answer: TermRead) -> Values {
+fn term_read(answer: Result<TermRead, Error>) -> Values {
     match answer {
-        TermRead::Outcome(offset, n) => values::three(0, values::count(offset), values::count(n)),
-        TermRead::Refused(e) => values::refused(e),
+        Ok(TermRead { offset, fragments }) => {
+            Values::of(&[0, to_i64(offset), to_i64(fragments)])
+        }
+        Err(e) => Values::refused(e),
     }
 }
 
-// How many numbers are lent: the k-th argument, and at most all.
-pub fn slots(v: Vector, input: &[u8], k: usize, most: usize) -> usize
-    ensures { result ≤ most }
-{
-    support::least(decode::size(v, input, k), most)
-}
-
-fn read_into(v: Vector, input: &[u8], rec: LogRecord, log: &[u8], entries: &mut [i32]) -> Values {
-    let n = slots(v, input, 2, entries.len());
-    let partition = decode::int(v, input, 0);
-    let offset = decode::int(v, input, 1);
-    let limit = decode::int(v, input, 3);
-    term_read(term_reader::read(rec, log, partition, offset, limit, &mut entries[0..n]))
-}
-
-fn read(v: Vector, input: &[u8], rec: LogRecord, log: &[u8]) -> Values {
-    let mut entries = [-7i32; 64];
-    let got = read_into(v, input, rec, log, &mut entries);
-    values::with_entries(got, &entries)
+// Argument 2 says how many entries are lent, at most all.
+fn read(v: Vector<'_>, rec: LogRecord, log: &[u8]) -> Values {
+    let mut entries = [UNTOUCHED; 64];
+    let n = v.size(2).min(64);
+    let lent = &mut entries[..n];
+    let answer = term_reader::read(rec, log, v.int(0), v.int(1), v.int(3), lent);
+    term_read(answer).with_entries(&entries)
 }
 
 // The companion's number, and whether the part holds the payload.
-fn view(v: Vector, input: &[u8], rec: LogRecord, log: &[u8]) -> Values {
-    let partition = decode::int(v, input, 0);
-    let offset = decode::int(v, input, 1);
-    let length = decode::int(v, input, 2);
-    let number = term_reader::view_number(rec, log, partition, offset, length);
-    let body = term_reader::view(rec, log, partition, offset, length);
-    let same = check::same(body, decode::payload(v, input));
-    values::two(values::wide(number), values::truth(same))
+fn view(v: Vector<'_>, rec: LogRecord, log: &[u8]) -> Values {
+    let number = term_reader::view_number(rec, log, v.int(0), v.int(1), v.int(2));
+    let body = term_reader::view(rec, log, v.int(0), v.int(1), v.int(2));
+    let is_payload = body == v.payload();
+    Values::of(&[i64::from(number), i64::from(is_payload)])
 }
 
-fn scan(v: Vector, input: &[u8], rec: LogRecord, log: &[u8]) -> Values {
-    let partition = decode::int(v, input, 0);
-    let offset = decode::int(v, input, 1);
-    match term_scan::scan(rec, log, partition, offset, decode::int(v, input, 2)) {
-        Scanned::Offset(at) => values::two(0, values::count(at)),
-        Scanned::Refused(e) => values::refused(e),
-    }
+fn scan(v: Vector<'_>, rec: LogRecord, log: &[u8]) -> Values {
+    let answer = term_scan::scan(rec, log, v.int(0), v.int(1), v.int(2));
+    Values::positioned(answer.map(to_i64))
 }
 
 // A gap is told with its term id, offset and length; where there is none, the offset alone. The Rust does not say whether it starts on a frame
 // being written.
-fn gap(answer: GapScanned) -> Values {
+fn gap(answer: Result<GapScanned, Error>) -> Values {
     match answer {
-        GapScanned::Gap(id, at, n, _) => values::five(
-            0,
-            1,
-            values::count(at),
-            values::count(n),
-            values::wide(id),
-        ),
-        GapScanned::NoGap(at) => values::three(0, 0, values::count(at)),
-        GapScanned::Refused(e) => values::refused(e),
+        Ok(GapScanned::Gap(id, at, n, _)) => {
+            Values::of(&[0, 1, to_i64(at), to_i64(n), i64::from(id)])
+        }
+        Ok(GapScanned::NoGap(at)) => Values::of(&[0, 0, to_i64(at)]),
+        Err(e) => Values::refused(e),
     }
 }
 
-fn scan_for_gap(v: Vector, input: &[u8], rec: LogRecord, log: &[u8]) -> Values {
-    let partition = decode::int(v, input, 0);
-    let offset = decode::int(v, input, 1);
-    let id = decode::int(v, input, 2);
-    let high = decode::int(v, input, 3);
-    gap(term_scan::scan_for_gap(rec, log, partition, id, offset, high))
+fn scan_for_gap(v: Vector<'_>, rec: LogRecord, log: &[u8]) -> Values {
+    let answer = term_scan::scan_for_gap(rec, log, v.int(0), v.int(2), v.int(1), v.int(3));
+    gap(answer)
 }
 
-fn scan_for_availability(v: Vector, input: &[u8], rec: LogRecord, log: &[u8]) -> Values {
-    let partition = decode::int(v, input, 0);
-    let offset = decode::int(v, input, 1);
-    let maximum = decode::int(v, input, 2);
-    match term_scan::scan_for_availability(rec, log, partition, offset, maximum) {
-        AvailabilityScanned::Outcome(n) => values::two(0, n),
-        AvailabilityScanned::Refused(e) => values::refused(e),
-    }
+fn scan_for_availability(v: Vector<'_>, rec: LogRecord, log: &[u8]) -> Values {
+    let answer = term_scan::scan_for_availability(rec, log, v.int(0), v.int(1), v.int(2));
+    Values::positioned(answer)
 }
 
-pub fn run(v: Vector, input: &[u8], rec: LogRecord, log: &[u8]) -> Values {
-    let kind = v.kind;
+pub fn run(kind: Read, v: Vector<'_>, rec: LogRecord, log: &[u8]) -> Values {
     match kind {
-        kinds::HEADER_FIELDS => header_fields(v, input, rec, log),
-        kinds::READ => read(v, input, rec, log),
-        kinds::VIEW => view(v, input, rec, log),
-        kinds::SCAN => scan(v, input, rec, log),
-        kinds::SCAN_FOR_GAP => scan_for_gap(v, input, rec, log),
-        _ => scan_for_availability(v, input, rec, log),
+        Read::HeaderFields => header_fields(v, rec, log),
+        Read::Term => read(v, rec, log),
+        Read::View => view(v, rec, log),
+        Read::Scan => scan(v, rec, log),
+        Read::ScanForGap => scan_for_gap(v, rec, log),
+        Read::ScanForAvailability => scan_for_availability(v, rec, log),
     }
 }

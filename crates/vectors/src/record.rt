@@ -1,30 +1,33 @@
 // The record as thirteen numbers, in the order of the struct: three tails, term count, initial id, term length, mtu, session, stream,
 // connected, limit, end of stream, closed. A vector names those that its call changed by their place.
-use crate::decode::Vector;
-use crate::{decode, values};
+use crate::decode::{self, Vector};
+use crate::values;
 use model::LogRecord;
 
-#[derive(Clone, Copy)]
+#[derive(Clone, Copy, PartialEq, Eq)]
 pub struct Fields {
     pub at: [i64; 13],
 }
 
 pub fn fields_of(rec: LogRecord) -> Fields {
-    let mut at = [0i64; 13];
-    at[0] = rec.tails[0];
-    at[1] = rec.tails[1];
-    at[2] = rec.tails[2];
-    at[3] = values::wide(rec.active_term_count);
-    at[4] = values::wide(rec.initial_term_id);
-    at[5] = values::wide(rec.term_length);
-    at[6] = values::wide(rec.mtu_length);
-    at[7] = values::wide(rec.session_id);
-    at[8] = values::wide(rec.stream_id);
-    at[9] = values::wide(rec.is_connected);
-    at[10] = rec.publication_limit;
-    at[11] = rec.end_of_stream_position;
-    at[12] = values::truth(rec.is_closed);
-    Fields { at: at }
+    let [first, second, third] = rec.tails;
+    Fields {
+        at: [
+            first,
+            second,
+            third,
+            i64::from(rec.active_term_count),
+            i64::from(rec.initial_term_id),
+            i64::from(rec.term_length),
+            i64::from(rec.mtu_length),
+            i64::from(rec.session_id),
+            i64::from(rec.stream_id),
+            i64::from(rec.is_connected),
+            rec.publication_limit,
+            rec.end_of_stream_position,
+            i64::from(rec.is_closed),
+        ],
+    }
 }
 
 // The vectors know no marks and no slowest reader, as the Rust does not: every partition counts as cleared, so that every trip may rotate.
@@ -50,32 +53,14 @@ pub fn record_of(f: Fields) -> LogRecord {
 }
 
 // `from` with the fields that the vector names.
-pub fn changed(v: Vector, input: &[u8], from: Fields) -> Fields {
+pub fn changed(v: Vector<'_>, from: Fields) -> Fields {
     let mut at = from.at;
-    let n = v.field_count;
     let mut place = v.fields;
-    let mut k = 0;
-    while k < n {
-        let field = support::byte(input, place);
-        if field < 13 {
-            at[field] = decode::long(input, decode::plus(place, 1));
+    for _ in 0..v.field_count {
+        if let Some(field) = at.get_mut(support::byte(v.input, place)) {
+            *field = decode::long(v.input, place.saturating_add(1));
         }
-        place = decode::plus(place, 9);
-        k += 1;
+        place = place.saturating_add(9);
     }
-    Fields { at: at }
-}
-
-pub fn same(a: Fields, b: Fields) -> bool {
-    let left = a.at;
-    let right = b.at;
-    let mut good = true;
-    let mut k = 0;
-    while k < 13 {
-        if left[k] != right[k] {
-            good = false;
-        }
-        k += 1;
-    }
-    good
+    Fields { at }
 }

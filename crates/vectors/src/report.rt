@@ -1,105 +1,108 @@
 // The lines that the program writes: for each kind how many vectors agreed, or which was the first that did not.
-use crate::decode;
+use crate::decode::Vector;
+use std::io::Write as _;
+use std::{fmt, io};
 
-// How many vectors of each kind agreed, and how many of them are the papers'; and so of all.
+// How many vectors agreed, and how many of them are the papers'.
+#[derive(Clone, Copy, Default)]
+struct Count {
+    all: usize,
+    papers: usize,
+}
+
+impl Count {
+    fn one_more(self, source: usize) -> Count {
+        Count {
+            all: self.all.saturating_add(1),
+            papers: self.papers.saturating_add(source),
+        }
+    }
+}
+
+// The vectors that agreed, of each kind by its number, and of all.
 #[derive(Clone, Copy)]
 pub struct Tally {
-    pub all: [usize; 48],
-    pub given: [usize; 48],
-    pub agreed: usize,
-    pub documents: usize,
+    kinds: [Count; 48],
+    total: Count,
 }
 
-// The file's head has a name of up to 23 bytes for each kind, its length before it.
-fn name(input: &[u8], kind: usize) {
-    if kind >= 48 {
-        return;
-    }
-    let at = decode::plus(8, 24 * kind);
-    let n = support::byte(input, at);
-    io::write_all(1, support::part(input, decode::plus(at, 1), n));
-}
-
-fn add(counts: [usize; 48], kind: usize, n: usize) -> [usize; 48] {
-    let mut next = counts;
-    if kind < 48 {
-        next[kind] = decode::plus(counts[kind], n);
-    }
-    next
-}
-
-pub fn empty() -> Tally {
-    Tally {
-        all: [0; 48],
-        given: [0; 48],
-        agreed: 0,
-        documents: 0,
-    }
-}
-
-pub fn agreed(tally: Tally, kind: usize, source: usize) -> Tally {
-    let all = tally.all;
-    let given = tally.given;
-    Tally {
-        all: add(all, kind, 1),
-        given: add(given, kind, source),
-        agreed: decode::plus(tally.agreed, 1),
-        documents: decode::plus(tally.documents, source),
-    }
-}
-
-fn line(input: &[u8], kind: usize, all: usize, given: usize) {
-    if all == 0 {
-        return;
-    }
-    name(input, kind);
-    io::write_all(1, b": ");
-    io::print_decimal(1, all as u64);
-    io::write_all(1, b" agree");
-    if given > 0 {
-        io::write_all(1, b", ");
-        io::print_decimal(1, given as u64);
-        io::write_all(1, b" of them the papers'");
-    }
-    io::write_all(1, b"\n");
-}
-
-pub fn lines(input: &[u8], tally: Tally) {
-    let all = tally.all;
-    let given = tally.given;
-    let mut k = 0;
-    while k < 48 {
-        line(input, k, all[k], given[k]);
-        k += 1;
-    }
-}
-
-pub fn totals(tally: Tally) {
-    io::print_decimal(1, tally.agreed as u64);
-    io::write_all(1, b" agree, ");
-    io::print_decimal(1, tally.documents as u64);
-    io::write_all(1, b" of them the papers'\n");
-}
-
-// What differs: 1 the answer, 2 the record, 3 the log.
-pub fn differs(input: &[u8], index: usize, kind: usize, what: usize) {
-    io::write_all(1, b"vector ");
-    io::print_decimal(1, index as u64);
-    io::write_all(1, b", ");
-    name(input, kind);
-    match what {
-        1 => {
-            io::write_all(1, b": the answer differs\n");
+impl Tally {
+    pub fn new() -> Tally {
+        Tally {
+            kinds: [Count::default(); 48],
+            total: Count::default(),
         }
-        2 => {
-            io::write_all(1, b": the record differs\n");
+    }
+
+    pub fn with(self, v: Vector<'_>) -> Tally {
+        let mut kinds = self.kinds;
+        if let Some(count) = kinds.get_mut(v.number) {
+            *count = count.one_more(v.source);
         }
-        _ => {
-            io::write_all(1, b": the log differs\n");
+        Tally {
+            kinds,
+            total: self.total.one_more(v.source),
         }
     }
 }
 
-pub fn none_differ() {
-    io::write_all(1, b"0 differ\n");
+// What differs in a vector.
+#[derive(Clone, Copy)]
+pub enum Difference {
+    Answer,
+    Record,
+    Log,
+}
+
+impl fmt::Display for Difference {
+    fn fmt<W: fmt::Write>(&self, f: &mut fmt::Formatter<W>) -> fmt::Result {
+        match self {
+            Difference::Answer => write!(f, "the answer differs"),
+            Difference::Record => write!(f, "the record differs"),
+            Difference::Log => write!(f, "the log differs"),
+        }
+    }
+}
+
+// The file's head has a name for each kind in 24 bytes, its length in the first. Names are bytes, and are written as they are.
+fn name(rt: &impl Print, input: &[u8], number: usize) -> io::Result<()> {
+    if number >= 48 {
+        return Ok(());
+    }
+    let at = 8 + 24 * number;
+    let name = support::part(input, at + 1, support::byte(input, at));
+    io::writer(rt).write_all(name)
+}
+
+fn line(rt: &impl Print, input: &[u8], number: usize, count: Count) -> io::Result<()> {
+    let Count { all, papers } = count;
+    name(rt, input, number)?;
+    match papers {
+        0 => println!(rt; ": {all} agree"),
+        _ => println!(rt; ": {all} agree, {papers} of them the papers'"),
+    }
+}
+
+// A line for each kind that vectors agreed of, and one for all.
+pub fn lines(rt: &impl Print, input: &[u8], tally: &Tally) -> io::Result<()> {
+    for (number, count) in tally.kinds.iter().enumerate() {
+        if count.all > 0 {
+            line(rt, input, number, *count)?;
+        }
+    }
+    let Count { all, papers } = tally.total;
+    println!(rt; "{all} agree, {papers} of them the papers'")
+}
+
+// The first vector that differs comes behind those that agreed.
+pub fn differs(
+    rt: &impl Print,
+    input: &[u8],
+    tally: &Tally,
+    number: usize,
+    difference: Difference,
+) -> io::Result<()> {
+    print!(rt; "vector {}, ", tally.total.all)?;
+    name(rt, input, number)?;
+    println!(rt; ": {difference}")
 }

@@ -2,10 +2,11 @@
 // bookkeeping and the replay.
 use crate::decode::Vector;
 use crate::joining::{Joined, Stepped};
+use crate::kinds::{ByHand, Kind};
 use crate::record::Fields;
 use crate::values::Values;
 use crate::writing::Ran;
-use crate::{images, joining, kinds, reading, record, recorded, values, writing};
+use crate::{images, joining, reading, record, recorded, writing};
 use logbuffer::fragment_assembler::FragmentAssembler;
 use model::LogRecord;
 use replay::Replay;
@@ -23,115 +24,78 @@ pub struct Answered {
     pub values: Values,
 }
 
-impl Answered {
-    fn new(port: Port, got: Values) -> Answered {
+impl Port {
+    // An answer of a call that changes nothing of the port's.
+    fn with(self, values: Values) -> Answered {
+        Answered { port: self, values }
+    }
+
+    fn with_record(self, ran: Ran) -> Answered {
         Answered {
-            port: port,
-            values: got,
+            port: Port {
+                rec: ran.next,
+                ..self
+            },
+            values: ran.values,
+        }
+    }
+
+    fn with_assembler(self, joined: Joined) -> Answered {
+        Answered {
+            port: Port {
+                assembler: joined.assembler,
+                ..self
+            },
+            values: joined.values,
+        }
+    }
+
+    fn with_replay(self, stepped: Stepped) -> Answered {
+        Answered {
+            port: Port {
+                replay: stepped.replay,
+                ..self
+            },
+            values: stepped.values,
         }
     }
 }
 
-fn with_record(port: Port, ran: Ran) -> Answered {
-    let mut next = port;
-    let rec = ran.next;
-    next.rec = rec;
-    Answered::new(next, ran.values)
+// The fields written by hand are those that the vector gives; main.rt puts the bytes.
+fn by_hand(kind: ByHand, port: Port, want: Fields) -> Answered {
+    let rec = match kind {
+        ByHand::SetFields => record::record_of(want),
+        ByHand::PutBytes | ByHand::Nothing => port.rec,
+    };
+    port.with_record(Ran::new(rec, Values::of(&[0])))
 }
 
-fn with_assembler(port: Port, joined: Joined) -> Answered {
-    let mut next = port;
-    let assembler = joined.assembler;
-    next.assembler = assembler;
-    Answered::new(next, joined.values)
-}
-
-fn with_replay(port: Port, stepped: Stepped) -> Answered {
-    let mut next = port;
-    let replay = stepped.replay;
-    next.replay = replay;
-    Answered::new(next, stepped.values)
-}
-
-// The fields written by hand are those that the vector gives.
-fn by_hand(v: Vector, port: Port, want: Fields) -> Answered {
-    let kind = v.kind;
-    if kind != kinds::SET_FIELDS {
-        return Answered::new(port, values::one(0));
-    }
-    with_record(port, Ran::new(record::record_of(want), values::one(0)))
-}
-
-fn of_record(v: Vector, input: &[u8], port: Port) -> Answered {
-    let rec = port.rec;
-    let kind = v.kind;
-    if kind <= kinds::ROTATE_LOG {
-        return with_record(port, recorded::change(v, input, rec));
-    }
-    Answered::new(port, recorded::ask(v, rec))
-}
-
-fn of_messages(v: Vector, input: &[u8], port: Port, log: &[u8], rest: &mut [u8]) -> Answered {
-    let rec = port.rec;
-    let assembler = port.assembler;
-    let replay = port.replay;
-    let kind = v.kind;
-    if kind <= kinds::ON_FRAGMENT {
-        let got = joining::assemble(v, input, assembler, rec, log, rest);
-        return with_assembler(port, got);
-    }
-    with_replay(port, joining::step(v, input, replay, rec, log, rest))
-}
-
-// The calls that write nothing into the log.
-fn of_log(v: Vector, input: &[u8], port: Port, want: Fields, log: &[u8]) -> Answered {
-    let rec = port.rec;
-    let kind = v.kind;
-    if kind <= kinds::AVAILABLE_WINDOW {
-        return of_record(v, input, port);
-    }
-    if kind <= kinds::SCAN_FOR_AVAILABILITY {
-        return Answered::new(port, reading::run(v, input, rec, log));
-    }
-    if kind <= kinds::CLOSE_IMAGE {
-        return Answered::new(port, images::run(v, input, rec, log));
-    }
-    if kind <= kinds::COMPUTE_POSITION {
-        return Answered::new(port, recorded::number(v, input));
-    }
-    by_hand(v, port, want)
-}
-
-pub fn writes(v: Vector) -> bool {
-    let kind = v.kind;
-    if kind < kinds::OPEN_LOG {
-        return false;
-    }
-    kind <= kinds::APPEND_CLAIM
-}
-
-fn puts_together(v: Vector) -> bool {
-    let kind = v.kind;
-    if kind < kinds::NEW_ASSEMBLER {
-        return false;
-    }
-    kind <= kinds::REPLAY_COUNT
-}
-
+// In `rest` lie the expected log and behind it the assembler's buffer and the replay's.
 pub fn run(
-    v: Vector,
-    input: &[u8],
+    kind: Kind,
+    v: Vector<'_>,
     port: Port,
     want: Fields,
     log: &mut [u8],
-    rest: &mut [u8],
+    rest: &mut [u8; 458752],
 ) -> Answered {
     let rec = port.rec;
-    if writes(v) {
-        return with_record(port, writing::run(v, input, rec, log));
+    match kind {
+        Kind::Change(kind) => port.with_record(recorded::change(kind, v, rec)),
+        Kind::Ask(kind) => port.with(recorded::ask(kind, rec)),
+        Kind::Write(kind) => port.with_record(writing::run(kind, v, rec, log)),
+        Kind::Read(kind) => port.with(reading::run(kind, v, rec, log)),
+        Kind::Poll(kind) => port.with(images::poll(kind, v, rec, log)),
+        Kind::Move(kind) => port.with(images::run(kind, v, rec, log)),
+        Kind::Assemble(kind) => {
+            let buffer = &mut rest[196608..327680];
+            port.with_assembler(joining::assemble(kind, v, port.assembler, rec, log, buffer))
+        }
+        Kind::Replay(kind) => {
+            let buffer = &mut rest[327680..];
+            port.with_replay(joining::step(kind, v, port.replay, rec, log, buffer))
+        }
+        Kind::Number(kind) => port.with(recorded::number(kind, v)),
+        Kind::ByHand(kind) => by_hand(kind, port, want),
     }
-    if puts_together(v) {
-        return of_messages(v, input, port, log, rest);
-    }
-    of_log(v, input, port, want, log)
 }

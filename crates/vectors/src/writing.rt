@@ -1,9 +1,10 @@
 // The calls that write the log: each one's arguments out of its vector, and its answer as numbers.
 use crate::decode::Vector;
+use crate::kinds::Write;
 use crate::values::Values;
-use crate::{decode, kinds, values};
+use logbuffer::cast::to_i64;
 use logbuffer::{buffer_claim, term_appender};
-use model::{Appended, AppendedClaim, Claim, Claimed, LogRecord, Offered};
+use model::{Appended, AppendedClaim, Claim, Claimed, Error, LogRecord};
 use publication::opening;
 
 // The next record, and the answer.
@@ -14,167 +15,127 @@ pub struct Ran {
 }
 
 impl Ran {
-    pub fn new(next: LogRecord, got: Values) -> Ran {
-        Ran {
-            next: next,
-            values: got,
-        }
+    pub fn new(next: LogRecord, values: Values) -> Ran {
+        Ran { next, values }
     }
 }
 
-fn open_log(v: Vector, input: &[u8], log: &mut [u8]) -> Ran {
-    let reply = opening::open_log(
-        log,
-        decode::int(v, input, 0),
-        decode::int(v, input, 1),
-        decode::int(v, input, 2),
-        decode::int(v, input, 3),
-        decode::int(v, input, 4),
-    );
-    let answer = reply.answer;
-    Ran::new(reply.next, values::done(answer))
+fn open_log(v: Vector<'_>, log: &mut [u8]) -> Ran {
+    let reply = opening::open_log(log, v.int(0), v.int(1), v.int(2), v.int(3), v.int(4));
+    Ran::new(reply.next, Values::done(reply.answer))
 }
 
-fn offered(answer: Offered) -> Values {
+fn offer(v: Vector<'_>, rec: LogRecord, log: &mut [u8]) -> Ran {
+    let reply = publication::offer(rec, log, v.payload(), v.argument(0));
+    Ran::new(reply.next, Values::positioned(reply.answer))
+}
+
+// The number 0, a position or an offset, and the claim's record.
+fn claim_values(place: i64, claim: Claim) -> Values {
+    Values::of(&[
+        0,
+        place,
+        i64::from(claim.partition),
+        i64::from(claim.offset),
+        i64::from(claim.length),
+        i64::from(claim.term_id),
+    ])
+}
+
+fn claimed(answer: Result<Claimed, Error>) -> Values {
     match answer {
-        Offered::Position(p) => values::two(0, p),
-        Offered::Refused(e) => values::refused(e),
+        Ok(Claimed { position, claim }) => claim_values(position, claim),
+        Err(e) => Values::refused(e),
     }
 }
 
-fn offer(v: Vector, input: &[u8], rec: LogRecord, log: &mut [u8]) -> Ran {
-    let message = decode::payload(v, input);
-    let reply = publication::offer(rec, log, message, decode::argument(v, input, 0));
-    let answer = reply.answer;
-    Ran::new(reply.next, offered(answer))
-}
-
-// The number or tripping, a position or an offset, and the claim's record.
-fn claim_values(first: i64, second: i64, claim: Claim) -> Values {
-    let head = values::four(
-        first,
-        second,
-        values::wide(claim.partition),
-        values::wide(claim.offset),
-    );
-    values::more(
-        head,
-        values::wide(claim.length),
-        values::wide(claim.term_id),
-        values::UNTOUCHED,
-        values::UNTOUCHED,
-    )
-}
-
-fn claimed(answer: Claimed) -> Values {
-    match answer {
-        Claimed::Position(p, claim) => claim_values(0, p, claim),
-        Claimed::Refused(e) => values::refused(e),
-    }
-}
-
-fn try_claim(v: Vector, input: &[u8], rec: LogRecord, log: &mut [u8]) -> Ran {
-    let reply = publication::try_claim(rec, log, decode::int(v, input, 0));
-    let answer = reply.answer;
-    Ran::new(reply.next, claimed(answer))
+fn try_claim(v: Vector<'_>, rec: LogRecord, log: &mut [u8]) -> Ran {
+    let reply = publication::try_claim(rec, log, v.int(0));
+    Ran::new(reply.next, claimed(reply.answer))
 }
 
 // A claim's record is a vector's first four arguments.
-fn claim_of(v: Vector, input: &[u8]) -> Claim {
+fn claim_of(v: Vector<'_>) -> Claim {
     Claim {
-        partition: decode::int(v, input, 0),
-        offset: decode::int(v, input, 1),
-        length: decode::int(v, input, 2),
-        term_id: decode::int(v, input, 3),
+        partition: v.int(0),
+        offset: v.int(1),
+        length: v.int(2),
+        term_id: v.int(3),
     }
 }
 
-fn fill(v: Vector, input: &[u8], rec: LogRecord, log: &mut [u8]) {
-    let body = buffer_claim::body(rec, log, claim_of(v, input));
-    support::copy(body, decode::payload(v, input));
-}
-
 // The payload goes into the lent body.
-fn write_body(v: Vector, input: &[u8], rec: LogRecord, log: &mut [u8]) -> Ran {
-    let number = buffer_claim::body_number(rec, log, claim_of(v, input));
-    fill(v, input, rec, log);
-    Ran::new(rec, values::one(values::wide(number)))
+fn write_body(v: Vector<'_>, rec: LogRecord, log: &mut [u8]) -> Ran {
+    let number = buffer_claim::body_number(rec, log, claim_of(v));
+    let body = buffer_claim::body(rec, log, claim_of(v));
+    support::copy(body, v.payload());
+    Ran::new(rec, Values::of(&[i64::from(number)]))
 }
 
-fn commit(v: Vector, input: &[u8], rec: LogRecord, log: &mut [u8]) -> Ran {
-    let answer = buffer_claim::commit(rec, log, claim_of(v, input));
-    Ran::new(rec, values::done(answer))
+fn commit(v: Vector<'_>, rec: LogRecord, log: &mut [u8]) -> Ran {
+    let answer = buffer_claim::commit(rec, log, claim_of(v));
+    Ran::new(rec, Values::done(answer))
 }
 
-fn abort(v: Vector, input: &[u8], rec: LogRecord, log: &mut [u8]) -> Ran {
-    let answer = buffer_claim::abort(rec, log, claim_of(v, input));
-    Ran::new(rec, values::done(answer))
+fn abort(v: Vector<'_>, rec: LogRecord, log: &mut [u8]) -> Ran {
+    let answer = buffer_claim::abort(rec, log, claim_of(v));
+    Ran::new(rec, Values::done(answer))
 }
 
 // An append that tripped answers -2, as in the Rust.
 fn appended(answer: Appended) -> Values {
     match answer {
-        Appended::Offset(end) => values::two(0, values::count(end)),
-        Appended::Tripped => values::two(0, -2),
-        Appended::Refused(e) => values::refused(e),
+        Appended::Offset(end) => Values::of(&[0, to_i64(end)]),
+        Appended::Tripped => Values::of(&[0, -2]),
+        Appended::Refused(e) => Values::refused(e),
     }
 }
 
-fn append_unfragmented(v: Vector, input: &[u8], rec: LogRecord, log: &mut [u8]) -> Ran {
+fn append_unfragmented(v: Vector<'_>, rec: LogRecord, log: &mut [u8]) -> Ran {
     let reply = term_appender::append_unfragmented_message(
         rec,
         log,
-        decode::int(v, input, 0),
-        decode::payload(v, input),
-        decode::argument(v, input, 1),
-        decode::int(v, input, 2),
+        v.int(0),
+        v.payload(),
+        v.argument(1),
+        v.int(2),
     );
-    let answer = reply.answer;
-    Ran::new(reply.next, appended(answer))
+    Ran::new(reply.next, appended(reply.answer))
 }
 
-fn append_fragmented(v: Vector, input: &[u8], rec: LogRecord, log: &mut [u8]) -> Ran {
+fn append_fragmented(v: Vector<'_>, rec: LogRecord, log: &mut [u8]) -> Ran {
     let reply = term_appender::append_fragmented_message(
         rec,
         log,
-        decode::int(v, input, 0),
-        decode::payload(v, input),
-        decode::argument(v, input, 1),
-        decode::int(v, input, 3),
-        decode::int(v, input, 2),
+        v.int(0),
+        v.payload(),
+        v.argument(1),
+        v.int(3),
+        v.int(2),
     );
-    let answer = reply.answer;
-    Ran::new(reply.next, appended(answer))
+    Ran::new(reply.next, appended(reply.answer))
 }
 
-fn appended_claim(answer: AppendedClaim) -> Values {
-    match answer {
-        AppendedClaim::Claimed(end, claim) => claim_values(0, values::count(end), claim),
-        AppendedClaim::Tripped => values::two(0, -2),
-        AppendedClaim::Refused(e) => values::refused(e),
-    }
+fn append_claim(v: Vector<'_>, rec: LogRecord, log: &mut [u8]) -> Ran {
+    let reply = term_appender::claim(rec, log, v.int(0), v.int(1), v.int(2));
+    let values = match reply.answer {
+        AppendedClaim::Claimed(end, claim) => claim_values(to_i64(end), claim),
+        AppendedClaim::Tripped => Values::of(&[0, -2]),
+        AppendedClaim::Refused(e) => Values::refused(e),
+    };
+    Ran::new(reply.next, values)
 }
 
-fn append_claim(v: Vector, input: &[u8], rec: LogRecord, log: &mut [u8]) -> Ran {
-    let partition = decode::int(v, input, 0);
-    let length = decode::int(v, input, 1);
-    let id = decode::int(v, input, 2);
-    let reply = term_appender::claim(rec, log, partition, length, id);
-    let answer = reply.answer;
-    Ran::new(reply.next, appended_claim(answer))
-}
-
-pub fn run(v: Vector, input: &[u8], rec: LogRecord, log: &mut [u8]) -> Ran {
-    let kind = v.kind;
+pub fn run(kind: Write, v: Vector<'_>, rec: LogRecord, log: &mut [u8]) -> Ran {
     match kind {
-        kinds::OPEN_LOG => open_log(v, input, log),
-        kinds::OFFER => offer(v, input, rec, log),
-        kinds::TRY_CLAIM => try_claim(v, input, rec, log),
-        kinds::WRITE_BODY => write_body(v, input, rec, log),
-        kinds::COMMIT => commit(v, input, rec, log),
-        kinds::ABORT => abort(v, input, rec, log),
-        kinds::APPEND_UNFRAGMENTED => append_unfragmented(v, input, rec, log),
-        kinds::APPEND_FRAGMENTED => append_fragmented(v, input, rec, log),
-        _ => append_claim(v, input, rec, log),
+        Write::OpenLog => open_log(v, log),
+        Write::Offer => offer(v, rec, log),
+        Write::TryClaim => try_claim(v, rec, log),
+        Write::Body => write_body(v, rec, log),
+        Write::Commit => commit(v, rec, log),
+        Write::Abort => abort(v, rec, log),
+        Write::AppendUnfragmented => append_unfragmented(v, rec, log),
+        Write::AppendFragmented => append_fragmented(v, rec, log),
+        Write::AppendClaim => append_claim(v, rec, log),
     }
 }

@@ -1,4 +1,5 @@
 -- The claiming append's answer, taken apart, leads where `after` says; `claim-by` ties that to the claim's definition.
+use Rattle.std.specs.Prelude.{Ok, Err}
 use native.Mathlib.Omega.{arith}
 use mathlib.Core.Path.{◌≡◌, refl, sym, ap, subst, ◌∙◌}
 use mathlib.Core.Logic.{⊎_elim}
@@ -22,7 +23,6 @@ use Rattle.model.specs.declared.Rule.TheVariants.{Claimed as ByClaim}
 use Rattle.model.specs.declared.AppendedClaim.{AppendedClaim}
 use Rattle.model.specs.declared.AppendedClaim.TheVariants.{Claimed, Tripped, Refused}
 use Rattle.model.specs.declared.ClaimReply.{ClaimReply}
-use Rattle.model.specs.declared.Claimed.TheVariants.{Position, Refused as Declined}
 use Rattle.model.specs.Bytes.{word}
 use Rattle.model.specs.FrameDescriptor.{space}
 use Rattle.model.specs.LogBufferDescriptor.{reading_of, active, is_ready, Sound}
@@ -44,7 +44,7 @@ neither (Refused e) h k = absurd (⊎_elim (λ e. omega arith) (λ e. omega arit
 
 -- a reply by its parts
 trip-reply : (n n' : LogRecord) (e e' : Error) (x x' : Rule) → n ≡ n' → e ≡ e' → x ≡ x'
-    → ◌≡◌ {A = ClaimReply} (record { next = n; answer = Declined e; rule = x }) (record { next = n'; answer = Declined e'; rule = x' })
+    → ◌≡◌ {A = ClaimReply} (record { next = n; answer = Err e; rule = x }) (record { next = n'; answer = Err e'; rule = x' })
 trip-reply n n' e e' x x' p q s = cc
 
 pass : (s : tie.Start) → Passed s.args.v (length s.args.log.now) (word s.args.length)
@@ -151,7 +151,7 @@ returns-3 c =
     let a = c.args in
     let begin = c.begin_position-begin.ensures in
     let end = c.in-Claimed.end in (
-      ap {B = ClaimReply} (λ (z : ℤ). record { next = d.claiming-a.result.next; answer = Position z c.in-Claimed.claim; rule = ByClaim }) (to_z_pos w64 (omega (arith, ends c.before.before.before.before _ _ c.in-Claimed.is, begin)) ∙ ap (λ (x : ℕ). pos (x + end)) begin)
+      ap {B = ClaimReply} (λ (z : ℤ). record { next = d.claiming-a.result.next; answer = Ok (record { position = z; claim = c.in-Claimed.claim }); rule = ByClaim }) (to_z_pos w64 (omega (arith, ends c.before.before.before.before _ _ c.in-Claimed.is, begin)) ∙ ap (λ (x : ℕ). pos (x + end)) begin)
           ∙ sym (ap (after_by a.v (is_ready a.rec) d.claiming-a.result.next) c.in-Claimed.is) ∙ (law c.before.before.before.before).0,
       (law c.before.before.before.before).1,
     )

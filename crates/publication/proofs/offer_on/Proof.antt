@@ -1,4 +1,5 @@
 -- The append's answer, taken apart, leads where `after` says; `offer-by` ties that to the offer's definition.
+use Rattle.std.specs.Prelude.{Ok, Err}
 use native.Mathlib.Omega.{arith}
 use mathlib.Core.Path.{◌≡◌, refl, sym, ap, ap₂, ◌∙◌}
 use mathlib.Core.Logic.{⊎_elim}
@@ -20,7 +21,6 @@ use Rattle.model.specs.declared.Rule.{Rule}
 use Rattle.model.specs.declared.Appended.{Appended}
 use Rattle.model.specs.declared.Appended.TheVariants.{Offset, Tripped, Refused}
 use Rattle.model.specs.declared.OfferReply.{OfferReply}
-use Rattle.model.specs.declared.Offered.TheVariants.{Position, Refused as Declined}
 use Rattle.model.specs.Bytes.{word, long}
 use Rattle.model.specs.LogBufferDescriptor.{reading_of, active, is_ready, Sound}
 use Rattle.model.specs.Publication.{offer_of, offer_bytes}
@@ -49,7 +49,7 @@ part s = active-by s.args.rec s.args.v s.requires.0
 
 -- a reply by its parts
 trip-reply : (n n' : LogRecord) (e e' : Error) (x x' : Rule) → n ≡ n' → e ≡ e' → x ≡ x'
-    → ◌≡◌ {A = OfferReply} (record { next = n; answer = Declined e; rule = x }) (record { next = n'; answer = Declined e'; rule = x' })
+    → ◌≡◌ {A = OfferReply} (record { next = n; answer = Err e; rule = x }) (record { next = n'; answer = Err e'; rule = x' })
 trip-reply n n' e e' x x' p q s = cc
 
 -- what the append leads to
@@ -139,7 +139,7 @@ returns-3 c =
     let a = c.args in
     let begin = c.begin_position-begin.ensures in
     let end = c.in-Offset.end in (
-      ap₂ {C = OfferReply} (λ (z : ℤ) (x : Rule). record { next = d.append_message-a.result.next; answer = Position z; rule = x }) (to_z_pos w64 (omega (arith, ends d _ c.in-Offset.is, begin)) ∙ ap (λ (x : ℕ). pos (x + end)) begin) c.of_message.ensures
+      ap₂ {C = OfferReply} (λ (z : ℤ) (x : Rule). record { next = d.append_message-a.result.next; answer = Ok z; rule = x }) (to_z_pos w64 (omega (arith, ends d _ c.in-Offset.is, begin)) ∙ ap (λ (x : ℕ). pos (x + end)) begin) c.of_message.ensures
           ∙ sym (ap (after_by a.v (is_ready a.rec) (length a.message.now) d.append_message-a.result.next) c.in-Offset.is) ∙ (law d).0,
       (law d).1,
     )

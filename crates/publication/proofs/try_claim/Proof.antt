@@ -32,16 +32,16 @@ claim-on-requires : tie.Need-claim_on-requires
 claim-on-requires c κs = let s = c in (
   c.read_active-v.ensures,
   ap (claim_verdict c.read_active-v.result (length s.args.log.now)) (ap word (to_z-of_z s.ranges.length) ∙ sym (length-bits s.args.length s.ranges.length c.if-length-lt0.false))
-      ∙ sym c.before_claim.ensures ∙ c.in-Pass.is,
+      ∙ sym c.before_claim.ensures ∙ c.in-Ok.is,
 )
 
-returns-2 : tie.Need-returns-in-Refuse
+returns-2 : tie.Need-returns-in-Err
 returns-2 c = let s = c in
     claim-refused s.args.rec s.args.log.now s.args.length _ _ c.of_refusal.ensures
     (ap₂ (λ (x : Reading) (n : ℕ). claim_verdict x (length s.args.log.now) n) (sym c.read_active-v.ensures) (sym (length-bits s.args.length s.ranges.length c.if-length-lt0.false))
-    ∙ sym c.before_claim.ensures ∙ c.in-Refuse.is)
+    ∙ sym c.before_claim.ensures ∙ c.in-Err.is)
 
-returns-3 : tie.Need-returns-in-Pass
+returns-3 : tie.Need-returns-in-Ok
 returns-3 c = let s = c in
     let e = to_z-of_z s.ranges.length in
     (c.claim_on.ensures.0 ∙ ap (claim_of s.args.rec s.args.log.now) e, c.claim_on.ensures.1 ∙ ap (claim_bytes s.args.rec s.args.log.now) e)

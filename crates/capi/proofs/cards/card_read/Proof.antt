@@ -3,11 +3,11 @@ use borrow.Author.Rules.{rules}
 use Rattle.capi.proofs.cards.card_read.Statement.{statement}
 use Rattle.capi.proofs.cards.card_read.Tie as tie
 
-returns : tie.Need-returns-in-Found
-returns c = rw c.in-Found.is
+returns : tie.Need-returns-in-Ok
+returns c = rw c.in-Ok.is
 
-returns-2 : tie.Need-returns-in-Refused
-returns-2 c = search (rules, ← c.error_number.ensures, c.no_card.ensures, c.in-Refused.is)
+returns-2 : tie.Need-returns-in-Err
+returns-2 c = search (rules, ← c.error_number.ensures, c.no_card.ensures, c.in-Err.is)
 
 pub card_read_spec : {M : Type 1} → statement M
 card_read_spec =

@@ -3,11 +3,11 @@ use borrow.Author.Rules.{rules}
 use Rattle.capi.proofs.cards.card_written.Statement.{statement}
 use Rattle.capi.proofs.cards.card_written.Tie as tie
 
-returns : tie.Need-returns-in-Length
-returns c = rw c.in-Length.is
+returns : tie.Need-returns-in-Ok
+returns c = rw c.in-Ok.is
 
-returns-2 : tie.Need-returns-in-Refused
-returns-2 c = search (rules, ← c.error_number.ensures, c.in-Refused.is)
+returns-2 : tie.Need-returns-in-Err
+returns-2 c = search (rules, ← c.error_number.ensures, c.in-Err.is)
 
 pub card_written_spec : {M : Type 1} → statement M
 card_written_spec =

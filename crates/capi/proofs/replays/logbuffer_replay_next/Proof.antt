@@ -1,4 +1,5 @@
 -- A whole message is found as it lies: then the reply and the one word are the definition's. All else is the promise of `next_by_all`.
+use Rattle.std.specs.Prelude.{Ok}
 use mathlib.Core.Path.{◌≡◌, sym, ap, ◌∙◌}
 use Prim.Native.Nat.{ℕ, ◌+◌, ◌-◌, ◌*◌, ◌/◌, ◌≤◌, ◌<◌}
 use native.Mathlib.Omega.{arith}
@@ -81,7 +82,7 @@ returns-3 d =
     let k = n d.before.before.before in
     let e : whole_reply (reading (r d.before.before.before)).term t k ≡ next_of (r d.before.before.before) a.log.now t = whole_says (r d.before.before.before) a.log.now t k (length-is d.before.before.before) (some d.before.before.before) in
     let z : to_z w64 (c.long-p.result + (k + 31) / 32 * 32) ≡ pos (long (i d.before.before.before).position + (k + 31) / 32 * 32) = to_z_pos w64 (omega (arith, near d.before.before.before)) ∙ ap (λ (x : ℕ). pos (x + (k + 31) / 32 * 32)) (p-is d.before.before.before) in (
-      ap (λ (x : ℕ). next_reply (InLog (x + 32) (k - 32))) (index_is d.before.before.before) ∙ ap (λ (y : NextReply). next_reply y.answer) e,
+      ap (λ (x : ℕ). next_reply (Ok (InLog (x + 32) (k - 32)))) (index_is d.before.before.before) ∙ ap (λ (y : NextReply). next_reply y.answer) e,
       (
         d.position_out.ensures ∙ ap (λ (x : ℤ). assembler_to (set a.replay.now 0 x) 2 (sessions_of (assembler_from a.replay.now 2))) z ∙ ap (λ (y : NextReply). replay_out a.replay.now y.next) e,
         ap (λ (y : NextReply). y.next.buffer) e,

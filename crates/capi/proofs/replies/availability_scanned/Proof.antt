@@ -11,11 +11,11 @@ use Rattle.capi.proofs.replies.availability_scanned.Tie as tie
 cast-t7 : tie.Need-overflow_cast-result
 cast-t7 c = search (rules, c.long-bits.ensures.1)
 
-returns : tie.Need-returns-in-Outcome
-returns c = search (rules, c.long-bits.ensures.0, c.in-Outcome.is)
+returns : tie.Need-returns-in-Ok
+returns c = search (rules, c.long-bits.ensures.0, c.in-Ok.is)
 
-returns-2 : tie.Need-returns-in-Refused
-returns-2 c = search (rules, ← c.number.ensures, ← c.place.ensures, c.in-Refused.is)
+returns-2 : tie.Need-returns-in-Err
+returns-2 c = search (rules, ← c.number.ensures, ← c.place.ensures, c.in-Err.is)
 
 pub availability_scanned_spec : {M : Type 1} → statement M
 availability_scanned_spec =

@@ -3,11 +3,11 @@ use borrow.Author.Rules.{rules}
 use Rattle.capi.proofs.replies.batched.Statement.{statement}
 use Rattle.capi.proofs.replies.batched.Tie as tie
 
-returns : tie.Need-returns-in-Laid
-returns c = rw c.in-Laid.is
+returns : tie.Need-returns-in-Ok
+returns c = rw c.in-Ok.is
 
-returns-2 : tie.Need-returns-in-Refused
-returns-2 c = search (rules, ← c.number.ensures, ← c.place.ensures, c.in-Refused.is)
+returns-2 : tie.Need-returns-in-Err
+returns-2 c = search (rules, ← c.number.ensures, ← c.place.ensures, c.in-Err.is)
 
 pub batched_spec : {M : Type 1} → statement M
 batched_spec =

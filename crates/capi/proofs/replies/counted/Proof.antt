@@ -3,11 +3,11 @@ use borrow.Author.Rules.{rules}
 use Rattle.capi.proofs.replies.counted.Statement.{statement}
 use Rattle.capi.proofs.replies.counted.Tie as tie
 
-returns : tie.Need-returns-in-Counts
-returns c = rw c.in-Counts.is
+returns : tie.Need-returns-in-Ok
+returns c = rw c.in-Ok.is
 
-returns-2 : tie.Need-returns-in-Refused
-returns-2 c = search (rules, ← c.number.ensures, ← c.place.ensures, c.in-Refused.is)
+returns-2 : tie.Need-returns-in-Err
+returns-2 c = search (rules, ← c.number.ensures, ← c.place.ensures, c.in-Err.is)
 
 pub counted_spec : {M : Type 1} → statement M
 counted_spec =

@@ -3,11 +3,11 @@ use borrow.Author.Rules.{rules}
 use Rattle.capi.proofs.replies.header_read.Statement.{statement}
 use Rattle.capi.proofs.replies.header_read.Tie as tie
 
-returns : tie.Need-returns-in-Fields
-returns c = rw c.in-Fields.is
+returns : tie.Need-returns-in-Ok
+returns c = rw c.in-Ok.is
 
-returns-2 : tie.Need-returns-in-Refused
-returns-2 c = search (rules, ← c.number.ensures, c.no_fields.ensures, c.in-Refused.is)
+returns-2 : tie.Need-returns-in-Err
+returns-2 c = search (rules, ← c.number.ensures, c.no_fields.ensures, c.in-Err.is)
 
 pub header_read_spec : {M : Type 1} → statement M
 header_read_spec =

@@ -3,11 +3,11 @@ use borrow.Author.Rules.{rules}
 use Rattle.capi.proofs.replies.located.Statement.{statement}
 use Rattle.capi.proofs.replies.located.Tie as tie
 
-returns : tie.Need-returns-in-Span
-returns c = rw (c.difference.ensures, c.in-Span.is)
+returns : tie.Need-returns-in-Ok
+returns c = rw (c.difference.ensures, c.in-Ok.is)
 
-returns-2 : tie.Need-returns-in-Refused
-returns-2 c = search (rules, ← c.number.ensures, c.in-Refused.is)
+returns-2 : tie.Need-returns-in-Err
+returns-2 c = search (rules, ← c.number.ensures, c.in-Err.is)
 
 pub located_spec : {M : Type 1} → statement M
 located_spec =

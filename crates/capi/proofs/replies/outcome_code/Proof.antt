@@ -3,11 +3,11 @@ use borrow.Author.Rules.{rules}
 use Rattle.capi.proofs.replies.outcome_code.Statement.{statement}
 use Rattle.capi.proofs.replies.outcome_code.Tie as tie
 
-returns : tie.Need-returns-in-Done
-returns c = rw c.in-Done.is
+returns : tie.Need-returns-in-Ok
+returns c = rw c.in-Ok.is
 
-returns-2 : tie.Need-returns-in-Refused
-returns-2 c = search (rules, ← c.number.ensures, c.in-Refused.is)
+returns-2 : tie.Need-returns-in-Err
+returns-2 c = search (rules, ← c.number.ensures, c.in-Err.is)
 
 pub outcome_code_spec : {M : Type 1} → statement M
 outcome_code_spec =

@@ -9,13 +9,13 @@ use borrow.Author.Rules.{rules}
 use Rattle.capi.proofs.replies.peeked.Statement.{statement}
 use Rattle.capi.proofs.replies.peeked.Tie as tie
 
-returns : tie.Need-returns-in-Position
-returns c = search (rules, c.narrow.ensures, c.in-Position.is)
+returns : tie.Need-returns-in-Ok
+returns c = search (rules, c.narrow.ensures, c.in-Ok.is)
 
-returns-2 : tie.Need-returns-in-Refused
+returns-2 : tie.Need-returns-in-Err
 returns-2 c =
     let z : to_z w64 c.place.result ≡ pos c.place.result = to_z_pos w64 (omega arith) in
-    search (rules, z, ← c.number.ensures, ← c.place.ensures, c.in-Refused.is)
+    search (rules, z, ← c.number.ensures, ← c.place.ensures, c.in-Err.is)
 
 pub peeked_spec : {M : Type 1} → statement M
 peeked_spec =

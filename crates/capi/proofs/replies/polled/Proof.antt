@@ -3,11 +3,11 @@ use borrow.Author.Rules.{rules}
 use Rattle.capi.proofs.replies.polled.Statement.{statement}
 use Rattle.capi.proofs.replies.polled.Tie as tie
 
-returns : tie.Need-returns-in-Fragments
-returns c = search (rules, c.narrow-in-Fragments.ensures, c.narrow.ensures, c.in-Fragments.is)
+returns : tie.Need-returns-in-Ok
+returns c = search (rules, c.narrow-in-Ok.ensures, c.narrow.ensures, c.in-Ok.is)
 
-returns-2 : tie.Need-returns-in-Refused
-returns-2 c = search (rules, c.narrow-in-Refused.ensures, ← c.number.ensures, ← c.place.ensures, c.in-Refused.is)
+returns-2 : tie.Need-returns-in-Err
+returns-2 c = search (rules, c.narrow-in-Err.ensures, ← c.number.ensures, ← c.place.ensures, c.in-Err.is)
 
 pub polled_spec : {M : Type 1} → statement M
 polled_spec =

@@ -1,4 +1,5 @@
 -- Two tests: the record, and whether the image is closed already.
+use Rattle.std.specs.Prelude.{Ok}
 use mathlib.Core.Path.{refl, sym, ap, ap₂, ◌∙◌}
 use mathlib.Core.Bool.{Bool, true, false}
 use borrow.Author.Tests.{not-true, not-false}
@@ -6,7 +7,6 @@ use lib.Signed.{le_z}
 use mir.Syntax.{w64}
 use mir.Val.{SFits}
 use mir.Facts.{to_z-of_z}
-use Rattle.model.specs.declared.Outcome.TheVariants.{Done}
 use Rattle.image.specs.declared.ImageReply.{ImageReply}
 use Rattle.image.specs.Images.{state_of, image_reply_of}
 use Rattle.image.proofs.Settings.{as-close}
@@ -29,7 +29,7 @@ returns-3 c =
     let a = c.args in
     let f : SFits w64 a.rec.end_of_stream_position = search rules in
     let g : SFits w64 a.self.position = search rules in
-    let made : Bool → ImageReply = λ (b : Bool). record { next = record { position = a.self.position; session_id = a.self.session_id; is_closed = true; is_eos = b }; answer = Done } in
+    let made : Bool → ImageReply = λ (b : Bool). record { next = record { position = a.self.position; session_id = a.self.session_id; is_closed = true; is_eos = b }; answer = Ok tt } in
     ap made (ap₂ le_z (to_z-of_z f) (to_z-of_z g))
     ∙ ap image_reply_of (as-close a.rec a.log.now (state_of a.self) _ c.read_active-v.ensures true false (sym c.is_sound.ensures ∙ not-false _ c.if-not-is_sound.false-raw) c.if-self.false)
 

@@ -42,8 +42,8 @@ returns c =
 returns-2 : tie.Need-returns
 returns-2 c =
     let s = c in
-    let f : SFits w32 c.in-Fields.fields.term_id = record { sfits = c.struct_told-1.given.1.1.1.1.1.1.1.0.1 } in
-    to_z-of_z f ∙ term-id-is s.args.rec s.args.log.now s.args.v s.args.p s.requires.0 s.requires.1.0 s.requires.1.1 _ (asked c.before.before ∙ c.in-Fields.is)
+    let f : SFits w32 c.in-Ok.fields.term_id = record { sfits = c.struct_told-1.given.1.1.1.1.1.1.1.0.1 } in
+    to_z-of_z f ∙ term-id-is s.args.rec s.args.log.now s.args.v s.args.p s.requires.0 s.requires.1.0 s.requires.1.1 _ (asked c.before.before ∙ c.in-Ok.is)
 
 pub term_id_at_spec : {M : Type 1} → statement M
 term_id_at_spec =

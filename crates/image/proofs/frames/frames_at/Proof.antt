@@ -1,4 +1,5 @@
 -- The place of the position, and the leaf library's walk from it.
+use Rattle.std.specs.Prelude.{Ok, Err}
 use mathlib.Core.Path.{sym, ap₂, subst, ◌∙◌}
 use mathlib.Core.Bool.{cond}
 use mathlib.Core.List.{List}
@@ -9,7 +10,6 @@ use lib.IntN.{ℤ}
 use mir.Syntax.{w64}
 use mir.Val.{Fits}
 use Rattle.model.specs.FrameDescriptor.{unsound_frame_at}
-use Rattle.model.specs.declared.Verdict.TheVariants.{Pass, Refuse}
 use Rattle.model.specs.declared.FramesRead.{FramesRead}
 use Rattle.model.specs.TermReader.{walk, first_unsound, frames_by, entries_by, good_walk}
 use Rattle.model.proofs.ReaderLaws.{frames-by}
@@ -45,8 +45,8 @@ returns c =
     let g = walk-good a.v (length a.log.now) a.p a.end a.limit (length a.entries.now) s.requires.0 s.requires.1.0 s.requires.1.1.0 s.requires.1.1.1.0 in
     let h = ap₂ (λ (x y : ℕ). good_walk (length a.log.now) (x * a.v.term) a.v.term a.end y a.limit (length a.entries.now)) k at ∙ g in
     let l = frames-by a.log.now (c.partition_of.result * a.v.term) a.v.term a.end c.offset_of.result a.limit a.actions.now a.entries.now h s.requires.1.1.1.1 in
-    let said : ℕ → ℕ → FramesRead = λ (x y : ℕ). frames_by (walk a.v.term a.log.now (x * a.v.term) a.v.term a.end y a.limit a.actions.now) (cond (first_unsound a.log.now (x * a.v.term) a.v.term a.end y a.limit) (Refuse (unsound_frame_at a.log.now (x * a.v.term) y)) Pass) in
-    let wrote : ℕ → ℕ → List ℤ = λ (x y : ℕ). entries_by a.entries.now (walk a.v.term a.log.now (x * a.v.term) a.v.term a.end y a.limit a.actions.now) (cond (first_unsound a.log.now (x * a.v.term) a.v.term a.end y a.limit) (Refuse (unsound_frame_at a.log.now (x * a.v.term) y)) Pass) in
+    let said : ℕ → ℕ → FramesRead = λ (x y : ℕ). frames_by (walk a.v.term a.log.now (x * a.v.term) a.v.term a.end y a.limit a.actions.now) (cond (first_unsound a.log.now (x * a.v.term) a.v.term a.end y a.limit) (Err (unsound_frame_at a.log.now (x * a.v.term) y)) (Ok tt)) in
+    let wrote : ℕ → ℕ → List ℤ = λ (x y : ℕ). entries_by a.entries.now (walk a.v.term a.log.now (x * a.v.term) a.v.term a.end y a.limit a.actions.now) (cond (first_unsound a.log.now (x * a.v.term) a.v.term a.end y a.limit) (Err (unsound_frame_at a.log.now (x * a.v.term) y)) (Ok tt)) in
     (c.read_frames.ensures.0 ∙ sym l.0 ∙ ap₂ said k at, c.read_frames.ensures.1 ∙ sym l.1 ∙ ap₂ wrote k at)
 
 pub frames_at_spec : {M : Type 1} → statement M

@@ -1,11 +1,12 @@
 -- The place of the position, and the leaf library's read of its partition to the term's end.
+use Rattle.std.specs.Prelude.{Result, ⊤}
+use Rattle.model.specs.declared.Error.{Error}
 use mathlib.Core.Path.{sym, ap, ap₂, ◌∙◌}
 use mathlib.Core.List.{List}
 use Prim.Native.Nat.{ℕ, ◌%◌}
 use lib.IntN.{ℤ}
 use lib.ListN.{length}
 use Rattle.model.specs.TermReader.{read_walk, frames_by, read_from, entries_by}
-use Rattle.model.specs.declared.Verdict.{Verdict}
 use Rattle.model.specs.declared.TermRead.{TermRead}
 use Rattle.model.specs.LogBufferDescriptor.{partition_of}
 use Rattle.logbuffer.specs.Reads.{read_on_verdict}
@@ -28,9 +29,9 @@ returns c =
     let o = a.p % a.v.term in
     let w = read_walk a.v a.log.now k o a.limit in
     let e = sym (on-walked a.v a.log.now k o a.limit a.entries.now (read-good a.v (length a.log.now) a.p a.limit n s.requires.0 s.requires.1.0 s.requires.1.1.0)) in
-    let said : ℕ → ℕ → TermRead = λ (x y : ℕ). read_from y (frames_by (read_walk a.v a.log.now x y a.limit) (read_on_verdict a.v a.log.now x y a.limit n)) in
+    let said : ℕ → ℕ → (Result TermRead Error) = λ (x y : ℕ). read_from y (frames_by (read_walk a.v a.log.now x y a.limit) (read_on_verdict a.v a.log.now x y a.limit n)) in
     let wrote : ℕ → ℕ → List ℤ = λ (x y : ℕ). entries_by a.entries.now (read_walk a.v a.log.now x y a.limit) (read_on_verdict a.v a.log.now x y a.limit n) in (
-      c.read_on.ensures.0 ∙ ap₂ said s.requires.1.1.1 at ∙ ap (λ (x : Verdict). read_from o (frames_by w x)) e,
+      c.read_on.ensures.0 ∙ ap₂ said s.requires.1.1.1 at ∙ ap (λ (x : Result ⊤ Error). read_from o (frames_by w x)) e,
       c.read_on.ensures.1 ∙ ap₂ wrote s.requires.1.1.1 at ∙ ap (entries_by a.entries.now w) e,
     )
 

@@ -1,4 +1,6 @@
 -- What is said of a frame (`joining`) is done with it.
+use Rattle.std.specs.Prelude.{Result}
+use Rattle.model.specs.declared.Error.{Error}
 use Rattle.std.proofs.Common.{◌≡◌, ℕ, ◌+◌, ◌-◌, ◌/◌, ◌<◌, ◌≤◌, length, drop, ℤ, sym, refl, ap, ◌∙◌, subst, arith, to_z-of_z, w32, to_z, of_z, rules}
 use Rattle.model.specs.Bytes.{i32}
 use Rattle.model.specs.FragmentAssembler.{Sessions, holding, joining, sessions_by, assembled_by, joined_at}
@@ -34,7 +36,7 @@ session c = to_z-of_z {w = w32} {z = c.to_i32-session.result} (search rules) ∙
 joins : (c : tie.After-joining) → c.joining.result ≡ joining (ss c) (z c) c.byte-flags.result (w c - 32) (part c)
 joins c = c.joining.ensures
 
-abbrev assembled : (c : tie.After-joining) → Joining → Assembled
+abbrev assembled : (c : tie.After-joining) → Joining → Result Assembled Error
 assembled c x = assembled_by ((st c).args.at + 32) (w c - 32) (part c) x
 
 abbrev entered : (c : tie.After-joining) → Joining → Sessions
@@ -77,7 +79,7 @@ mul-t36 c =
     record { fits = omega (arith, part_in c.in-Complete.k (part c.before.before.before.before.before) (length (st c.before.before.before.before.before).args.buffer.now) refl (fits c.before.before.before.before.before (Complete c.in-Complete.k c.in-Complete.from) c.in-Complete.is).0, (st c.before.before.before.before.before).well_formed) }
 
 -- what is left, by its numbers
-by : (c : tie.After-joining) (r : Joined) (x : Joining) (k n : ℕ) (a : Assembled) → c.joining.result ≡ x → r ≡ leaving k (z c) n a
+by : (c : tie.After-joining) (r : Joined) (x : Joining) (k n : ℕ) (a : Result Assembled Error) → c.joining.result ≡ x → r ≡ leaving k (z c) n a
     → (a ≡ assembled c x) × (held_at (ss c) k (z c) n ≡ entered c x)
     → Enters (ss c) r (joined_at (ss c) (st c).args.buffer.now (drop (st c).args.place (st c).args.log.now) (st c).args.at)
 by c r x k n a e h w =

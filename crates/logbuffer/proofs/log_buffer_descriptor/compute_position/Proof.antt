@@ -1,7 +1,7 @@
 -- The sum fits 64 bits: the count has 32, and the shift is at most 30.
+use Rattle.std.specs.Prelude.{Ok}
 use Rattle.std.proofs.Common.{◌≡◌, ℕ, ◌^◌, ◌<◌, ℤ, pos, ◌*ℤ◌, ap, ◌∙◌, ap₂, arith, to_z-of_z, w32, SFits, to_z, rules, le-ltb, lt-ltb}
 use mir.Facts.{sfits_to_z}
-use Rattle.model.specs.declared.Positioned.TheVariants.{Position}
 use Rattle.model.specs.Bytes.{word}
 use Rattle.model.specs.LogBufferDescriptor.{id_minus, compute_position}
 use Rattle.logbuffer.proofs.Past.{here-asks, here-lands}
@@ -34,7 +34,7 @@ returns-2 : tie.Need-returns
 unfolding compute_position
 returns-2 c =
     simp (le-ltb 30 (s c).args.bits c.if-bits-gt30.false)
-    (ap Position (here-lands (count c) c.term_begin-begin.result (s c).args.bits (s c).args.offset (pos 0) (count_fits c) c.if-bits-gt30.false (begins c) (s c).ranges.offset.fits (record { sfits = omega arith })))
+    (ap Ok (here-lands (count c) c.term_begin-begin.result (s c).args.bits (s c).args.offset (pos 0) (count_fits c) c.if-bits-gt30.false (begins c) (s c).ranges.offset.fits (record { sfits = omega arith })))
 
 pub compute_position_spec : {M : Type 1} → statement M
 compute_position_spec =

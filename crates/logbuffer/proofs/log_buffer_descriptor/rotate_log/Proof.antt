@@ -1,9 +1,9 @@
 -- By the verdict, and by whether the count is the one given.
+use Rattle.std.specs.Prelude.{Result, Ok, ⊤}
+use Rattle.model.specs.declared.Error.{Error}
 use Rattle.std.proofs.Common.{◌≡◌, ℕ, ◌+◌, ◌<◌, sym, ap, ◌∙◌, arith, to_z-of_z, w32, of_z, rules}
 use Rattle.model.specs.declared.LogRecord.{LogRecord}
 use Rattle.model.specs.declared.Reading.{Reading}
-use Rattle.model.specs.declared.Verdict.{Verdict}
-use Rattle.model.specs.declared.Verdict.TheVariants.{Pass}
 use Rattle.model.specs.Bytes.{word}
 use Rattle.model.specs.LogBufferDescriptor.{reading_of, with_count, rotate_by, rotate_log_of}
 use Rattle.model.proofs.Rotate.{rotate-passed, rotate-is, rotate-risen, rotate-kept}
@@ -31,29 +31,29 @@ module _ (c : tie.After-rotate_verdict) where
   unfolding reading_of
   count-is = ap (λ (v : Reading). v.count) c.read_active-v.ensures
 
-  law : (x : Verdict) → c.rotate_verdict.result ≡ x → rotate_by s.args.rec k t x ≡ rotate_log_of s.args.rec s.args.count s.args.id
+  law : (x : Result ⊤ Error) → c.rotate_verdict.result ≡ x → rotate_by s.args.rec k t x ≡ rotate_log_of s.args.rec s.args.count s.args.id
   law x e = rotate-is s.args.rec s.args.count s.args.id k t c.read_active-v.result x given_is term_is c.read_active-v.ensures (sym e ∙ c.rotate_verdict.ensures)
 
-  low : c.rotate_verdict.result ≡ Pass → k < 2147483647
+  low : c.rotate_verdict.result ≡ Ok tt → k < 2147483647
   low e = rotate-passed c.read_active-v.result k (sym c.rotate_verdict.ensures ∙ e)
 
 next-tail-requires : tie.Need-next_tail-next-requires
-next-tail-requires c κs = let h = low c.before c.in-Pass.is in omega arith
+next-tail-requires c κs = let h = low c.before c.in-Ok.is in omega arith
 
 with-count-requires : tie.Need-with_count-risen-requires
-with-count-requires c κs = let h = low c.before.before.before.before c.in-Pass.is in omega arith
+with-count-requires c κs = let h = low c.before.before.before.before c.in-Ok.is in omega arith
 
 returns : tie.Need-returns-then-v-given
 returns c = let j = c.before.before.before.before.before in
     rotate-risen (s j).args.rec c.with_count-risen.result (k j) (t j) (sym (count-is j) ∙ c.if-v-given.true) (c.with_count-risen.ensures ∙ ap (λ (x : LogRecord). with_count x (k j + 1)) c.next_tail-next.ensures)
-    ∙ law j Pass c.in-Pass.is
+    ∙ law j (Ok tt) c.in-Ok.is
 
-returns-2 : tie.Need-returns-in-Refuse
-returns-2 c = law c.before _ c.in-Refuse.is
+returns-2 : tie.Need-returns-in-Err
+returns-2 c = law c.before _ c.in-Err.is
 
 returns-3 : tie.Need-returns-else-v-given
 returns-3 c = let j = c.before.before.before.before in
-    rotate-kept (s j).args.rec c.next_tail-next.result (k j) (t j) (λ h. c.if-v-given.false (count-is j ∙ h)) c.next_tail-next.ensures ∙ law j Pass c.in-Pass.is
+    rotate-kept (s j).args.rec c.next_tail-next.result (k j) (t j) (λ h. c.if-v-given.false (count-is j ∙ h)) c.next_tail-next.ensures ∙ law j (Ok tt) c.in-Ok.is
 
 pub rotate_log_spec : {M : Type 1} → statement M
 rotate_log_spec =

@@ -1,7 +1,8 @@
 -- Its numbers are judged, and the walk answers the rest.
+use Rattle.std.specs.Prelude.{Result, ⊤}
+use Rattle.model.specs.declared.Error.{Error}
 use Rattle.std.proofs.Common.{◌≡◌, true, length, sym, ap, ◌∙◌, arith, rules}
 use borrow.Author.Tests.{not-true, not-false}
-use Rattle.model.specs.declared.Verdict.{Verdict}
 use Rattle.model.specs.TermReader.{read_walk, read_from, frames_by, entries_by}
 use Rattle.logbuffer.specs.Reads.{good_read_on}
 use Rattle.logbuffer.proofs.ReadOn.{GoodReadOn, good-read-on, on-refused, on-walked}
@@ -31,7 +32,7 @@ returns-2 c =
     let a = q.args in
     let w = read_walk a.numbers a.log.now a.partition a.offset a.fragment_limit in
     let e = on-walked a.numbers a.log.now a.partition a.offset a.fragment_limit a.entries.now (passed c.before.before.before) in
-    (c.walk_term.ensures.0 ∙ ap (λ (x : Verdict). read_from a.offset (frames_by w x)) e, c.walk_term.ensures.1 ∙ ap (entries_by a.entries.now w) e)
+    (c.walk_term.ensures.0 ∙ ap (λ (x : Result ⊤ Error). read_from a.offset (frames_by w x)) e, c.walk_term.ensures.1 ∙ ap (entries_by a.entries.now w) e)
 
 pub read_on_spec : {M : Type 1} → statement M
 read_on_spec =

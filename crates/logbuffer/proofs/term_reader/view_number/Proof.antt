@@ -14,11 +14,11 @@ located c =
     let a = s.args in
     c.view_span.ensures ∙ passed_on (view_of a.rec a.log.now) a.partition a.offset a.length s.ranges.partition s.ranges.offset s.ranges.length
 
-returns : tie.Need-returns-in-Span
-returns c = ap located_number (sym c.in-Span.is ∙ located c.before)
+returns : tie.Need-returns-in-Ok
+returns c = ap located_number (sym c.in-Ok.is ∙ located c.before)
 
-returns-2 : tie.Need-returns-in-Refused
-returns-2 c = to_z-of_z {w = w32} (record { sfits = c.number.type_inv }) ∙ c.number.ensures ∙ ap located_number (sym c.in-Refused.is ∙ located c.before.before)
+returns-2 : tie.Need-returns-in-Err
+returns-2 c = to_z-of_z {w = w32} (record { sfits = c.number.type_inv }) ∙ c.number.ensures ∙ ap located_number (sym c.in-Err.is ∙ located c.before.before)
 
 pub view_number_spec : {M : Type 1} → statement M
 view_number_spec =

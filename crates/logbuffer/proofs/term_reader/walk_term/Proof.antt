@@ -1,10 +1,10 @@
 -- The loop keeps `Going` of model's WalkLoop, with what is settled left open: nobody asks for it here. Each turn and each way out cites its
 -- law there.
+use Rattle.std.specs.Prelude.{Err}
 use Rattle.std.proofs.Common.{◌≡◌, ℕ, ◌+◌, ◌-◌, ◌*◌, ◌/◌, ◌%◌, cond, [], length, drop, pos, sym, refl, ap, ◌∙◌, arith, length-set, w32, to_z, rules}
 use mir.Facts.{to_z_pos}
 use Rattle.model.specs.declared.Frame.TheVariants.{Padding, Data}
 use Rattle.model.specs.FrameDescriptor.{frame_at, flags_at, ends}
-use Rattle.model.specs.declared.TermRead.TheVariants.{Refused}
 use Rattle.model.proofs.FrameLaws.{Lies, lies, unsound-refusal}
 use Rattle.model.proofs.WalkLoop.{Going}
 use Rattle.model.proofs.ReaderLaws.{frames-first}
@@ -59,7 +59,7 @@ returns c =
     let e = sym c.frame_inside.ensures ∙ c.in-Unsound.is in
     let z = ap (λ (o : ℕ). frame_at (drop (a.base + o) a.log.now) (a.term - o)) (sym c.if-offset-at.true) ∙ e in
     let f = frames-first a.log.now a.base a.term a.term a.at a.limit [] a.entries.now w.entries (walks.unsound-first a.log.now a.base a.term a.term a.at a.limit [] a.entries.now w.entries w.offset w.invariant.1.1.0 w.count _ w.invariant.1.1.1 c.if-offset-at.true (omega arith) (omega arith) e) in
-    (ap Refused (c.unsound_frame.ensures ∙ unsound-refusal a.log.now a.base a.term a.at _ z) ∙ ap (read_from a.at) f.0, f.1)
+    (ap Err (c.unsound_frame.ensures ∙ unsound-refusal a.log.now a.base a.term a.at _ z) ∙ ap (read_from a.at) f.0, f.1)
 
 loop-again : tie.Need-loop-count-preserved-in-Padding invariant-loop decreases-loop
 loop-again c =

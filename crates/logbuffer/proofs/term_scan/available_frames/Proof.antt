@@ -1,8 +1,8 @@
 -- The loop keeps `Availing` of model's AvailableLaws; each way out cites its law there.
+use Rattle.std.specs.Prelude.{Err}
 use Rattle.std.proofs.Common.{◌≡◌, ◌+◌, ◌-◌, ◌*◌, ◌/◌, drop, sym, refl, ap, ◌∙◌, arith, rules}
 use Rattle.model.specs.declared.Frame.{Frame}
 use Rattle.model.specs.declared.Frame.TheVariants.{Padding, Data}
-use Rattle.model.specs.declared.AvailabilityScanned.TheVariants.{Refused}
 use Rattle.model.specs.FrameDescriptor.{frame_at}
 use Rattle.model.proofs.FrameLaws.{Lies, lies}
 use Rattle.model.proofs.AvailableLaws.{Availing}
@@ -37,7 +37,7 @@ returns : tie.Need-returns-then-available-eq0 invariant-loop decreases-loop
 returns c =
     let l = c in
     let a = (st c.before.before.before.before).args in
-    ap Refused c.unsound_frame.ensures
+    ap Err c.unsound_frame.ensures
     ∙ laws.available-first a.log.now a.base a.term a.at a.most l.loop-found.available _ c.if-available-eq0.true (is c.before.before.before _ c.in-Unsound.is)
 
 outcome-requires : tie.Need-outcome-requires invariant-loop decreases-loop

@@ -1,8 +1,9 @@
 -- The loop keeps `Rebuilding` of model's GapLaws; each way out cites its law there.
-use Rattle.std.proofs.Common.{◌≡◌, ℕ, ◌+◌, ◌-◌, drop, ℤ, sym, refl, ap, ◌∙◌, ap₂, arith, to_z-of_z, rules}
+use Rattle.std.specs.Prelude.{Ok, Err}
+use Rattle.std.proofs.Common.{◌≡◌, ℕ, ◌+◌, ◌-◌, Bool, drop, ℤ, sym, refl, ap, ◌∙◌, ap₂, arith, to_z-of_z, rules}
 use Rattle.model.specs.declared.Frame.{Frame}
 use Rattle.model.specs.declared.Frame.TheVariants.{Padding, Data}
-use Rattle.model.specs.declared.GapScanned.TheVariants.{Gap, Refused}
+use Rattle.model.specs.declared.GapScanned.TheVariants.{Gap}
 use Rattle.model.specs.FrameDescriptor.{frame_at}
 use Rattle.model.specs.TermScan.{gap_length}
 use Rattle.model.proofs.FrameLaws.{Lies, lies}
@@ -44,7 +45,7 @@ returns : tie.Need-returns-then-offset-at invariant-loop decreases-loop
 returns c =
     let l = c in
     let a = (st c.before.before.before.before).args in
-    ap Refused c.unsound_frame.ensures
+    ap Err c.unsound_frame.ensures
     ∙ laws.gap-first a.log.now a.base a.term a.high a.at a.term_id l.loop-found.offset _ c.if-offset-at.true (is c.before.before.before _ c.in-Unsound.is)
 
 returns-2 : tie.Need-returns-in-Unsound invariant-loop decreases-loop
@@ -97,8 +98,8 @@ returns-6 c =
     let g = c in
     let l = c in
     let a = (st c.before.before.before.before.before).args in
-    ap₂ (λ (i : ℤ) (n : ℕ). Gap i l.loop-found.offset n c.is_writing-written.result) (to_z-of_z (st c.before.before.before.before.before).ranges.term_id) g.gap_length-length.ensures
-    ∙ ap (Gap a.term_id l.loop-found.offset (gap_length a.term a.log.now a.base a.high l.loop-found.offset)) c.is_writing-written.ensures
+    ap₂ (λ (i : ℤ) (n : ℕ). Ok (Gap i l.loop-found.offset n c.is_writing-written.result)) (to_z-of_z (st c.before.before.before.before.before).ranges.term_id) g.gap_length-length.ensures
+    ∙ ap (λ (b : Bool). Ok (Gap a.term_id l.loop-found.offset (gap_length a.term a.log.now a.base a.high l.loop-found.offset) b)) c.is_writing-written.ensures
     ∙ laws.gap_here a.log.now a.base a.term a.high a.at a.term_id l.loop-found.offset l.loop-found.invariant (is c.before.before.before.before _ g.in-Absent.is) g.if-high-offset-3.false
 
 add-is-writing : tie.Need-overflow_add-base-2 invariant-loop decreases-loop

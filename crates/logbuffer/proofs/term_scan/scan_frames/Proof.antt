@@ -1,7 +1,7 @@
 -- The loop keeps `Scanning` of model's ScanLaws; each way out cites its law there.
+use Rattle.std.specs.Prelude.{Err}
 use Rattle.std.proofs.Common.{◌≡◌, ◌+◌, ◌-◌, drop, sym, refl, ap, ◌∙◌, arith, rules}
 use Rattle.model.specs.declared.Frame.TheVariants.{Padding, Data}
-use Rattle.model.specs.declared.Scanned.TheVariants.{Refused}
 use Rattle.model.specs.FrameDescriptor.{frame_at}
 use Rattle.model.proofs.FrameLaws.{Lies, lies}
 use Rattle.model.proofs.ScanLaws.{Scanning}
@@ -43,7 +43,7 @@ returns : tie.Need-returns-then-offset-at invariant-loop decreases-loop
 returns c =
     let l = c in
     let a = (st c.before.before.before.before.before).args in
-    ap Refused c.unsound_frame.ensures
+    ap Err c.unsound_frame.ensures
     ∙ laws.scan-first a.log.now a.base a.term a.limit a.at l.loop-offset.offset _ c.if-offset-at.true (omega arith) (sym c.frame_at.ensures ∙ c.in-Unsound.is)
 
 returns-2 : tie.Need-returns-then-offset-at-2 invariant-loop decreases-loop

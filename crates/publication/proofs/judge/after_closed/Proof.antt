@@ -1,5 +1,5 @@
 -- The tests pick the case.
-use Rattle.model.specs.declared.Verdict.TheVariants.{Refuse}
+use Rattle.std.specs.Prelude.{Err}
 use mathlib.Core.Path.{◌≡◌, sym, ap, ◌∙◌}
 use native.Mathlib.Omega.{arith}
 use Rattle.model.specs.LogBufferDescriptor.{id_minus}
@@ -44,5 +44,5 @@ after_closed_spec =
     begin-position-requires
     add-if2
     back-pressure-requires
-    (λ c. ap Refuse c.back_pressure.ensures ∙ closed-7 c.args.v c.args.m (own c.before.before.before) (omega (arith, c.begin_position-begin.ensures)))
+    (λ c. ap Err c.back_pressure.ensures ∙ closed-7 c.args.v c.args.m (own c.before.before.before) (omega (arith, c.begin_position-begin.ensures)))
     (λ c. closed-last c.args.v c.args.m (own c.before.before) (omega (arith, c.begin_position-begin.ensures))))

@@ -1,9 +1,9 @@
 -- The record that would be made is judged; where it is sound the log is cleared.
+use Rattle.std.specs.Prelude.{Ok, Err}
 use Rattle.publication.proofs.OpenLaws.{open_no, open_done}
 use Rattle.model.specs.Publication.{opened_record}
 use Rattle.model.specs.LogBufferDescriptor.{reading, sound}
 use Rattle.model.specs.declared.Reading.{Reading}
-use Rattle.model.specs.declared.Outcome.TheVariants.{Done, Refused}
 use Rattle.model.specs.declared.Error.TheVariants.{IllegalRecord}
 use Rattle.model.specs.declared.LogRecord.{LogRecord}
 use borrow.Author.Tests.{not-true, not-false}
@@ -30,12 +30,12 @@ judged c b h =
 returns : tie.Need-returns-then-not-is_sound
 returns c = let a = c.args in
     let d = open_no a.log.now a.term_length a.mtu_length a.initial_term_id a.session_id a.stream_id (judged c.before.before false (not-true _ c.if-not-is_sound.true-raw)) in
-    (ap (λ (x : LogRecord). record { next = x; answer = Refused IllegalRecord }) c.no_record.ensures ∙ d.0, d.1)
+    (ap (λ (x : LogRecord). record { next = x; answer = Err IllegalRecord }) c.no_record.ensures ∙ d.0, d.1)
 
 returns-2 : tie.Need-returns
 returns-2 c = let a = c.args in
     let d = open_done a.log.now a.term_length a.mtu_length a.initial_term_id a.session_id a.stream_id (judged c.before.before.before.before.before true (not-false _ c.if-not-is_sound.false-raw)) in
-    (ap (λ (x : LogRecord). record { next = x; answer = Done }) (made c.before.before.before.before.before.before.before) ∙ d.0, c.clear.ensures ∙ d.1)
+    (ap (λ (x : LogRecord). record { next = x; answer = Ok tt }) (made c.before.before.before.before.before.before.before) ∙ d.0, c.clear.ensures ∙ d.1)
 
 pub open_log_spec : {M : Type 1} → statement M
 open_log_spec =

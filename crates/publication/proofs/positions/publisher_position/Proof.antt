@@ -1,4 +1,5 @@
 -- Each callee's promise is a part of the position; a shift past 30 is that of no sound term.
+use Rattle.std.specs.Prelude.{Ok}
 use native.Mathlib.Omega.{arith}
 use mathlib.Core.Path.{◌≡◌, refl, ap, ◌∙◌}
 use Prim.Native.Nat.{ℕ, ◌*◌, ◌%◌}
@@ -6,7 +7,6 @@ use lib.IntN.{ℤ}
 use mir.Syntax.{w32, w64}
 use mir.Val.{SFits, to_z, of_z}
 use mir.Facts.{to_z-of_z}
-use Rattle.model.specs.declared.Positioned.TheVariants.{Position}
 use Rattle.model.specs.LogBufferDescriptor.{term_id_of, term_offset_of, tail_of, Sound, publisher_position}
 use Rattle.model.proofs.SoundRecord.{sound-record-true}
 use Rattle.publication.proofs.Numbers.{position-by, position-fits}
@@ -27,7 +27,7 @@ module _ (c : tie.After-compute_position-answer) where
   initial-fits : SFits w32 start.args.rec.initial_term_id
   initial-fits = search rules
 
-  computed : c.compute_position-answer.result ≡ Position (publisher_position start.args.v)
+  computed : c.compute_position-answer.result ≡ Ok (publisher_position start.args.v)
   computed =
       c.compute_position-answer.ensures
       ∙ position-by start.args.rec start.args.v _ start.requires.0 (so start) (tail_of start.args.rec (start.args.v.count % 3)) _ _ _ _ tail-fits refl initial-fits (to_z-of_z initial-fits)
@@ -45,7 +45,7 @@ returns c =
 returns-2 : tie.Need-returns
 returns-2 c =
     let d = c in
-    let e : c.in-Position.position ≡ publisher_position (start c.before).args.v = cc (computed c.before, c.in-Position.is) in
+    let e : c.in-Ok.position ≡ publisher_position (start c.before).args.v = cc (computed c.before, c.in-Ok.is) in
     ap (λ (z : ℤ). to_z w64 (of_z w64 z)) e ∙ to_z-of_z (position-fits (start c.before).args.rec (start c.before).args.v _ (start c.before).requires.0 (so (start c.before)))
 
 pub publisher_position_spec : {M : Type 1} → statement M

@@ -1,4 +1,5 @@
 -- Row 1; a whole message, which is found as it lies; or the turns.
+use Rattle.std.specs.Prelude.{Ok}
 use mathlib.Core.Path.{◌≡◌, sym, ap, ap₂, ◌∙◌}
 use Prim.Native.Nat.{ℕ, ◌+◌, ◌-◌, ◌*◌, ◌/◌, ◌≤◌, ◌<◌}
 use native.Mathlib.Omega.{arith}
@@ -64,7 +65,7 @@ returns-3 : tie.Need-returns
 returns-3 c =
     let q = c in
     let a = (s c.before).args in
-    ap₂ {C = NextReply} (λ (z : ℤ) (x : ℕ). giving (record { image = moved_to (image_state a.self.image) z; sessions = sessions_of a.self.assembler; buffer = a.buffer.now }) (InLog (x + 32) (n c.before - 32)))
+    ap₂ {C = NextReply} (λ (z : ℤ) (x : ℕ). giving (record { image = moved_to (image_state a.self.image) z; sessions = sessions_of a.self.assembler; buffer = a.buffer.now }) (Ok (InLog (x + 32) (n c.before - 32))))
     (to_z_pos w64 (omega (arith, near c.before)) ∙ ap (λ (x : ℕ). pos (x + (n c.before + 31) / 32 * 32)) (p-is c.before)) (index_is c.before)
     ∙ whole_says a.rec a.log.now (state_of a.self a.buffer.now) (n c.before) (length-is c.before) (some c.before)
 

@@ -1,4 +1,6 @@
 -- A body that is laid is the definition's step (`lay-goes`, `lay-ends`); else the core leads there.
+use Rattle.std.specs.Prelude.{Result, Ok}
+use Rattle.model.specs.declared.Error.{Error}
 use mathlib.Core.Path.{◌≡◌, refl, sym, ap, ap₂, subst, ◌∙◌}
 use mathlib.Core.Bool.{true, false}
 use mathlib.Core.List.{List}
@@ -179,10 +181,10 @@ module _ (y : tie.After-lay_fragment-laid) where
     small : o st ≤ 4294967295
     small = omega (arith, low st, st.requires.0.0.fits.high)
 
-    goes : ends (flags_at fr·) ≡ false → J ≡ record { answer = Nothing; next = Left (behind (b t·) (flags_at fr·) + body_length fr·); buffer = Filled }
+    goes : ends (flags_at fr·) ≡ false → J ≡ record { answer = Ok Nothing; next = Left (behind (b t·) (flags_at fr·) + body_length fr·); buffer = Filled }
     goes = lay-goes (count· t·) (K t·) (b t·) (ids· t·) (held· t·) (buffer₀ t·) (log st) (X st) (o st) (framed st).0 small st.requires.1.1.1.0.0 (place_is t·) (bytes-now t·) lying
 
-    ended : ends (flags_at fr·) ≡ true → J ≡ record { answer = Message (K t· * (length (buffer₀ t·) / 16)) (behind (b t·) (flags_at fr·) + body_length fr·); next = Left 0; buffer = Filled }
+    ended : ends (flags_at fr·) ≡ true → J ≡ record { answer = Ok (Message (K t· * (length (buffer₀ t·) / 16)) (behind (b t·) (flags_at fr·) + body_length fr·)); next = Left 0; buffer = Filled }
     ended = lay-ends (count· t·) (K t·) (b t·) (ids· t·) (held· t·) (buffer₀ t·) (log st) (X st) (o st) (framed st).0 small st.requires.1.1.1.0.0 (place_is t·) (bytes-now t·) lying
 
     placed : K t· ≡ place_in (take (min (entered_with (count· t·) (K t·)) 16) (set (ids· t·) (K t·) (session_at fr·))) (session_at fr·)
@@ -243,7 +245,7 @@ module _ (q : tie.After-entered_with-entered) where
       ∙ ap (λ (x : ℕ). sessions_as (entered_with (count· tq) (K tq)) (set (ids· tq) (K tq) (session_at (fr sq))) (set (held· tq) (K tq) x)) e
 
   -- where they lead, by their numbers
-  led : (r : Gathered) (c : Current) (m k : ℕ) (x z : Replayed) → r ≡ gathered_as q.entered_with-entered.result (sq.args.left - 1) (sq.args.p + align (n sq)) x
+  led : (r : Gathered) (c : Current) (m k : ℕ) (x z : Result Replayed Error) → r ≡ gathered_as q.entered_with-entered.result (sq.args.left - 1) (sq.args.p + align (n sq)) x
       → c ≡ current_of (K tq) (to_z w32 (of_z w32 tq.turn_to-now.result.session)) m → m ≡ k → x ≡ z
       → gathering_of r ids-now (set (held· tq) c.place c.bytes) (buffer· y·) ≡ led_to (sq.args.left - 1) (sq.args.p + align (n sq)) (Left y· h· k) (Filled y· h·) z
   led r c m k x z er ec em ex =
@@ -252,7 +254,7 @@ module _ (q : tie.After-entered_with-entered) where
       ∙ ap (led_to (sq.args.left - 1) (sq.args.p + align (n sq)) (Left y· h· k) (Filled y· h·)) ex
 
   -- the session at hand is the frame's
-  knows : (r : Gathered) (c : Current) (m : ℕ) (x : Replayed) → r ≡ gathered_as q.entered_with-entered.result (sq.args.left - 1) (sq.args.p + align (n sq)) x
+  knows : (r : Gathered) (c : Current) (m : ℕ) (x : Result Replayed Error) → r ≡ gathered_as q.entered_with-entered.result (sq.args.left - 1) (sq.args.p + align (n sq)) x
       → c ≡ current_of (K tq) (to_z w32 (of_z w32 tq.turn_to-now.result.session)) m → Knows r.count ids-now c
   knows r c m x er ec =
       subst (λ (u : Gathered). Knows u.count ids-now c) (sym er)
@@ -280,8 +282,8 @@ returns-2 c =
     let r = result-is y (h· c.before.before.before) in
     let j = ended y (h· c.before.before.before) (sym r.1 ∙ c.if-laid.true) in
     let m : length (buffer· y) ≡ length (buffer₀ (tq c.before.before.before)) = c.buffer-1.given in (
-      led c.before.before.before _ _ 0 0 _ (InBuffer (K (tq c.before.before.before) * (length (buffer₀ (tq c.before.before.before)) / 16)) (behind (b (tq c.before.before.before)) (flags_at (fr· y)) + body_length (fr· y))) c.gathered_as.ensures c.current_as-then-laid.ensures refl
-          (ap₂ (λ (i k : ℕ). InBuffer (K (tq c.before.before.before) * (i / 16)) k) m r.0)
+      led c.before.before.before _ _ 0 0 _ (Ok (InBuffer (K (tq c.before.before.before) * (length (buffer₀ (tq c.before.before.before)) / 16)) (behind (b (tq c.before.before.before)) (flags_at (fr· y)) + body_length (fr· y)))) c.gathered_as.ensures c.current_as-then-laid.ensures refl
+          (ap₂ (λ (i k : ℕ). Ok (InBuffer (K (tq c.before.before.before) * (i / 16)) k)) m r.0)
           ∙ sym (ap (led_by (sq c.before.before.before).args.left (sq c.before.before.before).args.p (n (sq c.before.before.before)) (X (sq c.before.before.before)) (sessions_as (count· (tq c.before.before.before)) (ids· (tq c.before.before.before)) (set (held· (tq c.before.before.before)) (K (tq c.before.before.before)) (b (tq c.before.before.before))))) j) ∙ asked (tq c.before.before.before),
       knows c.before.before.before _ _ _ _ c.gathered_as.ensures c.current_as-then-laid.ensures,
     )
@@ -292,7 +294,7 @@ returns-3 c =
     let y = y· c.before.before.before in
     let r = result-is y (h· c.before.before.before) in
     let j = goes y (h· c.before.before.before) (sym r.1 ∙ c.if-laid.false) in (
-      led c.before.before.before _ _ _ _ _ End c.gathered_as-2.ensures c.current_as-2.ensures r.0 refl
+      led c.before.before.before _ _ _ _ _ (Ok End) c.gathered_as-2.ensures c.current_as-2.ensures r.0 refl
           ∙ sym (ap (led_by (sq c.before.before.before).args.left (sq c.before.before.before).args.p (n (sq c.before.before.before)) (X (sq c.before.before.before)) (sessions_as (count· (tq c.before.before.before)) (ids· (tq c.before.before.before)) (set (held· (tq c.before.before.before)) (K (tq c.before.before.before)) (b (tq c.before.before.before))))) j) ∙ asked (tq c.before.before.before),
       knows c.before.before.before _ _ _ _ c.gathered_as-2.ensures c.current_as-2.ensures,
     )
