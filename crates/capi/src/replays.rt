@@ -82,11 +82,10 @@ pub extern "C" fn logbuffer_replay_next(
         return next_by_all(replay, rec, log, buffer);
     }
     let image = words::replay_image(replay);
-    let whole = frames::next_whole(image, words::record_in(rec), log, buffer.len());
-    let n = whole.length;
-    if n == 0 {
+    let Some(whole) = frames::next_whole(image, words::record_in(rec), log, buffer.len()) else {
         return next_by_all(replay, rec, log, buffer);
-    }
+    };
+    let n = whole.length;
     let p = cast::long(image.position);
     let end = p + (n + ALIGNMENT_MASK) / FRAME_ALIGNMENT * FRAME_ALIGNMENT;
     words::position_out(replay, end);

@@ -187,7 +187,7 @@ pub struct CountReply {
 fn narrow(n: usize) -> u32
     ensures { result ≡ cut32 n }
 {
-    if n < 4294967295 { n as u32 } else { 4294967295 }
+    n.min(4294967295) as u32
 }
 
 // What was done, by number alone.
@@ -257,10 +257,7 @@ pub fn claimed(answer: Result<Claimed, Error>, rule: Rule) -> ClaimReply
 fn difference(to: usize, from: usize) -> usize
     ensures { result ≡ to - from }
 {
-    if to < from {
-        return 0;
-    }
-    to - from
+    to.saturating_sub(from)
 }
 
 // A part of the log, by its first index and its length.

@@ -51,10 +51,7 @@ fn bit(bits: usize) -> bool
 fn bit_number(mark: bool) -> usize
     ensures { result ≡ bit_number mark }
 {
-    if mark {
-        return 1;
-    }
-    0
+    usize::from(mark)
 }
 
 // ---- the record
@@ -132,8 +129,8 @@ pub(crate) fn record_out(w: &mut [i64; 14], next: LogRecord)
 }
 
 // Nothing is done here. Taken by value, words are known to be numbers of 64 bits, so that what is read of them and written back is what was there.
-fn record_numbers(w: [i64; 14])
-    ensures { (i : ℕ) → SFits w64 (at w i) }
+fn numbers<const N: usize>(w: [i64; N])
+    ensures { (i : ℕ) → SFits w64 (at w.entry i) }
 {}
 
 // After an append that moves one tail: its word alone. Count, marks and the other tails stay, which is to write back what is read there.
@@ -141,7 +138,7 @@ pub(crate) fn tail_out(w: &mut [i64; 14], k: usize, tail: i64)
     requires { k < 3 }
     ensures { w.new ≡ record_out w.old (tail_moved (record_in w.old) k tail) }
 {
-    record_numbers(*w);
+    numbers(*w);
     w[k] = tail;
 }
 
@@ -404,11 +401,6 @@ fn sessions_out(w: &mut [i64; 27], next: FragmentAssembler)
     w[25] = assembler[23];
     w[26] = assembler[24];
 }
-
-// Nothing is done here. Taken by value, words are known to be numbers of 64 bits, so that what is read of them and written back is what was there.
-fn numbers(w: [i64; 27])
-    ensures { (i : ℕ) → SFits w64 (at w i) }
-{}
 
 // After a message that was handed out as it lies: the image's position alone. The words of the assembler stay, which is to write back what is
 // read there.

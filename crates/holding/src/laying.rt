@@ -4,6 +4,7 @@ ghost use Rattle.card.specs.Card.{decode};
 ghost use Rattle.holding.specs.Holding.{held_of, padded};
 ghost use Rattle.holding.specs.Within.{newer as newer_of, bits_with, card_with, held_with, Laid, laid_card, laid_run, run_in, kept};
 
+use crate::runs::LONGEST;
 use card::Card;
 
 // For each field the position where its message ends, 0 where it is absent.
@@ -103,8 +104,8 @@ fn held_with(held: Held, card: Card, n: usize, end: usize) -> Held
 }
 
 // The part as the note, with 0 behind it.
-fn put_note(note: &mut [u8], bytes: &[u8], from: usize, n: usize)
-    requires { (length note.old ≡ 255) × ((n ≤ 255) × (from + n ≤ length bytes.now)) }
+fn put_note(note: &mut [u8; 255], bytes: &[u8], from: usize, n: usize)
+    requires { (n ≤ 255) × (from + n ≤ length bytes.now) }
     ensures { note.new ≡ padded (take n (drop from bytes.now)) }
 {
     note.fill(0);
@@ -112,8 +113,8 @@ fn put_note(note: &mut [u8], bytes: &[u8], from: usize, n: usize)
 }
 
 // The note of a card that has one.
-fn note_with(note: &mut [u8], bit: usize, bytes: &[u8], from: usize, n: usize)
-    requires { (length note.old ≡ 255) × ((n ≤ 255) × (from + n ≤ length bytes.now)) }
+fn note_with(note: &mut [u8; 255], bit: usize, bytes: &[u8], from: usize, n: usize)
+    requires { (n ≤ 255) × (from + n ≤ length bytes.now) }
     ensures { note.new ≡ cond (eqb bit 1) (padded (take n (drop from bytes.now))) note.old }
 {
     if bit == 1 {
@@ -122,8 +123,8 @@ fn note_with(note: &mut [u8], bit: usize, bytes: &[u8], from: usize, n: usize)
 }
 
 // Bytes laid over what is held, if they are a card of the find.
-fn lay(held: Held, note: &mut [u8], find: u32, bytes: &[u8], end: usize) -> Held
-    requires { (length note.old ≡ 255) × (length bytes.now ≤ 2147483647) }
+fn lay(held: Held, note: &mut [u8; 255], find: u32, bytes: &[u8], end: usize) -> Held
+    requires { length bytes.now ≤ 2147483647 }
     ensures { record { held = result; note = note.new } ≡ laid_card find end (decode bytes.now) (record { held = held; note = note.old }) }
 {
     let Ok(read) = card::read(bytes) else {
@@ -141,13 +142,13 @@ fn lay(held: Held, note: &mut [u8], find: u32, bytes: &[u8], end: usize) -> Held
 // A closed run laid over what is held.
 pub(crate) fn lay_run(
     held: Held,
-    note: &mut [u8],
+    note: &mut [u8; 255],
     find: u32,
     run: Option<usize>,
-    buffer: &[u8],
+    buffer: &[u8; LONGEST],
     end: usize,
 ) -> Held
-    requires { (length note.old ≡ 255) × ((length buffer.now ≡ 270) × (kept run ≤ 270)) }
+    requires { kept run ≤ 270 }
     ensures { record { held = result; note = note.new } ≡ laid_run find end (run_in run buffer.now) (record { held = held; note = note.old }) }
 {
     match run {

@@ -13,8 +13,8 @@ use model::Frame;
 pub(crate) const LONGEST: usize = 270;
 
 // The first bytes of the buffer, and n of the log behind them.
-fn join(buffer: &mut [u8], held: usize, log: &[u8], from: usize, n: usize) -> Option<usize>
-    requires { (length buffer.old ≡ 270) × ((held ≤ 270) × (from + n ≤ length log.now)) }
+fn join(buffer: &mut [u8; LONGEST], held: usize, log: &[u8], from: usize, n: usize) -> Option<usize>
+    requires { (held ≤ 270) × (from + n ≤ length log.now) }
     ensures { (run_in result buffer.new ≡ capped (running (take held buffer.old ++ take n (drop from log.now)))) × (kept result ≤ 270) }
 {
     if n > LONGEST - held {
@@ -27,12 +27,12 @@ fn join(buffer: &mut [u8], held: usize, log: &[u8], from: usize, n: usize) -> Op
 // The run with the frame at an index of the log: how many bytes since a begin frame, if there is one to go on from.
 pub(crate) fn grow(
     run: Option<usize>,
-    buffer: &mut [u8],
+    buffer: &mut [u8; LONGEST],
     log: &[u8],
     index: usize,
     frame: Frame,
 ) -> Option<usize>
-    requires { (length buffer.old ≡ 270) × ((kept run ≤ 270) × ((32 ≤ length_of frame) × (index + length_of frame ≤ length log.now))) }
+    requires { (kept run ≤ 270) × ((32 ≤ length_of frame) × (index + length_of frame ≤ length log.now)) }
     ensures { (run_in result buffer.new ≡ capped (grown (drop index log.now) frame (run_in run buffer.old))) × (kept result ≤ 270) }
 {
     let Frame::Data(length) = frame else {

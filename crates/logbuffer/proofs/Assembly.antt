@@ -1,6 +1,6 @@
 -- The rows of the assembler's entry point, and what a frame that passes them is.
 use Rattle.std.specs.Prelude.{Result, Ok, Err, ⊤}
-use Rattle.std.proofs.Common.{◌≡◌, ℕ, ◌+◌, ◌-◌, ◌*◌, ◌/◌, ◌%◌, ◌<◌, ◌≤◌, Bool, true, false, ◌&&◌, ◌||◌, eqb, ltb, leb, List, [], ◌∷◌, length, get_or, take, drop, ℤ, sym, ap, ◌∙◌, ap₂, mul-le-mul_right, arith, get_or-drop, drop-drop, ltb-false, eq-eqb, le-leb, leb-false, leb-true}
+use Rattle.std.proofs.Common.{◌≡◌, ℕ, ◌+◌, ◌-◌, ◌*◌, ◌/◌, ◌<◌, ◌≤◌, Bool, true, false, ◌&&◌, ◌||◌, eqb, ltb, leb, List, [], ◌∷◌, length, get_or, take, drop, ℤ, sym, ap, ◌∙◌, ap₂, arith, get_or-drop, drop-drop, ltb-false, eq-eqb, le-leb, leb-false, leb-true}
 use borrow.Author.Tests.{lt-leb}
 use Rattle.model.specs.declared.LogRecord.{LogRecord}
 use Rattle.model.specs.declared.Reading.{Reading}
@@ -11,7 +11,7 @@ use Rattle.model.specs.declared.FrameLength.TheVariants.{Finished}
 use Rattle.model.specs.declared.Joining.{Joining}
 use Rattle.model.specs.declared.Joining.TheVariants.{Through, Ignore, Full, TooLong, Join, Complete}
 use Rattle.model.specs.Bytes.{u32, i32}
-use Rattle.model.specs.FrameDescriptor.{align, frame_length_of, is_finished, length_at, unsound_length, unsound_frame_at, flags_at, begins, ends}
+use Rattle.model.specs.FrameDescriptor.{align, is_finished, length_at, unsound_length, unsound_frame_at, flags_at, begins, ends}
 use Rattle.model.specs.LogBufferDescriptor.{sound, good_partition, good_offset, place_of as place_read, first_rows, frame_row}
 use Rattle.model.specs.FragmentAssembler.{Sessions, Assembly, entered, place_of, joining, sessions_by, buffer_by, assembled_by, joined_at, good_frame, good_assembly, assemble_verdict, assemble_by, assemble_of}
 use types.Run.{OneOf}
@@ -19,7 +19,6 @@ use denote.Enum.Declared.{tag_of}
 use Rattle.model.specs.contracts.FrameLength.{the_type}
 use Rattle.logbuffer.proofs.Lengths.{unfinished}
 use Rattle.model.proofs.Choice.{cond-true, cond-false, cond-case}
-use Rattle.model.proofs.ReaderLaws.{and-not, and_then}
 use Rattle.model.proofs.Both.{and-true, both_true, or-false, test}
 use Rattle.model.proofs.FrameLaws.{finished-word}
 use Rattle.model.proofs.PlaceLaws.{and-and, placed}
@@ -67,43 +66,13 @@ framed-so log at f = both_true f.finished (both_true (le-leb _ _ f.header) (le-l
 
 -- ---- row 1
 
-pub frame-short : (log : List ℕ) (at : ℕ) → length log < at + 4 → false ≡ good_frame log at
-frame-short log at h = ap (λ (b : Bool). b && is_finished (frame_length_of (u32 (drop at log)))) (sym (lt-leb (at + 4) (length log) h))
-
-module _ (log : List ℕ) (at : ℕ) (x : FrameLength) (e : x ≡ frame_length_of (u32 (drop at log))) (h : at + 4 ≤ length log) where
-  judged : is_finished x ≡ good_frame log at
-  judged = ap is_finished e ∙ ap (λ (b : Bool). b && is_finished (frame_length_of (u32 (drop at log)))) (sym (le-leb (at + 4) (length log) h))
-
-  pub frame-finished : (n : ℕ) → x ≡ Finished n → true ≡ good_frame log at
-  frame-finished n q = sym (ap is_finished q) ∙ judged
-
-  pub frame-unfinished : OneOf (0 ∷ 1 ∷ []) (tag_of the_type x) → false ≡ good_frame log at
-  frame-unfinished o = sym (unfinished x o) ∙ judged
-
 module _ (v : Reading) (log : List ℕ) (lent k at : ℕ) where
-  pub assembly-lent : 2147483647 < lent → false ≡ good_assembly v log lent k at
-  assembly-lent h = ap (λ (b : Bool). b && (good_partition k && (good_offset at v && good_frame log (k * v.term + at)))) (sym (lt-leb lent 2147483647 h))
-
-  pub assembly-place : lent ≤ 2147483647 → (good_partition k && good_offset at v) ≡ false → false ≡ good_assembly v log lent k at
-  assembly-place h g = and-not (good_partition k) (good_offset at v) (good_frame log (k * v.term + at)) g ∙ ap (λ (b : Bool). b && (good_partition k && (good_offset at v && good_frame log (k * v.term + at)))) (sym (le-leb lent 2147483647 h))
-
-  pub assembly-frame : lent ≤ 2147483647 → (good_partition k && good_offset at v) ≡ true → good_frame log (k * v.term + at) ≡ good_assembly v log lent k at
-  assembly-frame h g = and_then (good_partition k) (good_offset at v) (good_frame log (k * v.term + at)) g ∙ ap (λ (b : Bool). b && (good_partition k && (good_offset at v && good_frame log (k * v.term + at)))) (sym (le-leb lent 2147483647 h))
-
   -- what row 1 says of the place
   pub assembly-at : good_assembly v log lent k at ≡ true
       → ((good_partition k && good_offset at v) ≡ true) × (is_finished (length_at (drop (k * v.term + at) log)) ≡ true)
   assembly-at g =
       let p = and-and (good_partition k) (good_offset at v) (good_frame log (k * v.term + at)) (and-true (leb lent 2147483647) _ g).1 in
       (p.0, (and-true (leb (k * v.term + at + 4) (length log)) _ p.1).1)
-
-  -- a good place has an index of 64 bits, whatever the log
-  pub place-near : (good_partition k && good_offset at v) ≡ true → k * v.term + at < 6442450944
-  place-near g =
-      let p = and-true (leb k 2) _ g in
-      let t = and-true (leb (at + 1) v.term) (leb v.term 2147483647) (and-true (eqb (at % 32) 0) _ p.1).1 in
-      let m : k * v.term ≤ 2 * v.term = mul-le-mul_right v.term (leb-true _ _ p.0) in
-      omega (arith, leb-true (at + 1) v.term t.0, leb-true v.term 2147483647 t.1)
 
   -- ---- rows 1, 2, 22 and 23
 

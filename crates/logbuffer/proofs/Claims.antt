@@ -1,5 +1,5 @@
 -- A claim's numbers as the code has them: its arguments judged, and the header that shows it.
-use Rattle.std.proofs.Common.{◌≡◌, ℕ, ◌+◌, ◌*◌, ◌%◌, ◌<◌, ◌≤◌, Bool, false, ◌&&◌, eqb, leb, List, drop, sym, ap, ◌∙◌, ap₂, mul-le-mul, arith, drop-drop, eq-eqb, ne_eqb}
+use Rattle.std.proofs.Common.{◌≡◌, ℕ, ◌+◌, ◌%◌, Bool, false, ◌&&◌, eqb, leb, List, drop, sym, ap, ◌∙◌, ap₂, drop-drop, eq-eqb, ne_eqb}
 use Rattle.model.specs.declared.Claim.{Claim}
 use Rattle.model.specs.declared.Reading.{Reading}
 use Rattle.model.specs.Bytes.{word, u32}
@@ -14,14 +14,6 @@ good_numbers v k o l = leb k 2 && (eqb (o % 32) 0 && (leb 32 l && within_term (o
 pub good-by : (v : Reading) (c : Claim) (k o l : ℕ) → k ≡ word c.partition → o ≡ word c.offset → l ≡ word c.length → good_numbers v k o l ≡ good_claim v c
 unfolding good_claim
 good-by v c k o l ek eo el = cc
-
--- a partition's start is a machine number
-pub start_small : (k t o : ℕ) → k < 4294967296 → t < 4294967296 → o < 4294967296 → (k * t < 18446744073709551616) × (k * t + o < 18446744073709551616)
-start_small k t o hk ht ho =
-    let a : k ≤ 4294967295 = omega arith in
-    let b : t ≤ 4294967295 = omega arith in
-    let m : k * t ≤ 4294967295 * 4294967295 = mul-le-mul a b in
-    (omega arith, omega arith)
 
 -- the length word that was read, beside the claim's length negated
 module _ (log : List ℕ) (at : ℕ) (c : Claim) (w l : ℕ) (ew : w ≡ u32 (drop at log)) (el : l ≡ negated (word c.length)) where

@@ -1,5 +1,5 @@
 -- Fragments by the tests of the code; and a body that is laid is the assembler's own step.
-use Rattle.std.proofs.Common.{◌≡◌, ℕ, ◌+◌, ◌*◌, ◌<◌, ◌≤◌, Bool, true, false, cond, not, ◌&&◌, ltb, leb, List, length, get_or, take, drop, ℤ, sym, refl, ap, ◌∙◌, arith, ltb-true, le-ltb, lt-ltb, le-leb, leb-true}
+use Rattle.std.proofs.Common.{◌≡◌, ℕ, Option, Some, None, ◌+◌, ◌*◌, ◌<◌, ◌≤◌, Bool, true, false, cond, not, ◌&&◌, ltb, leb, List, length, get_or, take, drop, ℤ, sym, refl, ap, ◌∙◌, arith, ltb-true, le-ltb, lt-ltb, le-leb, leb-true}
 use borrow.Author.Tests.{lt-leb}
 use Rattle.model.specs.declared.Joining.{Joining}
 use Rattle.model.specs.declared.Joining.TheVariants.{Full, TooLong, Join, Complete}
@@ -13,7 +13,7 @@ use Rattle.model.proofs.Choice.{cond-true, cond-false, split}
 use Rattle.model.proofs.FrameLaws.{lies}
 use Rattle.logbuffer.specs.Assembler.{Framed, join_of}
 use Rattle.logbuffer.specs.Whole.{data_length}
-use Rattle.logbuffer.specs.Fragments.{no_fragment, numbers_of, fragment_at, joins, behind, is_laid, not_laid, laid_of, laid_bytes}
+use Rattle.logbuffer.specs.Fragments.{numbers_of, fragment_at, joins, behind, is_laid, laid_of, laid_bytes}
 use Rattle.logbuffer.specs.declared.fragment_assembler.Laid.{Laid}
 use Rattle.logbuffer.proofs.Sessions.{more_by, join-begun, join_more}
 use Rattle.logbuffer.proofs.Assembly.{join-yes}
@@ -30,24 +30,24 @@ module _ (log : List ℕ) (at room : ℕ) where
   abbrev n· : ℕ
   n· = data_length (frame_at (drop at log) room)
 
-  pub fragment-none : n· ≡ 0 → no_fragment ≡ fragment_at log at room
+  pub fragment-none : n· ≡ 0 → None ≡ fragment_at log at room
   unfolding fragment_at
   fragment-none e =
-      sym (cond-false (ltb 0 n· && leb (at + n·) (length log)) (numbers_of n· (drop at log)) no_fragment (ap (λ (b : Bool). b && leb (at + n·) (length log)) (le-ltb 0 n· (omega (arith, e)))))
+      sym (cond-false (ltb 0 n· && leb (at + n·) (length log)) (Some (numbers_of n· (drop at log))) None (ap (λ (b : Bool). b && leb (at + n·) (length log)) (le-ltb 0 n· (omega (arith, e)))))
 
-  pub fragment-past : length log < at + n· → no_fragment ≡ fragment_at log at room
+  pub fragment-past : length log < at + n· → None ≡ fragment_at log at room
   unfolding fragment_at
   fragment-past h =
-      sym (cond-false (ltb 0 n· && leb (at + n·) (length log)) (numbers_of n· (drop at log)) no_fragment (ap (λ (b : Bool). ltb 0 n· && b) (lt-leb (at + n·) (length log) h) ∙ and-false (ltb 0 n·)))
+      sym (cond-false (ltb 0 n· && leb (at + n·) (length log)) (Some (numbers_of n· (drop at log))) None (ap (λ (b : Bool). ltb 0 n· && b) (lt-leb (at + n·) (length log) h) ∙ and-false (ltb 0 n·)))
 
-  pub fragment-short : length log < at + 32 → no_fragment ≡ fragment_at log at room
+  pub fragment-short : length log < at + 32 → None ≡ fragment_at log at room
   fragment-short h =
       split n· 0 (λ l. fragment-none (omega (arith, l)))
       (λ l. fragment-past (omega (arith, h, (lies (drop at log) room (Data n·) (data-only (frame_at (drop at log) room) n· refl l) refl).header)))
 
-  pub fragment-so : 0 < n· → at + n· ≤ length log → numbers_of n· (drop at log) ≡ fragment_at log at room
+  pub fragment-so : 0 < n· → at + n· ≤ length log → Some (numbers_of n· (drop at log)) ≡ fragment_at log at room
   unfolding fragment_at
-  fragment-so h l = sym (cond-true (ltb 0 n· && leb (at + n·) (length log)) (numbers_of n· (drop at log)) no_fragment (both_true (lt-ltb 0 n· h) (le-leb (at + n·) (length log) l)))
+  fragment-so h l = sym (cond-true (ltb 0 n· && leb (at + n·) (length log)) (Some (numbers_of n· (drop at log))) None (both_true (lt-ltb 0 n· h) (le-leb (at + n·) (length log) l)))
 
 -- ---- a body, laid
 
@@ -74,11 +74,11 @@ module _ (count place held flags n : ℕ) (log buffer : List ℕ) (at : ℕ) whe
   abbrev Lays : Bool
   Lays = is_laid count place held flags n (length log) (length buffer) at
 
-  abbrev Both : Laid → List ℕ → Type 0
+  abbrev Both : Option Laid → List ℕ → Type 0
   Both r b = (r ≡ laid_of count place held flags n (length log) (length buffer) at) × (b ≡ laid_bytes count place held flags n log buffer at)
 
-  nothing : Lays ≡ false → (r : Laid) → r ≡ not_laid → Both r buffer
-  nothing h r e = (e ∙ sym (cond-false Lays _ not_laid h), sym (cond-false Lays _ buffer h))
+  nothing : Lays ≡ false → Both None buffer
+  nothing h = (sym (cond-false Lays _ None h), sym (cond-false Lays _ buffer h))
 
   abbrev a· : Bool
   a· = ltb place 16
@@ -92,33 +92,33 @@ module _ (count place held flags n : ℕ) (log buffer : List ℕ) (at : ℕ) whe
   abbrev e· : Bool
   e· = leb (at + n) (length log)
 
-  pub lays-nowhere : 16 ≤ place → (r : Laid) → r ≡ not_laid → Both r buffer
+  pub lays-nowhere : 16 ≤ place → Both None buffer
   unfolding is_laid
   lays-nowhere h = nothing (no-1 a· b· (ltb 0 n) d· e· (le-ltb place 16 h))
 
-  pub lays-other : joins count place held flags ≡ false → (r : Laid) → r ≡ not_laid → Both r buffer
+  pub lays-other : joins count place held flags ≡ false → Both None buffer
   unfolding is_laid
   lays-other h = nothing (no-2 a· b· (ltb 0 n) d· e· h)
 
-  pub lays-empty : n ≡ 0 → (r : Laid) → r ≡ not_laid → Both r buffer
+  pub lays-empty : n ≡ 0 → Both None buffer
   unfolding is_laid
   lays-empty h = nothing (no-3 a· b· (ltb 0 n) d· e· (le-ltb 0 n (omega arith)))
 
-  pub lays-long : part_length (length buffer) < behind held flags + n → (r : Laid) → r ≡ not_laid → Both r buffer
+  pub lays-long : part_length (length buffer) < behind held flags + n → Both None buffer
   unfolding is_laid
   lays-long h = nothing (no-4 a· b· (ltb 0 n) d· e· (lt-leb _ _ h))
 
-  pub lays-past : length log < at + n → (r : Laid) → r ≡ not_laid → Both r buffer
+  pub lays-past : length log < at + n → Both None buffer
   unfolding is_laid
   lays-past h = nothing (no-5 a· b· (ltb 0 n) d· e· (lt-leb _ _ h))
 
   pub lays : place < 16 → joins count place held flags ≡ true → 0 < n → behind held flags + n ≤ part_length (length buffer) → at + n ≤ length log
-      → (r : Laid) (b : List ℕ) → r ≡ record { held = behind held flags + n; ends = ends flags } → b ≡ splice buffer (place * part_length (length buffer) + behind held flags) (take n (drop at log))
+      → (r : Option Laid) (b : List ℕ) → r ≡ Some (record { held = behind held flags + n; ends = ends flags }) → b ≡ splice buffer (place * part_length (length buffer) + behind held flags) (take n (drop at log))
       → Both r b
   unfolding is_laid
   lays h j s f l r b er eb =
       let t : Lays ≡ true = both_true (lt-ltb place 16 h) (both_true j (both_true (lt-ltb 0 n s) (both_true (le-leb _ _ f) (le-leb _ _ l)))) in
-      (er ∙ sym (cond-true Lays _ not_laid t), eb ∙ sym (cond-true Lays _ buffer t))
+      (er ∙ sym (cond-true Lays _ None t), eb ∙ sym (cond-true Lays _ buffer t))
 
 -- what it asks, of a body that is laid
 pub record Lying (count place held flags n size lent at : ℕ) : Type 0 where

@@ -1,12 +1,12 @@
 -- Laws that the functions' proofs share.
 pub mod Signed
 pub mod Bytes
+pub mod LittleEndian
 pub mod RawTails
 pub mod Exact
 pub mod Shifts
 pub mod Signs
 pub mod Lengths
-pub mod Behind
 pub mod Inside
 pub mod Actions
 pub mod Copies

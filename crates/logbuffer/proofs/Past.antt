@@ -1,10 +1,9 @@
 -- The position past a frame, exactly: its aligned length with its sign, and that each step of the sum fits 64 bits.
-use Rattle.std.proofs.Common.{◌≡◌, ℕ, suc, ◌+◌, ◌-◌, ◌*◌, ◌/◌, ◌^◌, ◌<◌, ◌≤◌, Bool, true, false, cond, ltb, ℤ, pos, negsuc, ◌+ℤ◌, ◌*ℤ◌, neg_ℤ, nat_abs, sym, refl, ap, ◌∙◌, ap₂, arith, to_z-of_z, w32, w64, SFits, to_z, of_z, ltb-false, ltb-true}
-use lib.Signed.{shr_z}
-use mir.Facts.{to_z_pos, sfits_widen}
+use Rattle.std.proofs.Common.{◌≡◌, ℕ, ◌+◌, ◌*◌, ◌/◌, ◌^◌, ◌<◌, ◌≤◌, ℤ, pos, negsuc, ◌+ℤ◌, ◌*ℤ◌, nat_abs, ap₂, arith, w32, w64, SFits, to_z, of_z}
+use mir.Facts.{to_z_pos}
 use Rattle.model.specs.TermReader.{alignℤ}
 use Rattle.logbuffer.proofs.Signed.{lands, asks}
-use Rattle.logbuffer.proofs.Exact.{near-sum, near-neg, near-32, near_fits, near-begin, near-position, position-fits}
+use Rattle.logbuffer.proofs.Exact.{near-sum, near-neg, near_fits, near-begin, near-position, position-fits}
 
 -- bits below 2^63 are the number
 plain : (n : ℕ) → n < 9223372036854775808 → to_z w64 n ≡ pos n
@@ -12,53 +11,12 @@ plain n h = to_z_pos w64 h
 
 -- ---- the aligned length
 
--- 31 more, cut to a multiple of 32 by a shift that keeps the sign
-shifted : (z : ℤ) → shr_z (z +ℤ pos 31) 32 *ℤ pos 32 ≡ alignℤ z
-shifted (pos n) = refl
-shifted (negsuc n) = go (ltb 31 (suc n)) refl
-  where
-    go : (t : Bool) → ltb 31 (suc n) ≡ t → shr_z (cond t (negsuc (suc n - 32)) (pos (31 - suc n))) 32 *ℤ pos 32 ≡ neg_ℤ (pos ((n + 1) / 32 * 32))
-    go true e =
-        let k : suc ((suc n - 32) / 32) * 32 ≡ (n + 1) / 32 * 32 = omega (arith, ltb-true 31 (suc n) e) in
-        ap (λ (m : ℕ). neg_ℤ (pos m)) k
-    go false e =
-        let k : (31 - suc n) / 32 * 32 ≡ 0 = omega arith in
-        let l : (n + 1) / 32 * 32 ≡ 0 = omega (arith, ltb-false 31 (suc n) e) in
-        ap pos k ∙ sym (ap (λ (m : ℕ). neg_ℤ (pos m)) l)
-
 pub near-aligned : (z : ℤ) → SFits w32 z → nat_abs (alignℤ z) ≤ 2147483680
 near-aligned (pos n) f = omega arith
 near-aligned (negsuc n) f = omega (arith, near-neg (pos ((n + 1) / 32 * 32)))
 
 pub aligned-fits : (z : ℤ) → SFits w32 z → SFits w64 (alignℤ z)
 aligned-fits z f = near_fits (alignℤ z) (omega (arith, near-aligned z f))
-
-shift_fits : (y : ℤ) → SFits w64 y → SFits w64 (shr_z y 32)
-shift_fits (pos n) f = record { sfits = omega arith }
-shift_fits (negsuc n) f = record { sfits = omega arith }
-
--- step by step, as the code goes
-module _ (z : ℤ) (f : SFits w32 z) where
-  wide_is : to_z w64 (of_z w64 (to_z w32 (of_z w32 z))) ≡ z
-  wide_is = lands {w = w64} (to_z-of_z f) (sfits_widen (tt {0}) f)
-
-  sum_is : to_z w64 (of_z w64 (to_z w32 (of_z w32 z))) +ℤ pos 31 ≡ z +ℤ pos 31
-  sum_is = ap (λ (x : ℤ). x +ℤ pos 31) wide_is
-
-  sum_fits : SFits w64 (z +ℤ pos 31)
-  sum_fits = near_fits (z +ℤ pos 31) (omega (arith, near-sum z (pos 31), near-32 z f))
-
-  pub sum-asks : SFits w64 (to_z w64 (of_z w64 (to_z w32 (of_z w32 z))) +ℤ pos 31)
-  sum-asks = asks sum_is sum_fits
-
-  aligned-is : to_z w64 (of_z w64 (shr_z (to_z w64 (of_z w64 (to_z w64 (of_z w64 (to_z w32 (of_z w32 z))) +ℤ pos 31))) 32)) *ℤ pos 32 ≡ alignℤ z
-  aligned-is = ap (λ (x : ℤ). x *ℤ pos 32) (lands (ap (λ (x : ℤ). shr_z x 32) (lands sum_is sum_fits)) (shift_fits (z +ℤ pos 31) sum_fits)) ∙ shifted z
-
-  pub aligned-asks : SFits w64 (to_z w64 (of_z w64 (shr_z (to_z w64 (of_z w64 (to_z w64 (of_z w64 (to_z w32 (of_z w32 z))) +ℤ pos 31))) 32)) *ℤ pos 32)
-  aligned-asks = asks aligned-is (aligned-fits z f)
-
-  pub aligned-lands : to_z w64 (of_z w64 (to_z w64 (of_z w64 (shr_z (to_z w64 (of_z w64 (to_z w64 (of_z w64 (to_z w32 (of_z w32 z))) +ℤ pos 31))) 32)) *ℤ pos 32)) ≡ alignℤ z
-  aligned-lands = lands aligned-is (aligned-fits z f)
 
 -- ---- the position, step by step: from where the term begins, which the callee answered
 

@@ -1,12 +1,12 @@
 -- The assembler's bookkeeping: looking for a session's place, and a part of the lent buffer lies in it.
-use Rattle.std.proofs.Common.{◌≡◌, ℕ, suc, ◌+◌, ◌-◌, ◌*◌, ◌/◌, ◌<◌, ◌≤◌, min, Bool, true, false, cond, ◌&&◌, ◌||◌, eqb, ltb, leb, List, ◌∷◌, length, get_or, take, drop, set, ℤ, pos, sym, ap, ◌∙◌, ap₂, mul-le-mul_right, add-one, arith, drop-cons, drop_of_length-le, le-ltb, lt-ltb, eq-eqb, ne_eqb, le-leb}
+use Rattle.std.proofs.Common.{◌≡◌, ℕ, suc, ◌+◌, ◌*◌, ◌/◌, ◌<◌, ◌≤◌, min, Bool, true, false, cond, ◌&&◌, ◌||◌, eqb, ltb, leb, List, length, get_or, drop, set, ℤ, pos, sym, ap, ◌∙◌, ap₂, mul-le-mul_right, add-one, arith, drop-cons, drop_of_length-le, le-ltb, lt-ltb, eq-eqb, ne_eqb}
 use borrow.Author.Tests.{lt-leb}
 use Rattle.model.specs.Bytes.{word}
 use Rattle.model.specs.FrameDescriptor.{begins, ends}
 use Rattle.model.specs.declared.Joining.{Joining}
 use Rattle.model.specs.declared.Joining.TheVariants.{Through, Ignore, Full, TooLong, Join, Complete}
 use Rattle.model.specs.FragmentAssembler.{Sessions, entered, place_in, place_of, holding, joining}
-use Rattle.model.proofs.Choice.{cond-true, cond-false, split}
+use Rattle.model.proofs.Choice.{cond-true, cond-false}
 use Rattle.model.proofs.Both.{both_true}
 use Rattle.logbuffer.specs.Assembler.{entered_with, held_at}
 
@@ -45,9 +45,6 @@ module _ (m count k : ℕ) (e : m ≡ min count 16) where
   pub entered-new : m ≤ k → k < 16 → k + 1 ≡ entered_with count k
   entered-new h l = sym (cond-false (ltb k (min count 16)) _ _ (le-ltb k (min count 16) (omega arith)) ∙ cond-true (ltb k 16) _ _ (lt-ltb k 16 l))
 
-  pub entered-none : m ≤ k → 16 ≤ k → m ≡ entered_with count k
-  entered-none h l = e ∙ sym (cond-false (ltb k (min count 16)) _ _ (le-ltb k (min count 16) (omega arith)) ∙ cond-false (ltb k 16) _ _ (le-ltb k 16 l))
-
 pub held_in : (s : Sessions) (k : ℕ) (z : ℤ) (n : ℕ) → k < 16 → held_at s k z n ≡ holding s k z n
 held_in s k z n h = cond-true (ltb k 16) (holding s k z n) s (lt-ltb k 16 h)
 
@@ -73,12 +70,6 @@ module _ (k entered from n part : ℕ) (ends : Bool) where
   abbrev pub More : Joining
   More = cond (leb entered k || eqb from 0) Ignore (cond (ltb part (from + n)) (TooLong k) (cond ends (Complete k from) (Join k from)))
 
-  pub more-unknown : entered ≤ k → Ignore ≡ More
-  more-unknown h = sym (cond-true (leb entered k || eqb from 0) Ignore _ (ap (λ (b : Bool). b || eqb from 0) (le-leb entered k h)))
-
-  pub more-none : k < entered → from ≡ 0 → Ignore ≡ More
-  more-none h e = sym (cond-true (leb entered k || eqb from 0) Ignore _ (ap₂ ◌||◌ (lt-leb entered k h) (eq-eqb from 0 e)))
-
   pub more_by : k < entered → ¬ (from ≡ 0) → cond (ltb part (from + n)) (TooLong k) (cond ends (Complete k from) (Join k from)) ≡ More
   more_by h e = sym (cond-false (leb entered k || eqb from 0) Ignore _ (ap₂ ◌||◌ (lt-leb entered k h) (ne_eqb from 0 e)))
 
@@ -97,10 +88,3 @@ module _ (s : Sessions) (z : ℤ) (flags n part : ℕ) where
       ≡ joining s z flags n part
   unfolding joining
   join_more b = sym (cond-false (begins flags && ends flags) Through _ (ap (λ (x : Bool). x && ends flags) b) ∙ cond-false (begins flags) _ _ b)
-
--- a sum compared by the difference, where there is one
-pub long-by : (part held n : ℕ) → held ≤ part → ltb (part - held) n ≡ ltb part (held + n)
-long-by part held n h =
-    split n (part - held)
-    (λ l. le-ltb (part - held) n l ∙ sym (le-ltb part (held + n) (omega arith)))
-    (λ l. lt-ltb (part - held) n l ∙ sym (lt-ltb part (held + n) (omega arith)))

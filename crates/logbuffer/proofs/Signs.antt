@@ -1,7 +1,6 @@
 -- The sign of a 32-bit number, told by its bits.
 use Rattle.std.proofs.Common.{◌≡◌, ℕ, zero, suc, ◌-◌, ◌<◌, ◌≤◌, true, false, ℤ, pos, negsuc, ◌-ℤ◌, neg_ℤ, sym, refl, ap, ◌∙◌, arith, to_z-of_z, w32, Fits, SFits, to_z, of_z, ltb-true, lt-ltb}
 use lib.Signed.{lt_z}
-use Rattle.model.specs.TermReader.{natural}
 use mir.Facts.{of_z-to_z, to_z_pos}
 use Rattle.model.specs.FrameDescriptor.{negated}
 use Rattle.logbuffer.proofs.Signed.{asks}
@@ -30,15 +29,6 @@ pub back32 : (z : ℤ) (u v : ℕ) → z ≡ to_z w32 u → u ≡ v → u < 4294
 back32 z u v e q h =
     let k = bits32 z u u e refl h in
     ap (λ (n : ℕ). of_z w32 (to_z w32 n)) k ∙ bits32 (to_z w32 u) u v refl q h
-
--- a limit as readers take it: 0 for one below 0
-pub natural-none : (z : ℤ) → SFits w32 z → lt_z (to_z w32 (of_z w32 z)) (pos 0) ≡ true → 0 ≡ natural z
-natural-none (pos n) f h = absurd (let k : 2147483648 ≤ of_z w32 (pos n) = negative (pos n) f h in omega arith)
-natural-none (negsuc n) f h = refl
-
-pub natural-bits : (z : ℤ) → SFits w32 z → lt_z (to_z w32 (of_z w32 z)) (pos 0) ≡ false → of_z w32 z ≡ natural z
-natural-bits (pos n) f h = omega arith
-natural-bits (negsuc n) f h = absurd (let k : of_z w32 (negsuc n) < 2147483648 = not_negative (negsuc n) f h in omega arith)
 
 -- three signed arguments, passed on
 pub passed_on : {A : Type 0} (f : ℤ → ℤ → ℤ → A) (x y z : ℤ) → SFits w32 x → SFits w32 y → SFits w32 z

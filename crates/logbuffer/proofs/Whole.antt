@@ -1,5 +1,5 @@
 -- A whole message's frame, by the tests of the code.
-use Rattle.std.proofs.Common.{◌≡◌, ℕ, ◌+◌, ◌/◌, ◌%◌, ◌<◌, ◌≤◌, Bool, true, false, cond, ◌&&◌, List, [], ◌∷◌, length, drop, sym, refl, ap, ◌∙◌, ⊎_elim, arith, eq-eqb, eqb-true}
+use Rattle.std.proofs.Common.{◌≡◌, ℕ, zero, suc, Some, None, ◌+◌, ◌/◌, ◌%◌, ◌<◌, ◌≤◌, Bool, true, false, cond, ◌&&◌, List, [], ◌∷◌, length, drop, sym, refl, ap, ◌∙◌, ⊎_elim, arith, eq-eqb, eqb-true}
 use types.Run.{OneOf}
 use denote.Enum.Declared.{tag_of}
 use Rattle.model.specs.contracts.Frame.{the_type}
@@ -8,7 +8,7 @@ use Rattle.model.specs.declared.Frame.TheVariants.{Absent, Unsound, Padding, Dat
 use Rattle.model.specs.FrameDescriptor.{frame_at, flags_at, begins, ends}
 use Rattle.model.proofs.Both.{both_true}
 use Rattle.model.proofs.Choice.{cond-true, cond-false, le_yes, le-no}
-use Rattle.logbuffer.specs.Whole.{data_length, whole_length, whole_frame}
+use Rattle.logbuffer.specs.Whole.{data_length, whole_length, length_found, whole_frame}
 
 -- no data frame
 pub no-data : (x : Frame) → OneOf (0 ∷ 1 ∷ 2 ∷ []) (tag_of the_type x) → data_length x ≡ 0
@@ -35,13 +35,18 @@ not-both f h = go (begins f) (ends f) refl refl
 pub both : (f : ℕ) → f / 64 % 4 ≡ 3 → (begins f && ends f) ≡ true
 both f h = both_true (eq-eqb (f / 128 % 2) 1 (omega arith)) (eq-eqb (f / 64 % 2) 1 (omega arith))
 
+-- a length that is some is found
+pub found : (n : ℕ) → 0 < n → Some n ≡ length_found n
+found zero h = absurd (omega arith)
+found (suc n) h = refl
+
 module _ (log : List ℕ) (at room : ℕ) where
   abbrev frame· : List ℕ
   frame· = drop at log
 
-  pub no_room : length log < at + 32 → 0 ≡ whole_frame log at room
+  pub no_room : length log < at + 32 → None ≡ length_found (whole_frame log at room)
   unfolding whole_frame
-  no_room h = sym (le-no (at + 32) (length log) _ 0 h)
+  no_room h = ap length_found (sym (le-no (at + 32) (length log) _ 0 h))
 
   -- a frame that was read there
   pub whole-as : at + 32 ≤ length log → whole_length (flags_at frame·) (frame_at frame· room) ≡ whole_frame log at room

@@ -1,6 +1,6 @@
 -- The assembler in steps, for a reader who takes one fragment after another and keeps the sessions himself: a data frame's numbers, and its body laid behind
 -- what its session holds. `laid-joins` (proofs/Fragments.antt) says that a body that is laid is the assembler's own step.
-use Rattle.std.specs.Prelude.{ℕ, ◌+◌, ◌*◌, Bool, false, cond, not, ◌&&◌, List, length, take, drop, pos, nat_le, nat_lt}
+use Rattle.std.specs.Prelude.{ℕ, ◌+◌, ◌*◌, Bool, cond, not, ◌&&◌, List, length, take, drop, nat_le, nat_lt, Option, Some, None}
 use Rattle.model.specs.Bytes.{splice}
 use Rattle.model.specs.FrameDescriptor.{frame_at, flags_at, begins, ends}
 use Rattle.model.specs.FragmentAssembler.{part_length, session_at}
@@ -10,17 +10,14 @@ use Rattle.logbuffer.specs.declared.fragment_assembler.Laid.{Laid}
 
 -- ---- a data frame's numbers
 
-abbrev pub no_fragment : FragmentHeader
-no_fragment = record { length = 0; flags = 0; session = pos 0 }
-
 abbrev pub numbers_of : ℕ → List ℕ → FragmentHeader
 numbers_of n frame = record { length = n; flags = flags_at frame; session = session_at frame }
 
 -- of the one at an index, with so many bytes to the term's end, if it lies whole in the log
-unfoldable pub fragment_at : List ℕ → ℕ → ℕ → FragmentHeader
+unfoldable pub fragment_at : List ℕ → ℕ → ℕ → Option FragmentHeader
 fragment_at log at room =
     let n = data_length (frame_at (drop at log) room) in
-    cond (nat_lt 0 n && nat_le (at + n) (length log)) (numbers_of n (drop at log)) no_fragment
+    cond (nat_lt 0 n && nat_le (at + n) (length log)) (Some (numbers_of n (drop at log))) None
 
 -- ---- a body, laid
 
@@ -37,13 +34,10 @@ unfoldable pub is_laid : ℕ → ℕ → ℕ → ℕ → ℕ → ℕ → ℕ →
 is_laid count place held flags n size lent at =
     nat_lt place 16 && (joins count place held flags && (nat_lt 0 n && (nat_le (behind held flags + n) (part_length lent) && nat_le (at + n) size)))
 
-abbrev pub not_laid : Laid
-not_laid = record { held = 0; ends = false }
-
--- what the session then holds, and whether the message ends; the lent buffer
-abbrev pub laid_of : ℕ → ℕ → ℕ → ℕ → ℕ → ℕ → ℕ → ℕ → Laid
+-- what the session then holds, and whether the message ends, if it is laid; the lent buffer
+abbrev pub laid_of : ℕ → ℕ → ℕ → ℕ → ℕ → ℕ → ℕ → ℕ → Option Laid
 laid_of count place held flags n size lent at =
-    cond (is_laid count place held flags n size lent at) (record { held = behind held flags + n; ends = ends flags }) not_laid
+    cond (is_laid count place held flags n size lent at) (Some (record { held = behind held flags + n; ends = ends flags })) None
 
 abbrev pub laid_bytes : ℕ → ℕ → ℕ → ℕ → ℕ → List ℕ → List ℕ → ℕ → List ℕ
 laid_bytes count place held flags n log buffer at =

@@ -11,8 +11,7 @@ use model::{Error, LogRecord, Place, Reading};
 pub fn natural(limit: i32) -> usize
     ensures { (result ≡ natural_of limit) × (result < 2147483648) }
 {
-    let bits = cast::word(limit);
-    if limit < 0 { 0 } else { bits }
+    limit.max(0).cast_unsigned() as usize
 }
 
 // n is at most the term length, and that is none below 0.

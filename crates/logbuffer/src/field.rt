@@ -14,24 +14,30 @@ pub(crate) fn half(log: &[u8], at: usize) -> usize
     requires { at + 2 ≤ length log.now }
     ensures { (result ≡ half_at (drop at log.now)) × (result < 65536) }
 {
-    byte(log, at) + 256 * byte(log, at + 1)
+    u16::from_le_bytes([log[at], log[at + 1]]) as usize
 }
 
 pub(crate) fn word4(log: &[u8], at: usize) -> usize
     requires { at + 4 ≤ length log.now }
     ensures { (result ≡ word_at (drop at log.now)) × (result < 4294967296) }
 {
-    byte(log, at)
-        + 256 * byte(log, at + 1)
-        + 65536 * byte(log, at + 2)
-        + 16777216 * byte(log, at + 3)
+    u32::from_le_bytes([log[at], log[at + 1], log[at + 2], log[at + 3]]) as usize
 }
 
 pub(crate) fn long8(log: &[u8], at: usize) -> usize
     requires { at + 8 ≤ length log.now }
     ensures { result ≡ long_at (drop at log.now) }
 {
-    word4(log, at) + 4294967296 * word4(log, at + 4)
+    u64::from_le_bytes([
+        log[at],
+        log[at + 1],
+        log[at + 2],
+        log[at + 3],
+        log[at + 4],
+        log[at + 5],
+        log[at + 6],
+        log[at + 7],
+    ]) as usize
 }
 
 // The lowest two, four, eight bytes of n, the lowest first.
@@ -39,24 +45,19 @@ pub(crate) fn put2(log: &mut [u8], at: usize, n: usize)
     requires { at + 2 ≤ length log.old }
     ensures { log.new ≡ splice log.old at (le2 n) }
 {
-    log[at] = (n & 0xff) as u8;
-    log[at + 1] = (n >> 8 & 0xff) as u8;
+    log[at..at + 2].copy_from_slice(&((n & 0xffff) as u16).to_le_bytes());
 }
 
 pub(crate) fn put4(log: &mut [u8], at: usize, n: usize)
     requires { at + 4 ≤ length log.old }
     ensures { log.new ≡ splice log.old at (le4 n) }
 {
-    log[at] = (n & 0xff) as u8;
-    log[at + 1] = (n >> 8 & 0xff) as u8;
-    log[at + 2] = (n >> 16 & 0xff) as u8;
-    log[at + 3] = (n >> 24 & 0xff) as u8;
+    log[at..at + 4].copy_from_slice(&((n & 0xffff_ffff) as u32).to_le_bytes());
 }
 
 pub(crate) fn put8(log: &mut [u8], at: usize, n: usize)
     requires { at + 8 ≤ length log.old }
     ensures { log.new ≡ splice log.old at (le8 n) }
 {
-    put4(log, at, n);
-    put4(log, at + 4, n / 4294967296);
+    log[at..at + 8].copy_from_slice(&(n as u64).to_le_bytes());
 }

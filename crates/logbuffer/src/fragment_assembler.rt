@@ -6,7 +6,7 @@ ghost use Rattle.model.specs.Bytes.{word, u32 as word_at};
 ghost use Rattle.model.specs.FrameDescriptor.{is_finished, length_at, unsound_length};
 ghost use Rattle.model.specs.FragmentAssembler.{fresh, place_in, joining as joining_of, good_frame, good_assembly, assemble_verdict, assemble_of, joined_at};
 ghost use Rattle.logbuffer.specs.Assembler.{sessions_of, sessions_as, entered_with, Framed, is_framed, Enters, join_of, leaving};
-ghost use Rattle.logbuffer.specs.Fragments.{no_fragment, fragment_at, joins as joins_of, behind as behind_of, not_laid, laid_of, laid_bytes};
+ghost use Rattle.logbuffer.specs.Fragments.{fragment_at, joins as joins_of, behind as behind_of, laid_of, laid_bytes};
 
 use crate::data_frame_header::{FLAGS_FIELD_OFFSET, HEADER_LENGTH, SESSION_ID_FIELD_OFFSET};
 use crate::frame_descriptor::{ALIGNMENT_MASK, BEGIN_FRAG, END_FRAG, FRAME_ALIGNMENT};
@@ -57,7 +57,7 @@ impl FragmentAssembler {
 fn entered(count: usize) -> usize
     ensures { (result ≡ min count 16) × (result ≤ 16) }
 {
-    if count < 16 { count } else { 16 }
+    count.min(16)
 }
 
 // The session's place among the first n ids, or the place after them.
@@ -130,7 +130,7 @@ fn continued(k: usize, entered: usize, from: usize, n: usize, part: usize, ends:
 pub fn held_at(held: &[usize], k: usize) -> usize
     ensures { result ≡ slice_index held.now k }
 {
-    if k < held.len() { held[k] } else { 0 }
+    held.get(k).copied().unwrap_or(0)
 }
 
 // What is done with a frame of a body of n bytes.
@@ -333,38 +333,28 @@ pub struct FragmentHeader {
     pub session: i32,
 }
 
-fn no_fragment() -> FragmentHeader
-    ensures { result ≡ no_fragment }
-{
-    FragmentHeader {
-        length: 0,
-        flags: 0,
-        session: 0,
-    }
-}
-
-// The data frame at an index of a log, with so many bytes to the term's end; zeros where there is none, or it does not lie whole in the log.
-pub fn fragment_at(log: &[u8], at: usize, room: usize) -> FragmentHeader
+// The data frame at an index of a log, with so many bytes to the term's end, if there is one and it lies whole in the log.
+pub fn fragment_at(log: &[u8], at: usize, room: usize) -> Option<FragmentHeader>
     ensures { result ≡ fragment_at log.now at room }
 {
     let size = log.len();
     if size < HEADER_LENGTH {
-        return no_fragment();
+        return None;
     }
     if at > size - HEADER_LENGTH {
-        return no_fragment();
+        return None;
     }
     let Frame::Data(n) = frame_descriptor::frame_inside(log, at, room) else {
-        return no_fragment();
+        return None;
     };
     if n > size - at {
-        return no_fragment();
+        return None;
     }
-    FragmentHeader {
+    Some(FragmentHeader {
         length: n,
         flags: field::byte(log, at + FLAGS_FIELD_OFFSET),
         session: cast::to_i32(field::word4(log, at + SESSION_ID_FIELD_OFFSET)),
-    }
+    })
 }
 
 // Whether a frame joins a message: it begins one that it does not end, or its session is entered and holds a byte.
@@ -387,20 +377,11 @@ fn behind(held: usize, flags: usize) -> usize
     if flags / BEGIN_FRAG % 2 == 1 { 0 } else { held }
 }
 
-// What the session then holds, 0 where nothing was laid; and whether the frame ends the message.
+// What the session holds behind a body that was laid, and whether its frame ends the message.
 #[derive(Clone, Copy)]
 pub struct Laid {
     pub held: usize,
     pub ends: bool,
-}
-
-fn not_laid() -> Laid
-    ensures { result ≡ not_laid }
-{
-    Laid {
-        held: 0,
-        ends: false,
-    }
 }
 
 // A body that joins a message, laid into the part of its session behind what that holds: so many bytes at an index of the log, by the flags of its frame. Nothing
@@ -414,36 +395,36 @@ pub fn lay_fragment(
     log: &[u8],
     buffer: &mut [u8],
     index: usize,
-) -> Laid
+) -> Option<Laid>
     ensures value { result ≡ laid_of count place held flags body_length (length log.now) (length buffer.old) index }
     ensures buffer_after { buffer.new ≡ laid_bytes count place held flags body_length log.now buffer.old index }
 {
     if place >= 16 {
-        return not_laid();
+        return None;
     }
     if !joins(count, place, held, flags) {
-        return not_laid();
+        return None;
     }
     if body_length == 0 {
-        return not_laid();
+        return None;
     }
     let part = buffer.len() / 16;
     let from = behind(held, flags);
     if too_long(part, from, body_length) {
-        return not_laid();
+        return None;
     }
     let size = log.len();
     if index > size {
-        return not_laid();
+        return None;
     }
     if body_length > size - index {
-        return not_laid();
+        return None;
     }
     buffer_builder::append(buffer, place, part, from, log, index, body_length);
-    Laid {
+    Some(Laid {
         held: from + body_length,
         ends: flags / END_FRAG % 2 == 1,
-    }
+    })
 }
 
 impl FragmentAssembler {

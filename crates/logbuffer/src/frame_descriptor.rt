@@ -5,7 +5,7 @@ ghost use Rattle.model.specs.Bytes.{word, u16 as half_of, u32 as word_of};
 ghost use Rattle.model.specs.FrameDescriptor.{frame_length_of, is_finished, is_writing, length_at, frame_by, frame_at, unsound_frame, flags_at, ends};
 ghost use Rattle.model.specs.DataFrameHeader.{header_at};
 ghost use Rattle.model.specs.TermReader.{length_call};
-ghost use Rattle.logbuffer.specs.Whole.{whole_frame};
+ghost use Rattle.logbuffer.specs.Whole.{length_found, whole_frame};
 
 use crate::data_frame_header::{
     FLAGS_FIELD_OFFSET, HDR_TYPE_PAD, HEADER_LENGTH, TERM_ID_FIELD_OFFSET, TYPE_FIELD_OFFSET,
@@ -43,26 +43,15 @@ pub fn frame_length(length: i32) -> FrameLength
 pub fn compute_max_message_length(term_length: u32) -> usize
     ensures { result ≡ min (term_length / 8) 16777216 }
 {
-    let eighth = (term_length as usize) / 8;
-    if eighth < MAX_MESSAGE_LENGTH {
-        eighth
-    } else {
-        MAX_MESSAGE_LENGTH
-    }
+    (term_length as usize / 8).min(MAX_MESSAGE_LENGTH)
 }
 
 // The byte that lies i behind an index, and 0 past the log's end.
 fn byte_behind(log: &[u8], at: usize, i: usize) -> usize
     ensures { (result ≡ slice_index (drop at log.now) i) × (result < 256) }
 {
-    let n = log.len();
-    if at >= n {
-        return 0;
-    }
-    if i >= n - at {
-        return 0;
-    }
-    field::byte(log, at + i)
+    let behind = log.get(at..).unwrap_or(&[]);
+    behind.get(i).copied().unwrap_or(0) as usize
 }
 
 // A frame's length word at any index; bytes past the log's end count as 0.
@@ -105,31 +94,23 @@ pub fn length_at(log: &[u8], at: usize) -> FrameLength
 pub(crate) fn is_free(log: &[u8], at: usize) -> bool
     ensures { result ≡ (word_of (drop at log.now) == 0) }
 {
-    match length_at(log, at) {
-        FrameLength::Free => true,
-        FrameLength::Writing(_) => false,
-        FrameLength::Finished(_) => false,
-    }
+    matches!(length_at(log, at), FrameLength::Free)
 }
 
 // Whether a frame is being written there.
 pub(crate) fn is_writing(log: &[u8], at: usize) -> bool
     ensures { result ≡ is_writing (length_at (drop at log.now)) }
 {
-    match length_at(log, at) {
-        FrameLength::Free => false,
-        FrameLength::Writing(_) => true,
-        FrameLength::Finished(_) => false,
-    }
+    matches!(length_at(log, at), FrameLength::Writing(_))
 }
 
-// The length of a finished frame: there is no other answer then, and the 0 is never given.
+// The length of a finished frame: there is no other answer then.
 pub(crate) fn finished_length(log: &[u8], at: usize) -> usize
     requires { is_finished (length_at (drop at log.now)) ≡ true }
     ensures { (result ≡ word_of (drop at log.now)) × (result < 2147483648) }
 {
     let FrameLength::Finished(n) = length_at(log, at) else {
-        return 0;
+        unreachable!()
     };
     n
 }
@@ -193,25 +174,25 @@ pub(crate) fn frame_inside(log: &[u8], at: usize, room: usize) -> Frame
     )
 }
 
-// The length of the frame at an index if it holds a whole message, which its type and both flags say; else 0, and where no header has room before
+// The length of the frame at an index if it holds a whole message, which its type and both flags say; else none, and where no header has room before
 // the log's end.
-pub fn whole_length(log: &[u8], at: usize, room: usize) -> usize
-    ensures { result ≡ whole_frame log.now at room }
+pub fn whole_length(log: &[u8], at: usize, room: usize) -> Option<usize>
+    ensures { result ≡ length_found (whole_frame log.now at room) }
 {
     let size = log.len();
     if size < HEADER_LENGTH {
-        return 0;
+        return None;
     }
     if at > size - HEADER_LENGTH {
-        return 0;
+        return None;
     }
     let Frame::Data(n) = frame_inside(log, at, room) else {
-        return 0;
+        return None;
     };
     if field::byte(log, at + FLAGS_FIELD_OFFSET) / END_FRAG % 4 != 3 {
-        return 0;
+        return None;
     }
-    n
+    Some(n)
 }
 
 // The refusal of an unsound frame, by its length and its offset in its term: too short for a header, or past the term's end.

@@ -22,14 +22,14 @@ pub const PARTITION_COUNT: usize = 3;
 pub fn id_plus(term_id: u32, terms: u32) -> u32
     ensures { result ≡ id_plus term_id terms }
 {
-    std::num::wrapping_add_u32(term_id, terms)
+    term_id.wrapping_add(terms)
 }
 
 // A term id less another, or less so many terms. Less the initial one it is the term's count.
 pub fn id_minus(term_id: u32, less: u32) -> u32
     ensures { result ≡ id_minus term_id less }
 {
-    std::num::wrapping_sub_u32(term_id, less)
+    term_id.wrapping_sub(less)
 }
 
 // The upper half of a raw tail, with its sign.
@@ -50,12 +50,7 @@ fn offset_bits(raw_tail: i64) -> usize
 pub fn term_offset(raw_tail: i64, term_length: usize) -> usize
     ensures { result ≡ term_offset_of raw_tail term_length }
 {
-    let offset = offset_bits(raw_tail);
-    if offset < term_length {
-        offset
-    } else {
-        term_length
-    }
+    offset_bits(raw_tail).min(term_length)
 }
 
 pub fn index_by_term_count(count: usize) -> usize

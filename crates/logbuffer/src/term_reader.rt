@@ -16,11 +16,7 @@ use model::{Error, Frame, FramesRead, LogRecord, Place, Reading, Span, TermRead,
 fn action_of(actions: &[u8], passed: usize) -> usize
     ensures { result ≡ next_action (drop passed actions.now) }
 {
-    if passed < actions.len() {
-        actions[passed] as usize
-    } else {
-        4
-    }
+    actions.get(passed).copied().unwrap_or(4) as usize
 }
 
 // The bytes up to the last whole message or padding, after one more fragment.

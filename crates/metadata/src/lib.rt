@@ -11,6 +11,7 @@ ghost use Rattle.model.specs.Publication.{no_record};
 
 use logbuffer::log_buffer_descriptor;
 use model::LogRecord;
+use section::METADATA_LENGTH;
 
 // IllegalMetadata: another size than 320, a byte that is not 0 where no field is, or another header length than 32.
 #[derive(Clone, Copy, Debug, PartialEq, Eq, thiserror::Error)]
@@ -60,14 +61,14 @@ pub fn write_metadata(rec: LogRecord, output: &mut [u8]) -> Result<(), MetadataE
     if output.len() > 2147483647 {
         return Err(MetadataError::IllegalArgument);
     }
-    if output.len() != section::METADATA_LENGTH {
+    let Some(section) = output.as_mut_array::<METADATA_LENGTH>() else {
         return Err(MetadataError::IllegalMetadata);
-    }
+    };
     let v = log_buffer_descriptor::read_active(rec);
     if !log_buffer_descriptor::is_sound_record(v) {
         return Err(MetadataError::IllegalRecord);
     }
-    section::put(rec, output);
+    section::put(rec, section);
     Ok(())
 }
 
@@ -87,10 +88,13 @@ pub fn read_metadata(bytes: &[u8], beside: Beside) -> MetadataReply
     if bytes.len() > 2147483647 {
         return refused(MetadataError::IllegalArgument);
     }
-    if !section::accepts(bytes) {
+    let Some(section) = bytes.as_array::<METADATA_LENGTH>() else {
+        return refused(MetadataError::IllegalMetadata);
+    };
+    if !section::accepts(section) {
         return refused(MetadataError::IllegalMetadata);
     }
-    let rec = section::record_from(bytes, beside);
+    let rec = section::record_from(section, beside);
     let v = log_buffer_descriptor::read_active(rec);
     if !log_buffer_descriptor::is_sound_record(v) {
         return refused(MetadataError::IllegalRecord);

@@ -1,5 +1,5 @@
 // A section written, judged and read: its four parts in turn, with the zeros behind them. Read bytes next.
-ghost use Rattle.std.specs.Prelude.{◌≡◌, length};
+ghost use Rattle.std.specs.Prelude.{◌≡◌};
 ghost use Rattle.model.specs.Bytes.{splice};
 ghost use Rattle.metadata.specs.Metadata.{counters, connection, ids, lengths, section, accepted, tails_from, record_from};
 
@@ -47,8 +47,7 @@ const PAD3_LENGTH: usize = 36;
 
 // ---- written
 
-fn put_counters(rec: LogRecord, out: &mut [u8])
-    requires { length out.old ≡ 320 }
+fn put_counters(rec: LogRecord, out: &mut [u8; METADATA_LENGTH])
     ensures { out.new ≡ splice out.old 0 (counters rec) }
 {
     bytes::put_i64(out, TERM_TAIL_COUNTER_OFFSET, rec.tails[0]);
@@ -58,8 +57,7 @@ fn put_counters(rec: LogRecord, out: &mut [u8])
     bytes::put_zeros(out, PAD1_OFFSET, PAD1_LENGTH);
 }
 
-fn put_connection(rec: LogRecord, out: &mut [u8])
-    requires { length out.old ≡ 320 }
+fn put_connection(rec: LogRecord, out: &mut [u8; METADATA_LENGTH])
     ensures { out.new ≡ splice out.old 128 (connection rec) }
 {
     bytes::put_i64(
@@ -72,8 +70,7 @@ fn put_connection(rec: LogRecord, out: &mut [u8])
     bytes::put_zeros(out, PAD2_OFFSET, PAD2_LENGTH);
 }
 
-fn put_ids(rec: LogRecord, out: &mut [u8])
-    requires { length out.old ≡ 320 }
+fn put_ids(rec: LogRecord, out: &mut [u8; METADATA_LENGTH])
     ensures { out.new ≡ splice out.old 256 (ids rec) }
 {
     bytes::put_i64(out, LOG_CORRELATION_ID_OFFSET, rec.correlation_id);
@@ -85,8 +82,7 @@ fn put_ids(rec: LogRecord, out: &mut [u8])
     );
 }
 
-fn put_lengths(rec: LogRecord, out: &mut [u8])
-    requires { length out.old ≡ 320 }
+fn put_lengths(rec: LogRecord, out: &mut [u8; METADATA_LENGTH])
     ensures { out.new ≡ splice out.old 272 (lengths rec) }
 {
     bytes::put_i32(out, LOG_MTU_LENGTH_OFFSET, rec.mtu_length);
@@ -95,8 +91,7 @@ fn put_lengths(rec: LogRecord, out: &mut [u8])
     bytes::put_zeros(out, PAD3_OFFSET, PAD3_LENGTH);
 }
 
-pub(crate) fn put(rec: LogRecord, out: &mut [u8])
-    requires { length out.old ≡ 320 }
+pub(crate) fn put(rec: LogRecord, out: &mut [u8; METADATA_LENGTH])
     ensures { out.new ≡ section rec }
 {
     put_counters(rec, out);
@@ -107,20 +102,18 @@ pub(crate) fn put(rec: LogRecord, out: &mut [u8])
 
 // ---- read
 
-// Its size, the zeros, and the header length.
+// The zeros, and the header length.
 #[tactic(auto, unfolding(crate::specs::Metadata::accepted))]
-pub(crate) fn accepts(s: &[u8]) -> bool
+pub(crate) fn accepts(s: &[u8; METADATA_LENGTH]) -> bool
     ensures { result ≡ accepted s.now }
 {
-    s.len() == METADATA_LENGTH
-        && bytes::is_zero(s, PAD1_OFFSET, PAD1_LENGTH)
+    bytes::is_zero(s, PAD1_OFFSET, PAD1_LENGTH)
         && bytes::is_zero(s, PAD2_OFFSET, PAD2_LENGTH)
         && bytes::is_zero(s, PAD3_OFFSET, PAD3_LENGTH)
         && bytes::get_u32(s, LOG_DEFAULT_FRAME_HEADER_LENGTH_OFFSET) as usize == HEADER_LENGTH
 }
 
-fn tails_from(s: &[u8]) -> [i64; 3]
-    requires { length s.now ≡ 320 }
+fn tails_from(s: &[u8; METADATA_LENGTH]) -> [i64; 3]
     ensures { result ≡ tails_from s.now }
 {
     [
@@ -130,8 +123,7 @@ fn tails_from(s: &[u8]) -> [i64; 3]
     ]
 }
 
-pub(crate) fn record_from(s: &[u8], beside: Beside) -> LogRecord
-    requires { length s.now ≡ 320 }
+pub(crate) fn record_from(s: &[u8; METADATA_LENGTH], beside: Beside) -> LogRecord
     ensures { result ≡ record_from s.now beside }
 {
     let marks = beside.is_cleared;

@@ -1,5 +1,7 @@
 -- A data frame of the log by its numbers; and a fragment whose body is laid behind what its session holds is the assembler's own step, with the session's number kept apart from the array's.
-use Rattle.std.specs.Prelude.{Ok}
+use Rattle.std.specs.Prelude.{Option, Some, None, Ok}
+use Rattle.std.specs.Option.{option_map}
+use Rattle.std.proofs.lemmas.Option.{none-some, same_Some, cond_some}
 use Prim.Native.Nat.{ℕ, zero, suc, ◌+◌, ◌-◌, ◌*◌, ◌/◌, ◌%◌, ◌≤◌, ◌<◌, min}
 use mathlib.Core.Path.{◌≡◌, refl, sym, ap, ap₂, ◌∙◌, subst}
 use mathlib.Core.Bool.{Bool, true, false, cond}
@@ -21,16 +23,23 @@ use Rattle.model.specs.FragmentAssembler.{Sessions, Assembly, place_in, place_of
 use Rattle.model.proofs.Choice.{cond-true, cond-false, split}
 use Rattle.logbuffer.specs.Assembler.{sessions_as, entered_with, Framed, join_of}
 use Rattle.logbuffer.specs.Whole.{data_length}
-use Rattle.logbuffer.specs.Fragments.{fragment_at, behind, is_laid, not_laid, laid_of, laid_bytes}
+use Rattle.logbuffer.specs.Fragments.{fragment_at, behind, is_laid, laid_of, laid_bytes}
 use Rattle.logbuffer.specs.declared.fragment_assembler.Laid.{Laid}
 use Rattle.logbuffer.specs.declared.fragment_assembler.FragmentHeader.{FragmentHeader}
 use Rattle.model.proofs.FrameLaws.{lies}
 use Rattle.logbuffer.proofs.Sessions.{entered-before, entered-new, held_in, held_by}
-use Rattle.logbuffer.proofs.Fragments.{fragment-none, fragment-so, Lying, laid-true, laid-joins}
+use Rattle.logbuffer.proofs.Fragments.{fragment-none, fragment-so, Lying, laid-joins}
 use Rattle.replay.specs.InPlace.{TermsOf, index_at, data_at}
+use Rattle.replay.specs.declared.gathering.DataFrame.{DataFrame}
+use Rattle.replay.specs.Gather.{frame_with, frame_found, FrameHere}
 use Rattle.replay.proofs.InPlace.{data-found, data-by, data-says}
 
 -- ---- a data frame of the log, by its numbers
+
+-- a frame that has a length is found
+frame-some : (frame : List ℕ) (index n : ℕ) → 0 < n → Some (record { index = index; length = n; flags = flags_at frame; session = session_at frame }) ≡ frame_with frame index n
+frame-some frame index zero h = absurd (omega arith)
+frame-some frame index (suc n) h = refl
 
 module _ (log : List ℕ) (term stop p : ℕ) (t : TermsOf (length log) term) where
   -- it lies whole in the log
@@ -52,17 +61,43 @@ module _ (log : List ℕ) (term stop p : ℕ) (t : TermsOf (length log) term) wh
     abbrev m : ℕ
     m = data_length (frame_at (drop i log) (term - p % term))
 
-    abbrev Says : FragmentHeader → Type 0
-    Says x = (x.length ≡ data_at log term stop p) × (0 < x.length → (x.flags ≡ flags_at (drop i log)) × (x.session ≡ session_at (drop i log)))
+    -- with the index where it lies
+    abbrev pub placed_at : FragmentHeader → DataFrame
+    placed_at x = record { index = i; length = x.length; flags = x.flags; session = x.session }
 
     is-data : m ≡ data_at log term stop p
     is-data = data-by log term stop p l some e
 
-    pub fragment-says : Says (fragment_at log i (term - p % term))
-    fragment-says =
+    pub fragment-found : option_map placed_at (fragment_at log i (term - p % term)) ≡ frame_found log term stop p
+    fragment-found =
         split m 0
-        (λ h. subst Says (fragment-none log i (term - p % term) (omega (arith, h))) (omega (arith, is-data, h), λ o. absurd (omega arith)))
-        (λ h. subst Says (fragment-so log i (term - p % term) h (data-whole m some (data-found log term stop p m (sym is-data) h).frame)) (is-data, λ o. (refl, refl)))
+        (λ h. let e : 0 ≡ data_at log term stop p = omega (arith, is-data, h) in
+        ap (option_map placed_at) (sym (fragment-none log i (term - p % term) (omega (arith, h)))) ∙ ap (frame_with (drop i log) i) e)
+        (λ h. ap (option_map placed_at) (sym (fragment-so log i (term - p % term) h (data-whole m some (data-found log term stop p m (sym is-data) h).frame)))
+        ∙ frame-some (drop i log) i m h ∙ ap (frame_with (drop i log) i) is-data)
+
+-- what is found, by its numbers
+pub frame_none : (log : List ℕ) (term stop p : ℕ) → None ≡ frame_found log term stop p → data_at log term stop p ≡ 0
+frame_none log term stop p = go (data_at log term stop p)
+  where
+    go : (n : ℕ) → None ≡ frame_with (drop (index_at term p) log) (index_at term p) n → n ≡ 0
+    go zero e = refl
+    go (suc n) e = absurd (none-some _ e)
+
+pub frame-here : (log : List ℕ) (term stop p : ℕ) (f : DataFrame) → Some f ≡ frame_found log term stop p → (f.length ≡ data_at log term stop p) × ((0 < f.length) × FrameHere log term p f)
+frame-here log term stop p f e =
+    let k = go (data_at log term stop p) e in
+    (k.0, (k.1.0, record { frame = (data-found log term stop p f.length (sym k.0) k.1.0).frame; index_is = k.1.1.0; flags-are = k.1.1.1.0; session-is = k.1.1.1.1 }))
+  where
+    frame· : List ℕ
+    frame· = drop (index_at term p) log
+
+    go : (n : ℕ) → Some f ≡ frame_with frame· (index_at term p) n → (f.length ≡ n) × ((0 < f.length) × ((f.index ≡ index_at term p) × ((f.flags ≡ flags_at frame·) × (f.session ≡ session_at frame·))))
+    go zero q = absurd (none-some _ (sym q))
+    go (suc n) q =
+        let s : f ≡ record { index = index_at term p; length = suc n; flags = flags_at frame·; session = session_at frame· } = same_Some _ _ q in
+        let l : f.length ≡ suc n = ap (λ (x : DataFrame). x.length) s in
+        (l, (omega (arith, l), (ap (λ (x : DataFrame). x.index) s, (ap (λ (x : DataFrame). x.flags) s, ap (λ (x : DataFrame). x.session) s))))
 
 -- ---- a body, laid
 
@@ -147,29 +182,22 @@ module _ (count place bytes : ℕ) (ids : List ℤ) (held buffer log : List ℕ)
 
 -- ---- what was laid, by what is left of it
 
-module _ (count place held flags n : ℕ) (log buffer : List ℕ) (i : ℕ) (r : Laid) (e : r ≡ laid_of count place held flags n (length log) (length buffer) (i + 32)) (c : List ℕ)
+module _ (count place held flags n : ℕ) (log buffer : List ℕ) (i : ℕ) (r : Option Laid) (e : r ≡ laid_of count place held flags n (length log) (length buffer) (i + 32)) (c : List ℕ)
     (q : c ≡ laid_bytes count place held flags n log buffer (i + 32)) where
   abbrev L : Bool
   L = is_laid count place held flags n (length log) (length buffer) (i + 32)
 
-  pub laid-is : L ≡ true → (r.held ≡ behind held flags + n) × (r.ends ≡ ends flags)
-  laid-is t =
-      let x = e ∙ cond-true L (record { held = behind held flags + n; ends = ends flags }) not_laid t in
-      (ap (λ (y : Laid). y.held) x, ap (λ (y : Laid). y.ends) x)
+  pub laid-is : (w : Laid) → r ≡ Some w → (L ≡ true) × ((w.held ≡ behind held flags + n) × (w.ends ≡ ends flags))
+  laid-is w h =
+      let k = cond_some L (record { held = behind held flags + n; ends = ends flags }) w (sym e ∙ h) in
+      (k.0, (ap (λ (y : Laid). y.held) (sym k.1), ap (λ (y : Laid). y.ends) (sym k.1)))
 
-  pub laid_none : r.held ≡ 0 → L ≡ false
+  pub laid_none : r ≡ None → L ≡ false
   laid_none h = go L refl
     where
       go : (b : Bool) → L ≡ b → L ≡ false
-      go true t = absurd (omega (arith, h, (laid-is t).0, (laid-true count place held flags n (length log) (length buffer) (i + 32) t).some))
+      go true t = absurd (none-some _ (sym h ∙ e ∙ cond-true L (Some (record { held = behind held flags + n; ends = ends flags })) None t))
       go false t = t
-
-  pub laid-some : ¬ (r.held ≡ 0) → L ≡ true
-  laid-some h = go L refl
-    where
-      go : (b : Bool) → L ≡ b → L ≡ true
-      go true t = t
-      go false t = absurd (h (ap (λ (y : Laid). y.held) (e ∙ cond-false L (record { held = behind held flags + n; ends = ends flags }) not_laid t)))
 
   pub bytes-are : L ≡ true → c ≡ splice buffer (place * part_length (length buffer) + behind held flags) (take n (drop 32 (drop i log)))
   bytes-are t =

@@ -1,5 +1,7 @@
 -- A data frame that is found as it lies is the fragment that a poll of one gives; a whole message is the reply that it leads to.
-use Rattle.std.specs.Prelude.{is_err, Result, Ok, Err}
+use Rattle.std.specs.Prelude.{is_err, Option, Some, Result, Ok, Err}
+use Rattle.std.specs.Option.{option_map}
+use Rattle.std.proofs.lemmas.Option.{same_Some}
 use Prim.Native.Nat.{ℕ, zero, suc, ◌+◌, ◌-◌, ◌*◌, ◌/◌, ◌%◌, ◌≤◌, ◌<◌, min}
 use mathlib.Core.Path.{◌≡◌, refl, sym, ap, ap₂, ◌∙◌, subst}
 use mathlib.Core.Bool.{Bool, true, false, cond, ◌&&◌, not}
@@ -7,7 +9,7 @@ use mathlib.Core.List.{List, [], ◌∷◌}
 use native.Mathlib.Nat.{mod-lt, mul-le-mul_right, mod-mod_of_dvd, dvd_of_mod-eq-zero}
 use native.Mathlib.Omega.{arith}
 use Rattle.logbuffer.specs.Assembler.{join_of}
-use Rattle.logbuffer.specs.Whole.{data_length, whole_frame}
+use Rattle.logbuffer.specs.Whole.{data_length, length_found, whole_frame}
 use Rattle.logbuffer.proofs.Whole.{whole-as}
 use Rattle.logbuffer.proofs.Fragments.{data-only}
 use Rattle.logbuffer.proofs.Assembly.{join-yes}
@@ -43,13 +45,13 @@ use Rattle.model.specs.Image.{Image, PollReply, moved_to, readable, walk_at, uns
 use Rattle.model.specs.FragmentAssembler.{Sessions, Assembly, session_at, body_length, sessions_by, holding, assembled_by, joining, joined, joined_at, good_assembly, assemble_verdict, assemble_by, assemble_of}
 use Rattle.model.specs.Replay.{ReplayState, NextReply, giving, assembled_to, poll_one, is_over, next_of}
 use Rattle.model.proofs.Both.{and-true, and-false, both_true}
-use Rattle.model.proofs.Choice.{cond-true, cond-false, cond-case, split, same?, eq_yes, eq_no}
+use Rattle.model.proofs.Choice.{cond-true, cond-false, cond-case, split}
 use Rattle.model.proofs.FrameLaws.{Lies, lies, finished-word}
 use Rattle.model.proofs.WalkLaws.{walk_turn, walk-full}
 use Rattle.model.proofs.Sound.{sound-true, term-32, id-small, initial-small}
 use Rattle.image.proofs.Rungs.{position-by, in-range, poll-by}
 use Rattle.image.proofs.Places.{at_place}
-use Rattle.replay.specs.InPlace.{TermOrNone, TermsOf, stop_at, index_at, data_at, whole_at, open_term, whole_of, whole_with, over_by, kept_as, replied_by, is_refused}
+use Rattle.replay.specs.InPlace.{TermOrNone, TermsOf, stop_at, index_at, data_at, whole_at, open_term, whole_of, whole_with, whole_in as whole_told, over_by, kept_as, replied_by, is_refused}
 use Rattle.replay.specs.declared.frames.Whole.{Whole}
 use Rattle.replay.proofs.Turns.{next-stops, next-from, refused-keeps}
 use Rattle.replay.proofs.Again.{assembled-long}
@@ -442,12 +444,48 @@ whole-near r log i lent n e h =
       index = omega (arith, o.term_is, k.term-high, mod-lt (long i.position) w.found.some);
     }
 
--- the length that is told with its index, and the index where there is one
-pub whole_length : (index n : ℕ) → (whole_with index n).length ≡ n
-whole_length index n = same? n 0 (λ e. ap (λ (x : Whole). x.length) (eq_yes n 0 _ _ e) ∙ sym e) (λ e. ap (λ (x : Whole). x.length) (eq_no n 0 _ _ e))
+-- what is found, by its length and its index
+pub whole-some : (index n : ℕ) (w : Whole) → Some w ≡ whole_with index n → (n ≡ w.length) × ((w.index ≡ index) × (0 < w.length))
+whole-some index zero w e = absurd cc
+whole-some index (suc n) w e =
+    let p : w ≡ record { index = index; length = suc n } = same_Some _ _ e in
+    let q : w.length ≡ suc n = ap (λ (x : Whole). x.length) p in
+    (sym q, (ap (λ (x : Whole). x.index) p, omega (arith, q)))
 
-pub whole-index : (index n : ℕ) → ¬ (n ≡ 0) → (whole_with index n).index ≡ index
-whole-index index n e = ap (λ (x : Whole). x.index) (eq_no n 0 _ _ e)
+-- as the code puts it together
+pub whole-put : (index n : ℕ) (o : Option ℕ) → o ≡ length_found n → option_map (λ (k : ℕ). record { index = index; length = k }) o ≡ whole_with index n
+whole-put index zero o e = ap (option_map (λ (k : ℕ). record { index = index; length = k })) e
+whole-put index (suc n) o e = ap (option_map (λ (k : ℕ). record { index = index; length = k })) e
+
+-- the index matters where there is a length
+pub whole-at : (i j n : ℕ) → (0 < n → i ≡ j) → whole_with i n ≡ whole_with j n
+whole-at i j zero h = refl
+whole-at i j (suc n) h = ap (λ (x : ℕ). whole_with x (suc n)) (h (omega arith))
+
+-- one that was found where the image stands
+pub record Told (r : LogRecord) (log : List ℕ) (i : Image) (lent p : ℕ) (w : Whole) : Type 0 where
+  pub some : 0 < w.length
+  pub said : whole_of r log i lent ≡ w.length
+  pub position : p < 2305843009213693952
+  pub header : 32 ≤ w.length
+  pub small : w.length < 2147483648
+  pub index_is : w.index ≡ index_at (reading r).term (long i.position)
+  pub index_small : w.index < 3221225472
+
+pub told : (r : LogRecord) (log : List ℕ) (i : Image) (lent p : ℕ) (w : Whole) → p ≡ long i.position → Some w ≡ whole_told r log i lent → Told r log i lent p w
+told r log i lent p w ep ew =
+    let f = whole-some (index_at (reading r).term (long i.position)) (whole_of r log i lent) w ew in
+    let h = whole-near r log i lent w.length f.0 f.1.1 in
+    let x : index_at (reading r).term (long i.position) ≡ index_at (open_term i (reading r) (length log) lent) (long i.position) = ap (λ (t : ℕ). index_at t (long i.position)) (sym h.term_is) in
+    record {
+      some = f.1.1;
+      said = f.0;
+      position = omega (arith, h.position, ep);
+      header = h.header;
+      small = h.small;
+      index_is = f.1.0;
+      index_small = omega (arith, f.1.0, x, h.index);
+    }
 
 -- an image that moves stays open
 pub open-moved : (i : Image) (z : ℤ) (v : Reading) (n lent : ℕ) → open_term (moved_to i z) v n lent ≡ open_term i v n lent

@@ -1,6 +1,6 @@
 -- Data frames given to the assembler as they lie, one after another, until one gives a reply. `gather-next` (proofs/Gather.antt) says that a replay
 -- goes on behind them as from the first of them.
-use Rattle.std.specs.Prelude.{ℕ, zero, suc, ◌+◌, ◌-◌, ◌%◌, ◌<◌, min, ◌≡◌, Bool, true, false, cond, List, eqb, ℤ, pos, take, drop, set, Result, Ok, Err}
+use Rattle.std.specs.Prelude.{ℕ, zero, suc, ◌+◌, ◌-◌, ◌%◌, ◌<◌, min, ◌≡◌, Bool, true, false, cond, List, eqb, ℤ, take, drop, set, Option, Some, None, Result, Ok, Err}
 use Rattle.model.specs.declared.Error.{Error}
 use Rattle.model.specs.declared.Replayed.{Replayed}
 use Rattle.model.specs.declared.Replayed.TheVariants.{InLog, InBuffer, End}
@@ -25,9 +25,14 @@ pub record Gathering : Type 0 where
   pub buffer : List ℕ
   pub answer : Result Replayed Error
 
--- no data frame, as a walk has it
-abbrev pub no_frame : DataFrame
-no_frame = record { index = 0; length = 0; flags = 0; session = pos 0 }
+-- a data frame as the code finds it: none where its length is 0
+abbrev pub frame_with : List ℕ → ℕ → ℕ → Option DataFrame
+frame_with frame index zero = None
+frame_with frame index (suc n) = Some (record { index = index; length = suc n; flags = flags_at frame; session = session_at frame })
+
+-- the one at a position below a stop
+abbrev pub frame_found : List ℕ → ℕ → ℕ → ℕ → Option DataFrame
+frame_found log term stop p = frame_with (drop (index_at term p) log) (index_at term p) (data_at log term stop p)
 
 -- the one at a position, by its numbers
 pub record FrameHere (log : List ℕ) (term p : ℕ) (f : DataFrame) : Type 0 where

@@ -1,6 +1,6 @@
 -- Data frames as they lie: what a replay takes without a poll. `whole_says` and `data-turn` (proofs/InPlace.antt) say that this is the turn
 -- of the definitions.
-use Rattle.std.specs.Prelude.{ℕ, ◌+◌, ◌-◌, ◌*◌, ◌%◌, ◌≤◌, ◌<◌, ◌≡◌, Bool, true, false, cond, ◌&&◌, not, List, eqb, leb, ltb, length, drop, Result, Ok, Err}
+use Rattle.std.specs.Prelude.{ℕ, zero, suc, ◌+◌, ◌-◌, ◌*◌, ◌%◌, ◌≤◌, ◌<◌, ◌≡◌, Bool, true, false, cond, ◌&&◌, not, List, eqb, leb, ltb, length, drop, Option, Some, None, Result, Ok, Err}
 use Rattle.model.specs.declared.Error.{Error}
 use Rattle.std.specs.Int.Count.{ones}
 use Rattle.model.specs.declared.LogRecord.{LogRecord}
@@ -49,9 +49,14 @@ whole_at log term stop p =
     let frame = drop (index_at term p) log in
     cond (begins (flags_at frame) && ends (flags_at frame)) (data_at log term stop p) 0
 
+-- a whole message as the code finds it: the index of its frame, and the frame's length; none where that is 0
+abbrev pub whole_with : ℕ → ℕ → Option Whole
+whole_with index zero = None
+whole_with index (suc n) = Some (record { index = index; length = suc n })
+
 -- no message, as a walk over whole messages has it
 abbrev pub found_none : ℕ → ℕ → Found
-found_none number base = record { number = number; base = base; index = 0; length = 0 }
+found_none number base = record { number = number; base = base; frame = None }
 
 -- the term length where nothing is refused before a frame is looked at, and the image is open; else 0
 unfoldable pub open_term : Image → Reading → ℕ → ℕ → ℕ
@@ -60,11 +65,8 @@ open_term i v n lent = cond (leb lent 2147483647 && (not i.closed && sound v n))
 abbrev pub whole_of : LogRecord → List ℕ → Image → ℕ → ℕ
 whole_of r log i lent = whole_at log (open_term i (reading r) (length log) lent) (stop_at (reading r)) (long i.position)
 
--- and where it lies, by the code's own numbers
-abbrev pub whole_with : ℕ → ℕ → Whole
-whole_with index n = cond (eqb n 0) (record { index = 0; length = 0 }) (record { index = index; length = n })
-
-abbrev pub whole_in : LogRecord → List ℕ → Image → ℕ → Whole
+-- and where it lies, as the code finds it
+abbrev pub whole_in : LogRecord → List ℕ → Image → ℕ → Option Whole
 whole_in r log i lent = whole_with (index_at (reading r).term (long i.position)) (whole_of r log i lent)
 
 -- rows 2 and 3 refuse nothing, and the position is not below the publisher's: the replay is over

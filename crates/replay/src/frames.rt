@@ -4,7 +4,7 @@ ghost use Rattle.std.specs.Prelude.{◌≡◌, ◌*◌, ◌/◌, ◌%◌, ◌≤
 ghost use Rattle.model.specs.LogBufferDescriptor.{partition_of, reading};
 ghost use Rattle.image.specs.Images.{state_of as image_state};
 ghost use Rattle.logbuffer.specs.Assembler.{sessions_as, join_of};
-ghost use Rattle.replay.specs.InPlace.{TermOrNone, TermsOf, stop_at, index_at, whole_at, found_none, open_term, whole_in, over_by, kept_by, replied_by};
+ghost use Rattle.replay.specs.InPlace.{TermOrNone, TermsOf, stop_at, index_at, whole_at, whole_with, found_none, open_term, whole_in, over_by, kept_by, replied_by};
 ghost use Rattle.replay.specs.Gather.{gathered_as, is_end};
 
 use image::Image;
@@ -33,14 +33,12 @@ pub(crate) fn index_at(term: usize, p: usize) -> usize
 
 // ---- one whole message after another
 
-// A whole message as a walk finds it: the index of its frame, and the frame's length, 0 where there is none; and for the next step the count of a term and
-// where the partition of that term begins.
+// A whole message as a walk finds it, if there is one; and for the next step the count of a term and where the partition of that term begins.
 #[derive(Clone, Copy)]
 pub(crate) struct Found {
     pub number: usize,
     pub base: usize,
-    pub index: usize,
-    pub length: usize,
+    pub frame: Option<Whole>,
 }
 
 // None.
@@ -50,8 +48,7 @@ fn none(number: usize, base: usize) -> Found
     Found {
         number: number,
         base: base,
-        index: 0,
-        length: 0,
+        frame: None,
     }
 }
 
@@ -78,7 +75,7 @@ pub(crate) fn whole_from(
     p: usize,
 ) -> Found
     requires { TermsOf (length log.now) term × (base ≡ number % 3 * term) }
-    ensures { (result.length ≡ whole_at log.now term stop p) × ((result.base ≡ result.number % 3 * term) × (0 < result.length → result.index ≡ index_at term p)) }
+    ensures { (result.frame ≡ whole_with (index_at term p) (whole_at log.now term stop p)) × (result.base ≡ result.number % 3 * term) }
 {
     if p >= stop {
         return none(number, base);
@@ -92,11 +89,18 @@ pub(crate) fn whole_from(
     let count = p >> log_buffer_descriptor::position_bits_to_shift(term as u32);
     let begin = base_at(number, base, term, p, count);
     let offset = p & (term - 1);
+    let index = begin + offset;
+    let frame = match frame_descriptor::whole_length(log, index, term - offset) {
+        Some(length) => Some(Whole {
+            index: index,
+            length: length,
+        }),
+        None => None,
+    };
     Found {
         number: count,
         base: begin,
-        index: begin + offset,
-        length: frame_descriptor::whole_length(log, begin + offset, term - offset),
+        frame: frame,
     }
 }
 
@@ -168,26 +172,16 @@ pub(crate) fn reach_of(image: Image, rec: LogRecord, n: usize, lent: usize) -> R
     }
 }
 
-// Where the frame at the image's position lies and how long it is, if it is a whole message that the next reply gives; else 0 twice. For a caller who
+// Where the frame at the image's position lies and how long it is, if it is a whole message that the next reply gives. For a caller who
 // keeps the replay elsewhere and need not fetch it all.
-pub fn next_whole(image: Image, rec: LogRecord, log: &[u8], lent: usize) -> Whole
+pub fn next_whole(image: Image, rec: LogRecord, log: &[u8], lent: usize) -> Option<Whole>
     ensures { result ≡ whole_in rec log.now (image_state image) lent }
 {
     let v = log_buffer_descriptor::read_active(rec);
     let term = open_term(image, v, log.len(), lent);
     let p = cast::long(image.position);
     let found = whole_from(log, 0, 0, term, stop_at(v), p);
-    let n = found.length;
-    if n == 0 {
-        return Whole {
-            index: 0,
-            length: 0,
-        };
-    }
-    Whole {
-        index: found.index,
-        length: n,
-    }
+    found.frame
 }
 
 // ---- a fragment, given to the assembler's core
@@ -202,14 +196,13 @@ pub(crate) struct Given {
 // The frame at an index of the log. Its session is entered, unless it is refused: then the sessions stay as they were.
 pub(crate) fn give(
     count: usize,
-    ids: &mut [i32],
-    held: &mut [usize],
+    ids: &mut [i32; 16],
+    held: &mut [usize; 16],
     log: &[u8],
     buffer: &mut [u8],
     index: usize,
     offset: usize,
 ) -> Given
-    requires { (length ids.old ≡ 16) × (length held.old ≡ 16) }
     ensures answer_value { result.answer ≡ (join_of (sessions_as count ids.old held.old) buffer.old log.now index offset).answer }
     ensures held_after { sessions_as result.count ids.new held.new ≡ kept_by (sessions_as count ids.old held.old) (join_of (sessions_as count ids.old held.old) buffer.old log.now index offset) }
     ensures buffer_after { buffer.new ≡ (join_of (sessions_as count ids.old held.old) buffer.old log.now index offset).buffer }

@@ -3,8 +3,8 @@
 ghost use Rattle.std.specs.Prelude.{◌≡◌, ◌%◌, ◌≤◌, ◌<◌, min, length, take, get_or, set};
 ghost use Rattle.model.specs.FragmentAssembler.{place_in};
 ghost use Rattle.logbuffer.specs.Assembler.{sessions_as, join_of};
-ghost use Rattle.replay.specs.InPlace.{TermOrNone, TermsOf, index_at, data_at};
-ghost use Rattle.replay.specs.Gather.{no_frame, FrameHere, current_of, Knows, at_hand, led_by, gathering_of, gather_from};
+ghost use Rattle.replay.specs.InPlace.{TermOrNone, TermsOf, index_at};
+ghost use Rattle.replay.specs.Gather.{frame_found, FrameHere, current_of, Knows, at_hand, led_by, gathering_of, gather_from};
 
 use crate::frames;
 use crate::frames::Gathered;
@@ -13,7 +13,7 @@ use logbuffer::fragment_assembler;
 use logbuffer::frame_descriptor::{ALIGNMENT_MASK, FRAME_ALIGNMENT};
 use model::Replayed;
 
-// A data frame as a walk finds it: the index where it lies, its length, 0 where there is none, its flags and its session.
+// A data frame as a walk finds it: the index where it lies, its length, its flags and its session.
 #[derive(Clone, Copy)]
 pub(crate) struct DataFrame {
     pub index: usize,
@@ -22,46 +22,35 @@ pub(crate) struct DataFrame {
     pub session: i32,
 }
 
-fn no_frame() -> DataFrame
-    ensures { result ≡ no_frame }
-{
-    DataFrame {
-        index: 0,
-        length: 0,
-        flags: 0,
-        session: 0,
-    }
-}
-
-// The data frame at a position below a stop, of a log of three such terms.
-fn data_at(log: &[u8], term: usize, stop: usize, p: usize) -> DataFrame
+// The data frame at a position below a stop, if there is one, of a log of three such terms.
+fn data_at(log: &[u8], term: usize, stop: usize, p: usize) -> Option<DataFrame>
     requires { TermsOf (length log.now) term }
-    ensures { (result.length ≡ data_at log.now term stop p) × (0 < result.length → FrameHere log.now term p result) }
+    ensures { result ≡ frame_found log.now term stop p }
 {
     if p >= stop {
-        return no_frame();
+        return None;
     }
     if term == 0 {
-        return no_frame();
+        return None;
     }
     if p % FRAME_ALIGNMENT != 0 {
-        return no_frame();
+        return None;
     }
     let index = frames::index_at(term, p);
-    let fragment = fragment_assembler::fragment_at(log, index, term - (p & (term - 1)));
-    DataFrame {
+    let fragment = fragment_assembler::fragment_at(log, index, term - (p & (term - 1)))?;
+    Some(DataFrame {
         index: index,
         length: fragment.length,
         flags: fragment.flags,
         session: fragment.session,
-    }
+    })
 }
 
 // A data frame of n bytes given to the assembler's core, and where that leads. A frame that is refused is not passed.
 fn give_one(
     count: usize,
-    ids: &mut [i32],
-    held: &mut [usize],
+    ids: &mut [i32; 16],
+    held: &mut [usize; 16],
     log: &[u8],
     buffer: &mut [u8],
     term: usize,
@@ -70,7 +59,7 @@ fn give_one(
     n: usize,
     left: usize,
 ) -> Gathered
-    requires { ((0 < term) × TermOrNone term) × ((0 < left) × ((index ≡ index_at term p) × (((32 ≤ n) × (n < 2147483648)) × ((p < 2305843009213693952) × ((length ids.old ≡ 16) × (length held.old ≡ 16)))))) }
+    requires { ((0 < term) × TermOrNone term) × ((0 < left) × ((index ≡ index_at term p) × (((32 ≤ n) × (n < 2147483648)) × (p < 2305843009213693952)))) }
     ensures { gathering_of result ids.new held.new buffer.new ≡ led_by left p n index (sessions_as count ids.old held.old) (join_of (sessions_as count ids.old held.old) buffer.old log.now index (p % term)) }
 {
     let given = frames::give(count, ids, held, log, buffer, index, p & (term - 1));
@@ -126,8 +115,14 @@ fn enter(ids: &mut [i32], place: usize, session: i32)
 }
 
 // The session of a frame taken in hand. Where it is another one, the array's number is brought up to date, and its place is looked for.
-fn turn_to(count: usize, ids: &[i32], held: &mut [usize], current: Current, next: i32) -> Current
-    requires { (length held.old ≡ 16) × Knows count ids.now current }
+fn turn_to(
+    count: usize,
+    ids: &[i32; 16],
+    held: &mut [usize; 16],
+    current: Current,
+    next: i32,
+) -> Current
+    requires { Knows count ids.now current }
     ensures place_value { ((result.place ≡ place_in (take (min count 16) ids.now) next) × (result.session ≡ next)) × (result.bytes ≡ get_or (set held.old current.place current.bytes) result.place 0) }
     ensures bytes_after { set held.new result.place result.bytes ≡ set held.old current.place current.bytes }
 {
@@ -153,8 +148,8 @@ pub(crate) struct Step {
 // A data frame taken: its body is laid behind what its session holds. Where that cannot be, it is given to the assembler's core.
 fn take(
     count: usize,
-    ids: &mut [i32],
-    held: &mut [usize],
+    ids: &mut [i32; 16],
+    held: &mut [usize; 16],
     current: Current,
     log: &[u8],
     buffer: &mut [u8],
@@ -163,7 +158,7 @@ fn take(
     frame: DataFrame,
     left: usize,
 ) -> Step
-    requires { (TermsOf (length log.now) term × ((0 < term) × (p < 2305843009213693952))) × ((0 < left) × (FrameHere log.now term p frame × (((length ids.old ≡ 16) × (length held.old ≡ 16)) × Knows count ids.old current))) }
+    requires { (TermsOf (length log.now) term × ((0 < term) × (p < 2305843009213693952))) × ((0 < left) × (FrameHere log.now term p frame × Knows count ids.old current)) }
     ensures buffer_after { gathering_of result.gathered ids.new (set held.new result.current.place result.current.bytes) buffer.new ≡ led_by left p frame.length (index_at term p) (at_hand count ids.old held.old current) (join_of (at_hand count ids.old held.old current) buffer.old log.now (index_at term p) (p % term)) }
     ensures knows { Knows result.gathered.count ids.new result.current }
 {
@@ -174,7 +169,7 @@ fn take(
     let bytes = now.bytes;
     let flags = frame.flags;
     let body = at + HEADER_LENGTH;
-    let laid = fragment_assembler::lay_fragment(
+    let Some(laid) = fragment_assembler::lay_fragment(
         count,
         place,
         bytes,
@@ -183,15 +178,14 @@ fn take(
         log,
         buffer,
         body,
-    );
-    if laid.held == 0 {
+    ) else {
         settle(held, place, bytes);
         let gathered = give_one(count, ids, held, log, buffer, term, p, at, n, left);
         return Step {
             current: current_as(16, 0, 0),
             gathered: gathered,
         };
-    }
+    };
     let session = now.session;
     enter(ids, place, session);
     let entered = fragment_assembler::entered_with(count, place);
@@ -217,8 +211,8 @@ fn take(
 // Data frames from a position on, until one gives a reply. It stops before what is no data frame, for a poll to read, and before a frame that is refused.
 pub(crate) fn gather(
     count: usize,
-    ids: &mut [i32],
-    held: &mut [usize],
+    ids: &mut [i32; 16],
+    held: &mut [usize; 16],
     log: &[u8],
     buffer: &mut [u8],
     term: usize,
@@ -226,7 +220,7 @@ pub(crate) fn gather(
     position: usize,
     most: usize,
 ) -> Gathered
-    requires { (TermsOf (length log.now) term × (0 < term → stop ≤ 2305843009213693952)) × ((length ids.old ≡ 16) × (length held.old ≡ 16)) }
+    requires { TermsOf (length log.now) term × (0 < term → stop ≤ 2305843009213693952) }
     ensures { gathering_of result ids.new held.new buffer.new ≡ gather_from most log.now term stop position (sessions_as count ids.old held.old) buffer.old }
 {
     let mut current = current_as(16, 0, 0);
@@ -234,11 +228,10 @@ pub(crate) fn gather(
     let mut p = position;
     for taken in 0..most {
         let left = most - taken;
-        let frame = data_at(log, term, stop, p);
-        if frame.length == 0 {
+        let Some(frame) = data_at(log, term, stop, p) else {
             settle(held, current.place, current.bytes);
             return frames::gathered_as(entered, left, p, Ok(Replayed::End));
-        }
+        };
         let step = take(
             entered, ids, held, current, log, buffer, term, p, frame, left,
         );

@@ -304,11 +304,10 @@ impl Replay {
             };
         }
         let mut image = self.image;
-        let whole = frames::next_whole(image, rec, log, buffer.len());
-        let n = whole.length;
-        if n == 0 {
+        let Some(whole) = frames::next_whole(image, rec, log, buffer.len()) else {
             return self.next_by_turns(rec, log, buffer);
-        }
+        };
+        let n = whole.length;
         let p = cast::long(image.position);
         image.position = (p + (n + ALIGNMENT_MASK) / FRAME_ALIGNMENT * FRAME_ALIGNMENT) as i64;
         self.image = image;
@@ -362,10 +361,10 @@ impl Replay {
             let found = frames::whole_from(log, number, base, reach.term, reach.stop, p);
             number = found.number;
             base = found.base;
-            let n = found.length;
-            if n != 0 {
+            if let Some(whole) = found.frame {
+                let n = whole.length;
                 let end = p + (n + ALIGNMENT_MASK) / FRAME_ALIGNMENT * FRAME_ALIGNMENT;
-                let from = found.index + HEADER_LENGTH;
+                let from = whole.index + HEADER_LENGTH;
                 laying::lay(numbers, laid, 1, from, n - HEADER_LENGTH, end);
                 image.position = end as i64;
                 continue;
@@ -454,8 +453,8 @@ pub fn count(
         let found = frames::whole_from(log, number, base, reach.term, reach.stop, p);
         number = found.number;
         base = found.base;
-        let n = found.length;
-        if n != 0 {
+        if let Some(whole) = found.frame {
+            let n = whole.length;
             image.position = (p + (n + ALIGNMENT_MASK) / FRAME_ALIGNMENT * FRAME_ALIGNMENT) as i64;
             bytes = added(bytes, n - HEADER_LENGTH);
             continue;

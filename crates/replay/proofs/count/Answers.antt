@@ -49,11 +49,11 @@ whole_from-found-requires c = let h = c.loop-messages.invariant in (subst (Terms
 
 -- ---- a whole message
 
-found : (c : goal.Then-n-ne0) → Here c.args.rec c.args.log.now (image_state c.loop-messages.image) (length c.loop-messages.buffer) c.reach_of-reach.result.term c.long-p.result c.whole_from-found.result.length
+found : (c : goal.In-Some) → Here c.args.rec c.args.log.now (image_state c.loop-messages.image) (length c.loop-messages.buffer) c.reach_of-reach.result.term c.long-p.result c.in-Some.whole
 found c =
     let i = c.loop-messages.image in
-    here c.args.rec c.args.log.now (image_state i) (length c.loop-messages.buffer) c.reach_of-reach.result.term c.reach_of-reach.result.stop c.long-p.result c.whole_from-found.result.length
-    c.loop-messages.invariant.term_is c.reach_of-reach.ensures.1 (long-by i.position c.long-p.ensures.0 (search rules)) c.whole_from-found.ensures.0 (omega (arith, c.if-n-ne0.true))
+    here c.args.rec c.args.log.now (image_state i) (length c.loop-messages.buffer) c.reach_of-reach.result.term c.reach_of-reach.result.stop c.long-p.result c.in-Some.whole
+    c.loop-messages.invariant.term_is c.reach_of-reach.ensures.1 (long-by i.position c.long-p.ensures.0 (search rules)) (sym c.in-Some.is ∙ c.whole_from-found.ensures.0)
 
 pub overflow_add-image : goal.overflow_add-image
 overflow_add-image c = let h = found c in omega arith
@@ -61,8 +61,8 @@ overflow_add-image c = let h = found c in omega arith
 pub overflow_mul-image : goal.overflow_mul-image
 overflow_mul-image c = let h = found c in omega arith
 
-pub overflow_add-image-then-n-ne0 : goal.overflow_add-image-then-n-ne0
-overflow_add-image-then-n-ne0 c = let h = found c in omega arith
+pub overflow_add-image-in-Some : goal.overflow_add-image-in-Some
+overflow_add-image-in-Some c = let h = found c in omega arith
 
 pub overflow_cast-image : goal.overflow_cast-image
 overflow_cast-image c = let h = found c in record { sfits = omega arith }
@@ -70,20 +70,20 @@ overflow_cast-image c = let h = found c in record { sfits = omega arith }
 pub overflow_sub-n : goal.overflow_sub-n
 overflow_sub-n c = (found c).header
 
-pub loop-messages-preserved-then-n-ne0 : goal.loop-messages-preserved-then-n-ne0
-loop-messages-preserved-then-n-ne0 c =
+pub loop-messages-preserved-in-Some : goal.loop-messages-preserved-in-Some
+loop-messages-preserved-in-Some c =
     let a = c.args in
     let l = c.loop-messages in
-    let h = here a.rec a.log.now (image_state l.image) (length l.buffer) c.reach_of-reach.result.term c.reach_of-reach.result.stop c.long-p.result c.whole_from-found.result.length
-    l.invariant.term_is c.reach_of-reach.ensures.1 (long-by l.image.position c.long-p.ensures.0 (search rules)) c.whole_from-found.ensures.0 (omega (arith, c.if-n-ne0.true)) in
+    let h = here a.rec a.log.now (image_state l.image) (length l.buffer) c.reach_of-reach.result.term c.reach_of-reach.result.stop c.long-p.result c.in-Some.whole
+    l.invariant.term_is c.reach_of-reach.ensures.1 (long-by l.image.position c.long-p.ensures.0 (search rules)) (sym c.in-Some.is ∙ c.whole_from-found.ensures.0) in
     let most = 3 * c.word.result + 1 in
     record {
       counts =
           count_whole a.rec a.log.now (state_of (replay_of l.image l.count l.ids l.held) l.buffer) l.messages l.bytes (most - l.messages) (most - (l.messages + 1)) c.added-bytes.result (omega arith) (omega arith)
-          c.reach_of-reach.result.term c.long-p.result c.whole_from-found.result.length h c.added-bytes.ensures
+          c.reach_of-reach.result.term c.long-p.result c.in-Some.whole h c.added-bytes.ensures
           ∙ l.invariant.counts;
       term_is = h.term_kept;
-      base_is = c.whole_from-found.ensures.1.0;
+      base_is = c.whole_from-found.ensures.1;
     }
 
 -- ---- with the sessions lent
@@ -120,7 +120,7 @@ loop-messages-preserved c =
           y c.next_lent-reply.ensures (sym c.gives.ensures ∙ c.if-not-gives.false) (c.added-bytes-in-loop-messages.ensures ∙ ap (added_to l.bytes) c.length_of.ensures)
           ∙ l.invariant.counts;
       term_is = term_on a.rec a.log.now s y c.reach_of-reach.result.term (length c.next_lent-reply.new.buffer) l.invariant.term_is (omega arith) c.next_lent-reply.ensures;
-      base_is = c.whole_from-found.ensures.1.0;
+      base_is = c.whole_from-found.ensures.1;
     }
 
 -- ---- all that were asked for

@@ -35,12 +35,9 @@ gather-requires : tie.Need-gather-gathered-requires
 gather-requires c κs =
     let s = c in
     let t = s.requires.1.0 in (
-      (
-        subst (TermsOf (length s.args.log.now)) (sym t) (open-terms _ _ _ _),
-        λ some. let k = sound-true _ _ (open-found _ _ _ _ s.args.reach.term (sym t) some).sound-so in
-            omega (arith, s.requires.1.1, stop-high (reading s.args.rec), k.term-high),
-      ),
-      (search rules, search rules),
+      subst (TermsOf (length s.args.log.now)) (sym t) (open-terms _ _ _ _),
+      λ some. let k = sound-true _ _ (open-found _ _ _ _ s.args.reach.term (sym t) some).sound-so in
+          omega (arith, s.requires.1.1, stop-high (reading s.args.rec), k.term-high),
     )
 
 term_fits : (s : tie.Start) → SFits w32 s.args.rec.term_length

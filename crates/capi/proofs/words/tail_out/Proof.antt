@@ -10,7 +10,7 @@ use Rattle.capi.proofs.words.tail_out.Tie as tie
 returns : tie.Need-returns
 returns c =
     let s = c in
-    ap (set s.args.w.now s.args.k) (to_z-of_z s.ranges.tail) ∙ tail-alone s.args.w.now s.args.tail c.record_numbers.ensures s.args.k s.requires
+    ap (set s.args.w.now s.args.k) (to_z-of_z s.ranges.tail) ∙ tail-alone s.args.w.now s.args.tail c.numbers.ensures s.args.k s.requires
 
 pub tail_out_spec : {M : Type 1} → statement M
 tail_out_spec = tie.close (tie.spec (search rules) (search rules) (search rules) returns)

@@ -6,7 +6,7 @@ use Rattle.holding.proofs.Reading.{laid-broken, laid-other, note_fits, laid-foun
 use Rattle.holding.proofs.laying.lay.Goals as goal
 
 pub returns-in_default : goal.returns-in_default
-returns-in_default c = let a = c.args in laid-broken a.find a.end a.bytes.now _ _ c.requires.1 (sym c.read.ensures ∙ c.in_default.is)
+returns-in_default c = let a = c.args in laid-broken a.find a.end a.bytes.now _ _ c.requires (sym c.read.ensures ∙ c.in_default.is)
 
 pub returns-then-card-find : goal.returns-then-card-find
 returns-then-card-find c =
@@ -18,7 +18,7 @@ note_with-requires c =
     let a = c.args in
     let r = c.in-Ok.read in
     let e = sym c.read.ensures ∙ c.in-Ok.is in
-    (c.requires.0, (note_fits a.find a.end a.bytes.now (record { held = a.held; note = a.note.now }) r e, (located-note a.bytes.now r.card r.note_start r.note_length e).0))
+    (note_fits a.find a.end a.bytes.now (record { held = a.held; note = a.note.now }) r e, (located-note a.bytes.now r.card r.note_start r.note_length e).0)
 
 pub returns : goal.returns
 returns c =

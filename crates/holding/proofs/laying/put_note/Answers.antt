@@ -11,4 +11,4 @@ returns c =
     let f : c.fill.new.self ≡ replicate 255 0 = search rules in
     let y : c.copy_from_slice.new.self ≡ take a.n (drop a.from a.bytes.now) = c.copy_from_slice.ensures.after ∙ ap (λ (k : ℕ). take k (drop a.from a.bytes.now)) e in
     let l : length (take a.n (drop a.from a.bytes.now)) ≡ a.n = length-take-le a.n (drop a.from a.bytes.now) (omega (arith, length-drop a.from a.bytes.now)) in
-    ap₂ (λ (s t : List ℕ). s ++ drop a.n t) y f ∙ padded-by (take a.n (drop a.from a.bytes.now)) a.n l c.requires.1.0
+    ap₂ (λ (s t : List ℕ). s ++ drop a.n t) y f ∙ padded-by (take a.n (drop a.from a.bytes.now)) a.n l c.requires.0

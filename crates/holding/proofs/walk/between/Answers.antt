@@ -45,7 +45,7 @@ pub loop-run-init : goal.loop-run-init
 loop-run-init c =
     let a = c.args in
     let s = stream_by a.stream.bits (word a.stream.initial) a.stream.log.now in
-    (begins s a.find a.from a.to _ (same-laid c.nothing-held.ensures none-noted), (omega arith, (refl, refl)))
+    (begins s a.find a.from a.to _ (same-laid c.nothing-held.ensures none-noted), omega arith)
 
 pub grow-run-requires : goal.grow-run-requires
 grow-run-requires c =
@@ -53,8 +53,7 @@ grow-run-requires c =
     let a = c.args in
     let s = stream_by a.stream.bits (word a.stream.initial) a.stream.log.now in
     let k = stepped s c.loop-run.p a.to (some at.Else-n-eq0) in
-    let i = c.loop-run.invariant.1 in
-    (i.1.1, (i.0, (rw (framed at.After-meet-met) k.long, inside at.After-locate-index k)))
+    (c.loop-run.invariant.1, (rw (framed at.After-meet-met) k.long, inside at.After-locate-index k))
 
 pub overflow_add-p : goal.overflow_add-p
 overflow_add-p c =
@@ -85,7 +84,7 @@ loop-run-preserved-then-closes c =
     let s = stream_by a.stream.bits (word a.stream.initial) a.stream.log.now in (
       turned_by s a.find a.from a.to _ _ l.p l.invariant.0 (some at.Else-n-eq0) true _ _ _ _ _ _ (bytes at.After-locate-index) (framed at.After-meet-met) (sized at.After-meet-met)
           (sym c.if-closes.true ∙ c.closes.ensures) c.grow-run.ensures.0 c.lay_run-held.ensures refl,
-      (omega arith, (c.lay_run-held.auto.note ∙ l.invariant.1.1.0, c.grow-run.auto.buffer ∙ l.invariant.1.1.1)),
+      omega arith,
     )
 
 pub loop-run-preserved : goal.loop-run-preserved
@@ -96,7 +95,7 @@ loop-run-preserved c =
     let s = stream_by a.stream.bits (word a.stream.initial) a.stream.log.now in (
       turned_by s a.find a.from a.to _ _ l.p l.invariant.0 (some at.Else-n-eq0) false _ _ _ _ _ _ (bytes at.After-locate-index) (framed at.After-meet-met) (sized at.After-meet-met)
           (sym c.if-closes.false ∙ c.closes.ensures) c.grow-run.ensures.0 refl refl,
-      (c.grow-run.ensures.1, (l.invariant.1.1.0, c.grow-run.auto.buffer ∙ l.invariant.1.1.1)),
+      c.grow-run.ensures.1,
     )
 
 pub returns : goal.returns

@@ -1,9 +1,7 @@
 -- By what was located: type and length are stored before the body.
-use Rattle.std.specs.Prelude.{Ok, Err}
-use Rattle.std.proofs.Common.{◌≡◌, ℕ, ◌-◌, List, length, sym, ◌∙◌, ap₂, arith, w32, SFits, rules}
+use Rattle.std.proofs.Common.{ℕ, ◌-◌, List, sym, ◌∙◌, ap₂, arith, w32, SFits, rules}
 use Rattle.std.proofs.lemmas.Result.{err_from_is_err_and}
 use Rattle.model.specs.Bytes.{splice, le4}
-use Rattle.model.specs.BufferClaim.{locate_of}
 use Rattle.model.proofs.BufferClaim.{span-in, refuses, commits, aborts}
 use Rattle.logbuffer.proofs.Signed.{word-by}
 use Rattle.logbuffer.proofs.buffer_claim.abort.Goals as goal

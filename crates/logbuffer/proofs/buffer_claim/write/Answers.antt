@@ -1,12 +1,9 @@
 -- Too many bytes are refused first; then by what was located: the bytes are laid over the body.
-use Rattle.std.specs.Prelude.{Result, Err}
-use Rattle.std.proofs.Common.{◌≡◌, ℕ, ◌-◌, min, List, length, take, drop, sym, ap, ◌∙◌, arith, take_all, rules}
+use Rattle.std.proofs.Common.{◌≡◌, ℕ, ◌-◌, min, List, length, take, drop, sym, ap, ◌∙◌, arith, take_all}
 use Rattle.std.proofs.lemmas.Result.{err_from_is_err_and}
 use lib.Seq.{take-length}
 use Rattle.model.specs.Bytes.{splice}
-use Rattle.model.specs.BufferClaim.{write_span, write_outcome, write_over}
-use Rattle.model.specs.declared.Error.{Error}
-use Rattle.model.specs.declared.Span.{Span}
+use Rattle.model.specs.BufferClaim.{write_outcome, write_over}
 use Rattle.model.proofs.Choice.{split}
 use Rattle.model.proofs.BufferClaim.{span-in, write-long, write-short}
 use Rattle.logbuffer.proofs.buffer_claim.write.Goals as goal

@@ -1,5 +1,5 @@
 -- Each test that fails lays nothing; behind them the body is laid.
-use Rattle.std.proofs.Common.{ℕ, ◌+◌, ◌*◌, ◌/◌, ◌≤◌, length, take, drop, sym, refl, ap, ◌∙◌, arith, rules, ltb-false, ltb-true}
+use Rattle.std.proofs.Common.{ℕ, Option, Some, ◌+◌, ◌*◌, ◌/◌, ◌≤◌, length, take, drop, sym, refl, ap, ◌∙◌, arith, rules, ltb-false, ltb-true}
 use borrow.Author.Tests.{not-true, not-false}
 use Rattle.model.specs.Bytes.{splice}
 use Rattle.model.specs.FrameDescriptor.{ends}
@@ -10,30 +10,30 @@ use Rattle.logbuffer.proofs.fragment_assembler.lay_fragment.Tie as tie
 
 returns : tie.Need-returns-then-place-ge16
 returns c =
-    let a = c.args in lays-nowhere a.count a.place a.held a.flags a.body_length a.log.now a.buffer.now a.index (omega arith) c.not_laid.result c.not_laid.ensures
+    let a = c.args in lays-nowhere a.count a.place a.held a.flags a.body_length a.log.now a.buffer.now a.index (omega arith)
 
 returns-2 : tie.Need-returns-then-not-joins
 returns-2 c =
     let a = c.args in
-    lays-other a.count a.place a.held a.flags a.body_length a.log.now a.buffer.now a.index (sym c.joins.ensures ∙ not-true _ c.if-not-joins.true-raw) c.not_laid-then-not-joins.result c.not_laid-then-not-joins.ensures
+    lays-other a.count a.place a.held a.flags a.body_length a.log.now a.buffer.now a.index (sym c.joins.ensures ∙ not-true _ c.if-not-joins.true-raw)
 
 returns-3 : tie.Need-returns-then-body_length-eq0
 returns-3 c =
-    let a = c.args in lays-empty a.count a.place a.held a.flags a.body_length a.log.now a.buffer.now a.index c.if-body_length-eq0.true c.not_laid-then-body_length-eq0.result c.not_laid-then-body_length-eq0.ensures
+    let a = c.args in lays-empty a.count a.place a.held a.flags a.body_length a.log.now a.buffer.now a.index c.if-body_length-eq0.true
 
 returns-4 : tie.Need-returns-then-too_long
 returns-4 c =
     let a = c.args in
     lays-long a.count a.place a.held a.flags a.body_length a.log.now a.buffer.now a.index
-    (omega (arith, ltb-true (length a.buffer.now / 16) (c.behind-from.result + a.body_length) (sym c.too_long.ensures ∙ c.if-too_long.true), c.behind-from.ensures)) c.not_laid-then-too_long.result c.not_laid-then-too_long.ensures
+    (omega (arith, ltb-true (length a.buffer.now / 16) (c.behind-from.result + a.body_length) (sym c.too_long.ensures ∙ c.if-too_long.true), c.behind-from.ensures))
 
 returns-5 : tie.Need-returns-then-index-size
 returns-5 c =
-    let a = c.args in lays-past a.count a.place a.held a.flags a.body_length a.log.now a.buffer.now a.index (omega arith) c.not_laid-then-index-size.result c.not_laid-then-index-size.ensures
+    let a = c.args in lays-past a.count a.place a.held a.flags a.body_length a.log.now a.buffer.now a.index (omega arith)
 
 returns-6 : tie.Need-returns-then-body_length-size
 returns-6 c =
-    let a = c.args in lays-past a.count a.place a.held a.flags a.body_length a.log.now a.buffer.now a.index (omega arith) c.not_laid-then-body_length-size.result c.not_laid-then-body_length-size.ensures
+    let a = c.args in lays-past a.count a.place a.held a.flags a.body_length a.log.now a.buffer.now a.index (omega arith)
 
 fits : (c : tie.Else-too_long) → c.behind-from.result + c.args.body_length ≤ length c.args.buffer.now / 16
 fits c =
@@ -51,27 +51,21 @@ returns-7 c =
     let e = c.behind-from.ensures in
     lays a.count a.place a.held a.flags a.body_length a.log.now a.buffer.now a.index (omega arith)
     (sym c.joins.ensures ∙ not-false _ c.if-not-joins.false-raw) (omega (arith, c.if-body_length-eq0.false)) (omega (arith, e, fits c.before.before.before.before.before.before)) (omega arith) _ c.append.new.buffer
-    (ap {B = Laid} (λ (x : ℕ). record { held = x + a.body_length; ends = ends a.flags }) e)
+    (ap {B = Option Laid} (λ (x : ℕ). Some (record { held = x + a.body_length; ends = ends a.flags })) e)
     (c.append.ensures ∙ ap (λ (x : ℕ). splice a.buffer.now (a.place * (length a.buffer.now / 16) + x) (take a.body_length (drop a.index a.log.now))) e)
 
 pub lay_fragment_spec : {M : Type 1} → statement M
 lay_fragment_spec =
     tie.close
     (tie.spec
-    (search rules)
     returns
     (search rules)
-    (search rules)
     returns-2
-    (search rules)
     returns-3
     (search rules)
     (search rules)
-    (search rules)
     returns-4
-    (search rules)
     returns-5
-    (search rules)
     returns-6
     append-requires
     add-t14

@@ -1,6 +1,5 @@
 -- What is located lies in the log.
-use Rattle.std.specs.Prelude.{Ok}
-use Rattle.std.proofs.Common.{◌≡◌, ◌≤◌, length, sym, ◌∙◌}
+use Rattle.std.proofs.Common.{◌≤◌, length, sym, ◌∙◌}
 use Rattle.model.specs.TermReader.{view_of}
 use Rattle.model.proofs.ViewLaws.{span-in}
 use Rattle.logbuffer.proofs.Signs.{passed_on}

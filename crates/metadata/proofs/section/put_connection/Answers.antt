@@ -11,7 +11,7 @@ unfolding connection
 returns c =
     let r = c.args.rec in
     let o = c.args.out.now in
-    let h : 128 ≤ length o = omega (arith, c.requires) in
+    let h : 128 ≤ length o = omega arith in
     let k0 : to_z w64 (of_z w64 (r.end_of_stream_position)) ≡ r.end_of_stream_position = search rules in
     let n0 = le8 (long r.end_of_stream_position) in
     let p0 = first o 128 n0 8 (length8 _) (c.put_i64.ensures ∙ ap (λ (z : ℤ). splice o 128 (le8 (long z))) k0) in

@@ -12,7 +12,7 @@ unfolding counters
 returns c =
     let r = c.args.rec in
     let o = c.args.out.now in
-    let h : 0 ≤ length o = omega (arith, c.requires) in
+    let h : 0 ≤ length o = omega arith in
     let k0 : to_z w64 (of_z w64 (tail_of r 0)) ≡ tail_of r 0 = search rules in
     let n0 = le8 (long (tail_of r 0)) in
     let p0 = first o 0 n0 8 (length8 _) (c.put_i64.ensures ∙ ap (λ (z : ℤ). splice o 0 (le8 (long z))) k0) in

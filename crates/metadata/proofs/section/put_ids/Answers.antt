@@ -10,7 +10,7 @@ unfolding ids
 returns c =
     let r = c.args.rec in
     let o = c.args.out.now in
-    let h : 256 ≤ length o = omega (arith, c.requires) in
+    let h : 256 ≤ length o = omega arith in
     let k0 : to_z w64 (of_z w64 (r.correlation_id)) ≡ r.correlation_id = search rules in
     let n0 = le8 (long r.correlation_id) in
     let p0 = first o 256 n0 8 (length8 _) (c.put_i64.ensures ∙ ap (λ (z : ℤ). splice o 256 (le8 (long z))) k0) in

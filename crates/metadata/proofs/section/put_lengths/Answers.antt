@@ -11,7 +11,7 @@ unfolding lengths
 returns c =
     let r = c.args.rec in
     let o = c.args.out.now in
-    let h : 272 ≤ length o = omega (arith, c.requires) in
+    let h : 272 ≤ length o = omega arith in
     let k0 : to_z w32 (of_z w32 (r.mtu_length)) ≡ r.mtu_length = search rules in
     let n0 = le4 (word r.mtu_length) in
     let p0 = first o 272 n0 4 (length4 _) (c.put_i32.ensures ∙ ap (λ (z : ℤ). splice o 272 (le4 (word z))) k0) in

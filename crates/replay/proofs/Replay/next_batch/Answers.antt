@@ -13,7 +13,7 @@ use Rattle.replay.specs.Gather.{lent_reply_of}
 use Rattle.replay.proofs.InPlace.{open-terms}
 use Rattle.replay.proofs.Batching.{batch-buffer, batch-numbers, batch-starts, batch-none, batch-ends}
 use Rattle.replay.proofs.Walks.{Here, here, term_on, batch_made, batch_whole, batch_on}
-use Rattle.replay.proofs.Replay.next_batch.Goals.{in_default-via-in-Ok+in_default, in_default-via-in_default}
+use Rattle.replay.proofs.Replay.next_batch.Goals.{in_default-answer-via-in-Ok+in_default, in_default-answer-via-in_default}
 use Rattle.replay.proofs.Replay.next_batch.Goals as goal
 
 pub returns-then-buffer-gt2147483647 : goal.returns-then-buffer-gt2147483647
@@ -48,11 +48,11 @@ whole_from-found-requires c = let h = c.loop-laid.invariant in (subst (TermsOf _
 
 -- ---- a whole message
 
-found : (c : goal.Then-n-ne0) → Here c.args.rec c.args.log.now (image_state c.loop-laid.image) (length c.loop-laid.buffer) c.reach_of-reach.result.term c.long-p.result c.whole_from-found.result.length
+found : (c : goal.In-Some) → Here c.args.rec c.args.log.now (image_state c.loop-laid.image) (length c.loop-laid.buffer) c.reach_of-reach.result.term c.long-p.result c.in-Some.whole
 found c =
     let i = c.loop-laid.image in
-    here c.args.rec c.args.log.now (image_state i) (length c.loop-laid.buffer) c.reach_of-reach.result.term c.reach_of-reach.result.stop c.long-p.result c.whole_from-found.result.length
-    c.loop-laid.invariant.term_is c.reach_of-reach.ensures.1 (long-by i.position c.long-p.ensures.0 (search rules)) c.whole_from-found.ensures.0 (omega (arith, c.if-n-ne0.true))
+    here c.args.rec c.args.log.now (image_state i) (length c.loop-laid.buffer) c.reach_of-reach.result.term c.reach_of-reach.result.stop c.long-p.result c.in-Some.whole
+    c.loop-laid.invariant.term_is c.reach_of-reach.ensures.1 (long-by i.position c.long-p.ensures.0 (search rules)) (sym c.in-Some.is ∙ c.whole_from-found.ensures.0)
 
 pub overflow_add-end : goal.overflow_add-end
 overflow_add-end c = let h = found c in omega arith
@@ -60,47 +60,45 @@ overflow_add-end c = let h = found c in omega arith
 pub overflow_mul-end : goal.overflow_mul-end
 overflow_mul-end c = let h = found c in omega arith
 
-pub overflow_add-end-then-n-ne0 : goal.overflow_add-end-then-n-ne0
-overflow_add-end-then-n-ne0 c = let h = found c in omega arith
+pub overflow_add-end-in-Some : goal.overflow_add-end-in-Some
+overflow_add-end-in-Some c = let h = found c in omega arith
 
 pub overflow_add-from : goal.overflow_add-from
 overflow_add-from c =
     let i = c.loop-laid.image in
-    let h = here c.args.rec c.args.log.now (image_state i) (length c.loop-laid.buffer) c.reach_of-reach.result.term c.reach_of-reach.result.stop c.long-p.result c.whole_from-found.result.length
-    c.loop-laid.invariant.term_is c.reach_of-reach.ensures.1 (long-by i.position c.long-p.ensures.0 (search rules)) c.whole_from-found.ensures.0 (omega (arith, c.if-n-ne0.true)) in
-    let e = c.whole_from-found.ensures.1.1 h.some in
+    let h = here c.args.rec c.args.log.now (image_state i) (length c.loop-laid.buffer) c.reach_of-reach.result.term c.reach_of-reach.result.stop c.long-p.result c.in-Some.whole
+    c.loop-laid.invariant.term_is c.reach_of-reach.ensures.1 (long-by i.position c.long-p.ensures.0 (search rules)) (sym c.in-Some.is ∙ c.whole_from-found.ensures.0) in
     omega arith
 
 pub overflow_sub-n : goal.overflow_sub-n
 overflow_sub-n c =
     let i = c.loop-laid.image in
-    let h = here c.args.rec c.args.log.now (image_state i) (length c.loop-laid.buffer) c.reach_of-reach.result.term c.reach_of-reach.result.stop c.long-p.result c.whole_from-found.result.length
-    c.loop-laid.invariant.term_is c.reach_of-reach.ensures.1 (long-by i.position c.long-p.ensures.0 (search rules)) c.whole_from-found.ensures.0 (omega (arith, c.if-n-ne0.true)) in
+    let h = here c.args.rec c.args.log.now (image_state i) (length c.loop-laid.buffer) c.reach_of-reach.result.term c.reach_of-reach.result.stop c.long-p.result c.in-Some.whole
+    c.loop-laid.invariant.term_is c.reach_of-reach.ensures.1 (long-by i.position c.long-p.ensures.0 (search rules)) (sym c.in-Some.is ∙ c.whole_from-found.ensures.0) in
     h.header
 
 pub overflow_cast-image : goal.overflow_cast-image
 overflow_cast-image c =
     let i = c.loop-laid.image in
-    let h = here c.args.rec c.args.log.now (image_state i) (length c.loop-laid.buffer) c.reach_of-reach.result.term c.reach_of-reach.result.stop c.long-p.result c.whole_from-found.result.length
-    c.loop-laid.invariant.term_is c.reach_of-reach.ensures.1 (long-by i.position c.long-p.ensures.0 (search rules)) c.whole_from-found.ensures.0 (omega (arith, c.if-n-ne0.true)) in
+    let h = here c.args.rec c.args.log.now (image_state i) (length c.loop-laid.buffer) c.reach_of-reach.result.term c.reach_of-reach.result.stop c.long-p.result c.in-Some.whole
+    c.loop-laid.invariant.term_is c.reach_of-reach.ensures.1 (long-by i.position c.long-p.ensures.0 (search rules)) (sym c.in-Some.is ∙ c.whole_from-found.ensures.0) in
     record { sfits = omega arith }
 
-pub loop-laid-preserved-then-n-ne0 : goal.loop-laid-preserved-then-n-ne0
-loop-laid-preserved-then-n-ne0 c =
+pub loop-laid-preserved-in-Some : goal.loop-laid-preserved-in-Some
+loop-laid-preserved-in-Some c =
     let a = c.args in
     let l = c.loop-laid in
-    let n = c.whole_from-found.result.length in
     let term = c.reach_of-reach.result.term in
-    let h = here a.rec a.log.now (image_state l.image) (length l.buffer) term c.reach_of-reach.result.stop c.long-p.result n
-    l.invariant.term_is c.reach_of-reach.ensures.1 (long-by l.image.position c.long-p.ensures.0 (search rules)) c.whole_from-found.ensures.0 (omega (arith, c.if-n-ne0.true)) in
+    let h = here a.rec a.log.now (image_state l.image) (length l.buffer) term c.reach_of-reach.result.stop c.long-p.result c.in-Some.whole
+    l.invariant.term_is c.reach_of-reach.ensures.1 (long-by l.image.position c.long-p.ensures.0 (search rules)) (sym c.in-Some.is ∙ c.whole_from-found.ensures.0) in
     let most = length a.numbers.now / 4 in
     record {
       lays =
           batch_whole a.rec a.log.now (state_of (replay_of l.image l.count l.ids l.held) l.buffer) l.numbers c.lay.new.numbers l.laid (most - l.laid) (most - (l.laid + 1)) (omega arith) (omega arith)
-          term c.long-p.result n c.whole_from-found.result.index h (c.whole_from-found.ensures.1.1 h.some) c.lay.ensures
+          term c.long-p.result c.in-Some.whole h c.lay.ensures
           ∙ l.invariant.lays;
       term_is = h.term_kept;
-      base_is = c.whole_from-found.ensures.1.0;
+      base_is = c.whole_from-found.ensures.1;
     }
 
 -- ---- with the sessions lent
@@ -108,19 +106,19 @@ loop-laid-preserved-then-n-ne0 c =
 pub next_lent-reply-requires : goal.next_lent-reply-requires
 next_lent-reply-requires c = (omega arith, (c.loop-laid.invariant.term_is, c.reach_of-reach.ensures.1))
 
-pub returns-in_default : goal.returns-in_default
-returns-in_default c =
+pub returns-in_default-answer : goal.returns-in_default-answer
+returns-in_default-answer c =
     let a = c.args in
     let l = c.loop-laid in
     let b = c.next_lent-reply.new.buffer in
     let x = c.next_lent-reply.result in
     let y = lent_reply_of x c.next_lent-reply.new.ids c.next_lent-reply.new.held b in
     let stands : c.long.result ≡ long x.image.position = long-by x.image.position c.long.ensures.0 (let k = c.next_lent-reply.type_inv in search (rules, k)) in
-    let e = c.batch_reply-in_default.ensures in
-    batch_made c.batch_reply-in_default.result _ _ b c.last-answer.new.numbers (e.0 ∙ c.replay_of.ensures) (e.1 ∙ c.last-answer.ensures.value)
+    let e = c.batch_reply-in_default-answer.ensures in
+    batch_made c.batch_reply-in_default-answer.result _ _ b c.last-answer.new.numbers (e.0 ∙ c.replay_of.ensures) (e.1 ∙ c.last-answer.ensures.value)
     ∙ ap {B = Batch} (λ (o : List ℕ). record { answer = last_by l.laid x.answer; next = y.next; numbers = o }) (c.last-answer.ensures.numbers_after ∙ ap (λ (i : ℕ). last_numbers l.numbers l.laid i x.answer) stands)
     ∙ batch-ends a.rec a.log.now (state_of (replay_of l.image l.count l.ids l.held) l.buffer) l.numbers l.laid (length a.numbers.now / 4 - l.laid) (omega arith) y c.next_lent-reply.ensures
-    (λ from n e. elim c.in_default.branch [ in_default-via-in-Ok+in_default w ↦ search rules | in_default-via-in_default w ↦ search rules ])
+    (λ from n e. elim c.in_default-answer.branch [ in_default-answer-via-in-Ok+in_default w ↦ search rules | in_default-answer-via-in_default w ↦ search rules ])
     ∙ l.invariant.lays
 
 pub loop-laid-preserved : goal.loop-laid-preserved
@@ -141,7 +139,7 @@ loop-laid-preserved c =
           (c.lay-in-loop-laid.ensures ∙ ap₂ (λ (i n : ℕ). laid_at l.numbers l.laid 1 i n p.result) m.from-is m.length-is)
           ∙ l.invariant.lays;
       term_is = term_on a.rec a.log.now s y c.reach_of-reach.result.term (length c.next_lent-reply.new.buffer) l.invariant.term_is (omega arith) c.next_lent-reply.ensures;
-      base_is = c.whole_from-found.ensures.1.0;
+      base_is = c.whole_from-found.ensures.1;
     }
 
 -- ---- all that there is room for

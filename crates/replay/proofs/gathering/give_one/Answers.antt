@@ -1,9 +1,9 @@
 -- What the core answers, by its parts: a frame that is refused is not passed, and any other is.
 use Rattle.std.specs.Prelude.{Result}
 use mathlib.Core.Path.{◌≡◌, sym, ap, ap₂, ◌∙◌}
-use mathlib.Core.Bool.{true, false, cond}
+use mathlib.Core.Bool.{true, false}
 use mathlib.Core.List.{List}
-use Prim.Native.Nat.{ℕ, ◌+◌, ◌-◌, ◌*◌, ◌%◌, ◌≤◌, ◌<◌}
+use Prim.Native.Nat.{ℕ, ◌+◌, ◌-◌, ◌%◌}
 use lib.IntN.{ℤ}
 use Rattle.model.specs.declared.Error.{Error}
 use Rattle.model.specs.declared.Assembled.{Assembled}

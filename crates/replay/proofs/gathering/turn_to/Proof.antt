@@ -4,7 +4,7 @@ use mathlib.Core.List.{List}
 use Prim.Native.Nat.{ℕ, min}
 use native.Mathlib.Omega.{arith}
 use borrow.Author.Rules.{rules}
-use lib.ListN.{take, get_or, set}
+use lib.ListN.{length, take, get_or, set}
 use lib.Seq.{get_or-set_same, set-get_or}
 use mir.Syntax.{w32}
 use mir.Val.{to_z}
@@ -18,8 +18,9 @@ returns : tie.Need-returns-then-current-next
 returns c =
     let s = c in
     let a = s.args in
+    let held-16 : length a.held.now ≡ 16 = search rules in
     let z : a.current.session ≡ a.next = sym (to_z-of_z {w = w32} {z = a.current.session} (search rules)) ∙ ap (to_z w32) c.if-current-next.true ∙ to_z-of_z s.ranges.next in
-    (((s.requires.1 c.if-current-lt16.true ∙ ap (place_in (take (min a.count 16) a.ids.now)) z, z), sym (get_or-set_same a.held.now a.current.place a.current.bytes 0 (omega (arith, s.requires.0, c.if-current-lt16.true)))), refl)
+    (((s.requires c.if-current-lt16.true ∙ ap (place_in (take (min a.count 16) a.ids.now)) z, z), sym (get_or-set_same a.held.now a.current.place a.current.bytes 0 (omega (arith, held-16, c.if-current-lt16.true)))), refl)
 
 abbrev Says : tie.Start → List ℕ → Current → Type 0
 Says s h r =
@@ -41,4 +42,4 @@ returns-2 c =
     )
 
 pub turn_to_spec : {M : Type 1} → statement M
-turn_to_spec = tie.close (tie.spec returns (search rules) (search rules) (search rules) (search rules) (search rules) returns-2)
+turn_to_spec = tie.close (tie.spec returns (search rules) (search rules) (search rules) (search rules) returns-2)

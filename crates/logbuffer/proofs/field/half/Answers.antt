@@ -1,0 +1,7 @@
+-- The number that the library reads is the field's.
+use Rattle.std.proofs.Common.{◌∙◌, rules}
+use Rattle.logbuffer.proofs.LittleEndian.{half-bytes}
+use Rattle.logbuffer.proofs.field.half.Goals as goal
+
+pub returns : goal.returns
+returns c = (c.from_le_bytes.ensures ∙ half-bytes c.args.log.now c.args.at, search rules)
