@@ -16,7 +16,7 @@ for name in publication::fit::offer_fit publication::fit::claim_fit publication:
     replay::frames::next_whole replay::frames::whole_from replay::frames::base_at replay::frames::give replay::frames::reach_of \
     replay::gathering::gather replay::gathering::take replay::gathering::turn_to replay::gathering::settle replay::gathering::enter replay::gathering::data_at \
     logbuffer::fragment_assembler::fragment_at logbuffer::fragment_assembler::lay_fragment logbuffer::fragment_assembler::place_of \
-    tally::step::Stream::meet_at tally::step::Stream::meet tally::step::met_by capi::words::reading_in capi::words::record_in capi::words::tail_out capi::words::record_numbers capi::words::position_out capi::words::numbers; do
+    tally::step::Stream::meet_at tally::step::Stream::meet tally::step::met_by capi::words::reading_in capi::words::record_in capi::words::tail_out capi::words::position_out capi::words::numbers; do
     if echo "$names" | grep -qxF "$name"; then
         echo "inlined.sh: $name stands in the archive, and should be in its caller"
         exit 1
