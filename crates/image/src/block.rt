@@ -66,14 +66,12 @@ pub(crate) fn block_at(
     let term = v.term;
     let p = cast::long(image.position);
     let end = limits::end_offset(term, p, p + limit);
-    let stop = match scan_at(rec, v, log, p, end) {
-        Ok(stop) => stop,
-        Err(e) => {
-            return BlockTo {
-                position: image.position,
-                answer: Err(e),
-            };
-        }
+    let scanned = scan_at(rec, v, log, p, end);
+    let Ok(stop) = scanned else {
+        return BlockTo {
+            position: image.position,
+            answer: Err(term_scan::refusal(scanned)),
+        };
     };
     let at = limits::offset_of(term, p);
     let n = stop - at;

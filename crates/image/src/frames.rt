@@ -88,18 +88,19 @@ pub(crate) fn poll_term(
         },
         Ok(ReadVerdict::Read) => {
             let p = cast::long(image.position);
-            match frames_on(v, log, entries, k, p, limit) {
-                Ok(read) => PolledTo {
-                    position: (p - limits::offset_of(v.term, p) + read.offset) as i64,
-                    answer: Ok(Polled {
-                        fragments: read.fragments,
-                        entries: read.fragments,
-                    }),
-                },
-                Err(e) => PolledTo {
+            let came = frames_on(v, log, entries, k, p, limit);
+            let Ok(read) = came else {
+                return PolledTo {
                     position: image.position,
-                    answer: Err(e),
-                },
+                    answer: Err(term_reader::read_refusal(came)),
+                };
+            };
+            PolledTo {
+                position: (p - limits::offset_of(v.term, p) + read.offset) as i64,
+                answer: Ok(Polled {
+                    fragments: read.fragments,
+                    entries: read.fragments,
+                }),
             }
         }
     }

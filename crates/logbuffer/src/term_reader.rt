@@ -5,7 +5,7 @@ ghost use Rattle.model.specs.FrameDescriptor.{unsound_frame_at};
 ghost use Rattle.model.specs.LogBufferDescriptor.{good_partition};
 ghost use Rattle.model.specs.TermReader.{next_action, walk, first_unsound, good_walk, good_handler, good_entries, good_start, entries_by, frames_by, frames_refusal, read_from, read_walk, frames_of, frames_entries, read_of, read_entries, good_view, view_of};
 ghost use Rattle.model.specs.Parts.{part_of, located_number};
-ghost use Rattle.logbuffer.specs.Reads.{good_read_on, read_on_verdict};
+ghost use Rattle.logbuffer.specs.Reads.{good_read_on, read_on_verdict, read_refusal};
 
 use crate::data_frame_header::HEADER_LENGTH;
 use crate::frame_descriptor::{ALIGNMENT_MASK, FRAME_ALIGNMENT};
@@ -285,6 +285,16 @@ pub fn read_on(
     }
     let term = numbers.term;
     walk_term(log, partition * term, term, offset, fragment_limit, entries)
+}
+
+// The refusal of a read, where a caller takes it apart by `let .. else`. A read that was not refused has none, and 1 stands for it.
+pub fn read_refusal(read: Result<TermRead, Error>) -> Error
+    ensures { result ≡ read_refusal read }
+{
+    match read {
+        Ok(_) => Error::IllegalArgument,
+        Err(e) => e,
+    }
 }
 
 // Row 1 of `read`.

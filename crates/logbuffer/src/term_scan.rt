@@ -2,7 +2,7 @@
 ghost use Rattle.std.specs.Prelude.{◌≡◌, ◌+◌, ◌-◌, ◌*◌, ◌%◌, ◌<◌, ◌≤◌, min, true, ◌&&◌, length, drop, if◌then◌else◌, ◌==◌, nat_lt, Ok, Err};
 ghost use Rattle.model.specs.FrameDescriptor.{frame_at, is_unsound, unsound_frame_at};
 ghost use Rattle.model.specs.LogBufferDescriptor.{good_partition, good_offset, within_term};
-ghost use Rattle.model.specs.TermScan.{scan_from, scan_by, scan_of, rebuild, gap_length, gap_by, gap_of, available_from, availability_by, availability_of};
+ghost use Rattle.model.specs.TermScan.{scan_from, scan_by, scan_of, scan_refusal, rebuild, gap_length, gap_by, gap_of, available_from, availability_by, availability_of};
 ghost use Rattle.model.proofs.GapLaws.{gap_found};
 ghost use Rattle.model.proofs.AvailableLaws.{outcome as outcome_of};
 
@@ -81,6 +81,16 @@ pub fn scan(
     argument::first_rows(good_scan(p, most), p.read, log.len())?;
     let term = p.read.term;
     scan_frames(log, p.partition * term, term, most, p.offset)
+}
+
+// The refusal of a scan, where a caller takes it apart by `let .. else`. A scan that was not refused has none, and 1 stands for it.
+pub fn refusal(scanned: Result<usize, Error>) -> Error
+    ensures { result ≡ scan_refusal scanned }
+{
+    match scanned {
+        Ok(_) => Error::IllegalArgument,
+        Err(e) => e,
+    }
 }
 
 // ---- scan_for_gap

@@ -2,7 +2,7 @@
 // gives of a log that was made by any list of calls; read `next_of` in the definitions.
 #![tactic(auto)]
 
-ghost use Rattle.std.specs.Prelude.{◌≡◌, Some, ◌-◌, ◌≤◌, ◌<◌, length, pos};
+ghost use Rattle.std.specs.Prelude.{◌≡◌, cond, Some, None, ◌-◌, ◌≤◌, ◌<◌, length, pos};
 ghost use Rattle.model.specs.TermReader.{natural};
 ghost use Rattle.model.specs.Image.{new_image};
 ghost use Rattle.model.specs.FragmentAssembler.{fresh};
@@ -13,7 +13,7 @@ ghost use Rattle.logbuffer.specs.Assembler.{sessions_of};
 ghost use Rattle.replay.specs.InPlace.{open_term, stop_at};
 ghost use Rattle.replay.specs.Gather.{lent_reply_of};
 ghost use Rattle.replay.specs.Batches.{batch_reply_of, batch_of};
-ghost use Rattle.replay.specs.Replays.{replay_of, state_of, refusal_by, next_reply_of, added_to, gives_by, length_by, counted_by, count_of, turned, turn_of, fragment_given};
+ghost use Rattle.replay.specs.Replays.{replay_of, state_of, refusal_by, next_reply_of, added_to, elsewhere_on, elsewhere_by, elsewhere_next, gives_by, length_by, counted_by, count_of, turned, turn_of, fragment_given};
 
 use crate::frames::Reach;
 use image::Image;
@@ -99,8 +99,23 @@ fn refusal(answer: Result<Polled, Error>) -> Result<Replayed, Error>
     Ok(Replayed::End)
 }
 
-// A fragment of a partition, given to the assembler: the image has passed it. It leads to nothing yet, to a message in the log or in the lent buffer, or to a
-// refusal, which leaves the replay before the fragment.
+// The turn by an assembler's answer that is no part of the log: nothing yet, a message in the lent buffer, a refusal, which leaves the
+// replay before the fragment.
+fn elsewhere(before: Replay, next: Replay, answer: Result<Assembled, Error>) -> TurnReply
+    ensures { (result.answer ≡ cond (elsewhere_on answer) None (Some (elsewhere_by answer))) × (result.next ≡ elsewhere_next before next answer) }
+{
+    match answer {
+        Ok(Assembled::Nothing) => TurnReply {
+            answer: None,
+            next: next,
+        },
+        Ok(Assembled::Fragment(_, _)) => stopped(next, Ok(Replayed::End)),
+        Ok(Assembled::Message(at, n)) => stopped(next, Ok(Replayed::InBuffer(at, n))),
+        Err(e) => stopped(before, Err(e)),
+    }
+}
+
+// A fragment of a partition, given to the assembler: the image has passed it.
 fn give(
     before: Replay,
     passed: Image,
@@ -122,15 +137,13 @@ fn give(
         image: passed,
         assembler: assembler,
     };
-    match answer {
-        Ok(Assembled::Nothing) => TurnReply {
-            answer: None,
-            next: next,
-        },
-        Ok(Assembled::Fragment(at, n)) => stopped(next, Ok(Replayed::InLog(k * v.term + at, n))),
-        Ok(Assembled::Message(at, n)) => stopped(next, Ok(Replayed::InBuffer(at, n))),
-        Err(e) => stopped(before, Err(e)),
-    }
+    let Ok(assembled) = answer else {
+        return elsewhere(before, next, answer);
+    };
+    let Assembled::Fragment(at, n) = assembled else {
+        return elsewhere(before, next, answer);
+    };
+    stopped(next, Ok(Replayed::InLog(k * v.term + at, n)))
 }
 
 // One turn.

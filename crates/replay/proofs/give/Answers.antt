@@ -1,6 +1,7 @@
--- A fragment that passes through lies in the log; where it is refused the buffer is as it was. The other answers the check finds alone.
-use Rattle.std.specs.Prelude.{Ok, Err}
-use mathlib.Core.Path.{◌≡◌, sym, ap, ap₂, ◌∙◌}
+-- A fragment that passes through lies in the log; where it is refused the buffer is as it was.
+use Rattle.std.specs.Prelude.{Option, Some, None, Result, Ok, Err}
+use mathlib.Core.Path.{◌≡◌, refl, sym, ap, ap₂, ◌∙◌}
+use mathlib.Core.Bool.{cond}
 use mathlib.Core.List.{List}
 use Prim.Native.Nat.{ℕ, ◌+◌, ◌-◌, ◌*◌, ◌≤◌, ◌<◌}
 use native.Mathlib.Omega.{arith}
@@ -12,14 +13,19 @@ use mir.Facts.{to_z-of_z, to_z_pos}
 use borrow.Author.Rules.{rules}
 use Rattle.model.specs.declared.LogRecord.{LogRecord}
 use Rattle.model.specs.declared.Reading.{Reading}
-use Rattle.model.specs.declared.Assembled.TheVariants.{Fragment}
+use Rattle.model.specs.declared.Error.{Error}
+use Rattle.model.specs.declared.Assembled.{Assembled}
+use Rattle.model.specs.declared.Assembled.TheVariants.{Nothing, Fragment, Message}
+use Rattle.model.specs.declared.Replayed.{Replayed}
 use Rattle.model.specs.TermReader.{natural}
 use Rattle.model.specs.LogBufferDescriptor.{reading}
 use Rattle.model.specs.FragmentAssembler.{assemble_of}
 use Rattle.model.specs.Replay.{ReplayState}
 use Rattle.image.specs.Images.{state_of as image_state}
-use Rattle.replay.specs.Replays.{state_of, stops}
-use Rattle.replay.proofs.Turns.{turned_as, fragment-is, fragment-in, refused-keeps}
+use Rattle.replay.specs.declared.Replay.{Replay}
+use Rattle.replay.specs.declared.TurnReply.{TurnReply}
+use Rattle.replay.specs.Replays.{state_of, Turned, turned, stops, elsewhere_on, elsewhere_by, elsewhere_next, fragment_turn}
+use Rattle.replay.proofs.Turns.{fragment-is, fragment-in, refused-keeps}
 use Rattle.replay.proofs.give.Goals as goal
 
 -- the partition and the offset, as the assembler takes them
@@ -39,8 +45,8 @@ inside r log s v k o at n entry ev p q e =
 pub overflow_mul-k : goal.overflow_mul-k
 overflow_mul-k c =
     let a = c.args in
-    let e : c.on_fragment-reply.result.answer ≡ Ok (Fragment c.in-Ok-Fragment.at c.in-Ok-Fragment.n) = search rules in
-    let i = inside a.rec a.log.now (state_of a.before a.buffer.now) c.read_active-v.result a.k c.frame_offset.result c.in-Ok-Fragment.at c.in-Ok-Fragment.n a.entry c.read_active-v.ensures (part a.k c.requires)
+    let e : c.on_fragment-reply.result.answer ≡ Ok (Fragment c.in-Fragment.at c.in-Fragment.n) = search rules in
+    let i = inside a.rec a.log.now (state_of a.before a.buffer.now) c.read_active-v.result a.k c.frame_offset.result c.in-Fragment.at c.in-Fragment.n a.entry c.read_active-v.ensures (part a.k c.requires)
     (offset c.frame_offset.result a.entry c.ranges.entry c.frame_offset.ensures.0 c.frame_offset.ensures.1)
     (sym c.on_fragment-reply.ensures.answer_value.0 ∙ e) in
     record { fits = omega (arith, i, c.well_formed) }
@@ -48,20 +54,50 @@ overflow_mul-k c =
 pub overflow_add-k : goal.overflow_add-k
 overflow_add-k c =
     let a = c.args in
-    let e : c.on_fragment-reply.result.answer ≡ Ok (Fragment c.in-Ok-Fragment.at c.in-Ok-Fragment.n) = search rules in
-    let i = inside a.rec a.log.now (state_of a.before a.buffer.now) c.read_active-v.result a.k c.frame_offset.result c.in-Ok-Fragment.at c.in-Ok-Fragment.n a.entry c.read_active-v.ensures (part a.k c.requires)
+    let e : c.on_fragment-reply.result.answer ≡ Ok (Fragment c.in-Fragment.at c.in-Fragment.n) = search rules in
+    let i = inside a.rec a.log.now (state_of a.before a.buffer.now) c.read_active-v.result a.k c.frame_offset.result c.in-Fragment.at c.in-Fragment.n a.entry c.read_active-v.ensures (part a.k c.requires)
     (offset c.frame_offset.result a.entry c.ranges.entry c.frame_offset.ensures.0 c.frame_offset.ensures.1)
     (sym c.on_fragment-reply.ensures.answer_value.0 ∙ e) in
     record { fits = omega (arith, i, c.well_formed) }
 
-pub returns-in-Err : goal.returns-in-Err
-returns-in-Err c =
+-- the turn by an answer that is no part of the log, as the code makes it
+abbrev elsewhere-by : Replay → Replay → List ℕ → Result Assembled Error → Turned
+elsewhere-by before next left a = record { answer = cond (elsewhere_on a) None (Some (elsewhere_by a)); next = state_of (elsewhere_next before next a) left }
+
+made : (before next : Replay) (left : List ℕ) (t : TurnReply) (a : Result Assembled Error)
+    → (t.answer ≡ cond (elsewhere_on a) None (Some (elsewhere_by a))) × (t.next ≡ elsewhere_next before next a) → turned t left ≡ elsewhere-by before next left a
+made before next left t a h = ap₂ {C = Turned} (λ (x : Option (Result Replayed Error)) (q : Replay). record { answer = x; next = state_of q left }) h.0 h.1
+
+refused : (base : ℕ) (before next : Replay) (buffer left : List ℕ) (a : Result Assembled Error) (e : Error) → a ≡ Err e → left ≡ buffer
+    → elsewhere-by before next left a ≡ fragment_turn base (state_of before buffer) (state_of next left) a
+refused base before next buffer left a e h k =
+    ap (elsewhere-by before next left) h ∙ ap (λ (b : List ℕ). stops (state_of before b) (Err e)) k ∙ sym (ap (fragment_turn base (state_of before buffer) (state_of next left)) h)
+
+passed : (base : ℕ) (before next : Replay) (s : ReplayState) (left : List ℕ) (b : Assembled) → ((at n : ℕ) → b ≡ Fragment at n → ⊥)
+    → elsewhere-by before next left (Ok b) ≡ fragment_turn base s (state_of next left) (Ok b)
+passed base before next s left Nothing none = refl
+passed base before next s left (Fragment at n) none = absurd (none at n refl)
+passed base before next s left (Message at n) none = refl
+
+pub returns-in_default : goal.returns-in_default
+returns-in_default c =
     let a = c.args in
-    let s = state_of a.before a.buffer.now in
     let g = c.on_fragment-reply.ensures in
-    let kept = g.buffer_after ∙ refused-keeps a.rec a.log.now s.sessions a.buffer.now _ _ c.in-Err.e (sym g.answer_value.0 ∙ c.in-Err.is) in
-    turned_as c.stopped-in-Err.result (Err c.in-Err.e) a.before c.on_fragment-reply.new.buffer c.stopped-in-Err.ensures
-    ∙ ap (λ (b : List ℕ). stops (state_of a.before b) (Err c.in-Err.e)) kept
-    ∙ fragment-is a.rec a.log.now s (image_state a.passed) a.k a.entry _ _ (a.k * c.read_active-v.result.term) _ _ (Err c.in-Err.e) (part a.k c.requires)
+    let x = c.on_fragment-reply.result.answer in
+    let kept = g.buffer_after ∙ refused-keeps a.rec a.log.now (state_of a.before a.buffer.now).sessions a.buffer.now _ _ c.in_default.field-0 (sym g.answer_value.0 ∙ c.in_default.is) in
+    made a.before _ c.on_fragment-reply.new.buffer c.elsewhere.result x c.elsewhere.ensures
+    ∙ refused (a.k * c.read_active-v.result.term) a.before _ a.buffer.now _ x c.in_default.field-0 c.in_default.is kept
+    ∙ fragment-is a.rec a.log.now (state_of a.before a.buffer.now) (image_state a.passed) a.k a.entry _ _ (a.k * c.read_active-v.result.term) _ _ x (part a.k c.requires)
     (offset c.frame_offset.result a.entry c.ranges.entry c.frame_offset.ensures.0 c.frame_offset.ensures.1) (ap (λ (v : Reading). a.k * v.term) c.read_active-v.ensures)
-    (sym c.in-Err.is ∙ g.answer_value.0) g.answer_value.1 g.buffer_after
+    g.answer_value.0 g.answer_value.1 g.buffer_after
+
+pub returns-in_default-assembled : goal.returns-in_default-assembled
+returns-in_default-assembled c =
+    let a = c.args in
+    let g = c.on_fragment-reply.ensures in
+    let e = c.elsewhere-in_default-assembled in
+    made a.before _ c.on_fragment-reply.new.buffer e.result (Ok c.in-Ok.assembled) e.ensures
+    ∙ passed (a.k * c.read_active-v.result.term) a.before _ (state_of a.before a.buffer.now) _ c.in-Ok.assembled c.in_default-assembled.not-Fragment
+    ∙ fragment-is a.rec a.log.now (state_of a.before a.buffer.now) (image_state a.passed) a.k a.entry _ _ (a.k * c.read_active-v.result.term) _ _ (Ok c.in-Ok.assembled) (part a.k c.requires)
+    (offset c.frame_offset.result a.entry c.ranges.entry c.frame_offset.ensures.0 c.frame_offset.ensures.1) (ap (λ (v : Reading). a.k * v.term) c.read_active-v.ensures)
+    (sym c.in-Ok.is ∙ g.answer_value.0) g.answer_value.1 g.buffer_after

@@ -9,6 +9,7 @@ use lib.IntN.{ℤ, pos}
 use mir.Syntax.{w64, w32}
 use mir.Val.{SFits, to_z, of_z}
 use mir.Facts.{to_z-of_z, to_z_pos}
+use Rattle.model.specs.TermScan.{scan_refusal}
 use Rattle.model.specs.declared.Block.{Block}
 use Rattle.model.specs.declared.ReadVerdict.{ReadVerdict}
 use Rattle.model.specs.declared.ReadVerdict.TheVariants.{Read}
@@ -43,10 +44,10 @@ p-high c = omega (arith, p-is c, c.requires.1.1.0, (place c).term-high)
 stop-in : (c : tie.In-Ok) → (c.long-p.result % c.args.v.term ≤ c.in-Ok.stop) × (c.in-Ok.stop ≤ c.args.v.term)
 stop-in c =
     let a = c.args in
-    block_in a.v a.log.now a.limit _ _ _ (p-is c.before.before.before) c.end_offset-end.ensures _ c.scan_at.ensures _ (omega (arith, (place c.before.before.before).below)) c.in-Ok.is
+    block_in a.v a.log.now a.limit _ _ _ (p-is c.before.before.before) c.end_offset-end.ensures _ c.scan_at-scanned.ensures _ (omega (arith, (place c.before.before.before).below)) c.in-Ok.is
 
 size_is : (c : tie.In-Ok) → c.in-Ok.stop - c.long-p.result % c.args.v.term ≡ block_length c.args.v c.args.log.now (long c.args.image.position) c.args.limit
-size_is c = let a = c.args in block_size a.v a.log.now a.limit _ _ _ (p-is c.before.before.before) c.end_offset-end.ensures _ c.scan_at.ensures _ c.in-Ok.is
+size_is c = let a = c.args in block_size a.v a.log.now a.limit _ _ _ (p-is c.before.before.before) c.end_offset-end.ensures _ c.scan_at-scanned.ensures _ c.in-Ok.is
 
 -- the position after the block
 abbrev to : (c : tie.In-Ok) → ℕ
@@ -69,7 +70,7 @@ abbrev judged : (s : tie.Start) → Bool → Result ReadVerdict Error
 judged s b = refuse_if b (unsound_frame_of s.args.v s.args.log.now (long s.args.image.position)) (Ok Read)
 
 sound-is : (c : tie.In-Ok) → judged c.before.before.before.before.before.before false ≡ judged c.before.before.before.before.before.before (unsound_at c.args.v c.args.log.now (long c.args.image.position) (block_end c.args.v (long c.args.image.position) c.args.limit) 1)
-sound-is c = let a = c.args in ap (judged c.before.before.before.before.before.before) (sym (block-sound a.v a.log.now a.limit _ _ _ (p-is c.before.before.before) c.end_offset-end.ensures _ c.scan_at.ensures _ c.in-Ok.is))
+sound-is c = let a = c.args in ap (judged c.before.before.before.before.before.before) (sym (block-sound a.v a.log.now a.limit _ _ _ (p-is c.before.before.before) c.end_offset-end.ensures _ c.scan_at-scanned.ensures _ c.in-Ok.is))
 
 add-end-offset : tie.Need-overflow_add-p
 add-end-offset c = omega (arith, p-high c, c.requires.1.1.1.1)
@@ -77,17 +78,17 @@ add-end-offset c = omega (arith, p-high c, c.requires.1.1.1.1)
 end-offset-requires : tie.Need-end_offset-end-requires
 end-offset-requires c κs = term-length _ _ c.requires.1.0
 
-scan-at-requires : tie.Need-scan_at-requires
+scan-at-requires : tie.Need-scan_at-scanned-requires
 scan-at-requires c κs = let s = c in (s.requires.0, (s.requires.1.0, (p-32 c.before, omega (arith, c.end_offset-end.ensures))))
 
-returns : tie.Need-returns-in-Err
+returns : tie.Need-returns-in_default
 returns c =
     let a = c.args in
-    let s = c.before.before.before.before.before.before.before in
+    let s = c.before.before.before.before.before.before.before.before in
     let f : SFits w64 a.image.position = search rules in
-    let u = block-unsound a.v a.log.now a.limit _ _ _ (p-is c.before.before.before.before) c.end_offset-end.ensures _ c.scan_at.ensures _ c.in-Err.is in
-    ap {B = BlockTo} (λ (z : ℤ). record { position = z; answer = Err c.in-Err.e }) (to_z-of_z f)
-    ∙ ap {B = BlockTo} (λ (y : Error). record { position = a.image.position; answer = Err y }) u.1 ∙ ap (λ (b : Bool). said s (judged s b)) (sym u.0)
+    let u = block-unsound a.v a.log.now a.limit _ _ _ (p-is c.before.before.before.before.before) c.end_offset-end.ensures _ c.scan_at-scanned.ensures _ c.in_default.is in
+    ap {B = BlockTo} (λ (z : ℤ). record { position = z; answer = Err c.refusal.result }) (to_z-of_z f)
+    ∙ ap {B = BlockTo} (λ (y : Error). record { position = a.image.position; answer = Err y }) (c.refusal.ensures ∙ ap scan_refusal c.in_default.is ∙ u.1) ∙ ap (λ (b : Bool). said s (judged s b)) (sym u.0)
 
 offset-of-requires : tie.Need-offset_of-at-requires
 offset-of-requires c κs = term-length _ _ c.requires.1.0
@@ -132,6 +133,7 @@ block_at_spec =
     add-end-offset
     end-offset-requires
     scan-at-requires
+    (search rules)
     (search rules)
     (search rules)
     returns

@@ -4,7 +4,9 @@ use Rattle.std.proofs.Common.{◌≡◌, ℕ, ◌+◌, ◌-◌, ◌%◌, ◌≤�
 use mir.Syntax.{w64}
 use mir.Val.{SFits}
 use mir.Facts.{to_z_pos}
+use Rattle.model.specs.declared.Error.{Error}
 use Rattle.model.specs.LogBufferDescriptor.{partition_of}
+use Rattle.logbuffer.specs.Reads.{read_refusal}
 use Rattle.logbuffer.proofs.Signed.{long-by}
 use Rattle.image.specs.declared.frames.PolledTo.{PolledTo}
 use Rattle.image.specs.Images.{state_of}
@@ -14,8 +16,8 @@ use Rattle.image.proofs.Rungs.{answered, readable-read}
 use Rattle.image.proofs.Polls.{says-refused, says-closed, says-on-refused, says-on-read, read-to}
 use Rattle.image.proofs.frames.poll_term.Goals as goal
 
-pub frames_on-requires : goal.frames_on-requires
-frames_on-requires c =
+pub frames_on-came-requires : goal.frames_on-came-requires
+frames_on-came-requires c =
     let a = c.args in
     let f : SFits w64 a.image.position = search rules in
     let e = long-by a.image.position c.long-p.ensures.0 f in
@@ -33,7 +35,7 @@ came c =
     let a = c.args in
     let f : SFits w64 a.image.position = search rules in
     read-to a.v a.log.now (state_of a.image) a.entries.now a.good a.limit (answered c.in-Ok-Read.is c.in-Ok-Read.field-0-is c.readable.ensures)
-    c.long-p.result _ (long-by a.image.position c.long-p.ensures.0 f) c.offset_of.ensures c.frames_on.result _ c.frames_on.ensures.value c.frames_on.ensures.entries_after c.in-Ok.read c.in-Ok.is
+    c.long-p.result _ (long-by a.image.position c.long-p.ensures.0 f) c.offset_of.ensures c.frames_on-came.result _ c.frames_on-came.ensures.value c.frames_on-came.ensures.entries_after c.in-Ok.read c.in-Ok.is
 
 pub overflow_add-result : goal.overflow_add-result
 overflow_add-result c = record { fits = omega (arith, (came c).1) }
@@ -59,14 +61,15 @@ returns-in-Ok c =
     let r = c.in-Ok.read in
     let f : SFits w64 a.image.position = search rules in
     let t = says-on-read a.v a.log.now (state_of a.image) a.entries.now a.good a.limit (answered c.in-Ok-Read.is c.in-Ok-Read.field-0-is c.readable.ensures)
-    c.long-p.result _ (long-by a.image.position c.long-p.ensures.0 f) c.offset_of.ensures c.frames_on.result _ c.frames_on.ensures.value c.frames_on.ensures.entries_after r c.in-Ok.is in
+    c.long-p.result _ (long-by a.image.position c.long-p.ensures.0 f) c.offset_of.ensures c.frames_on-came.result _ c.frames_on-came.ensures.value c.frames_on-came.ensures.entries_after r c.in-Ok.is in
     let made : ℤ → PolledTo = λ (z : ℤ). record { position = z; answer = Ok (record { fragments = r.fragments; entries = r.fragments }) } in
     record { value = ap made (to_z_pos w64 (omega (arith, (came c).1))) ∙ t.0; entries_after = t.1 }
 
-pub returns-in-Err-frames_on : goal.returns-in-Err-frames_on
-returns-in-Err-frames_on c =
+pub returns-in_default : goal.returns-in_default
+returns-in_default c =
     let a = c.args in
     let f : SFits w64 a.image.position = search rules in
     let t = says-on-refused a.v a.log.now (state_of a.image) a.entries.now a.good a.limit (answered c.in-Ok-Read.is c.in-Ok-Read.field-0-is c.readable.ensures)
-    c.long-p.result _ (long-by a.image.position c.long-p.ensures.0 f) refl c.frames_on.result _ c.frames_on.ensures.value c.frames_on.ensures.entries_after c.in-Err-frames_on.e c.in-Err-frames_on.is in
-    record { value = placed (Err c.in-Err-frames_on.e) f ∙ t.0; entries_after = t.1 }
+    c.long-p.result _ (long-by a.image.position c.long-p.ensures.0 f) refl c.frames_on-came.result _ c.frames_on-came.ensures.value c.frames_on-came.ensures.entries_after c.in_default.field-0 c.in_default.is in
+    let made : Error → PolledTo = λ (x : Error). record { position = a.image.position; answer = Err x } in
+    record { value = placed (Err c.read_refusal.result) f ∙ ap made (c.read_refusal.ensures ∙ ap read_refusal c.in_default.is) ∙ t.0; entries_after = t.1 }

@@ -1,13 +1,24 @@
--- The part is as long as the bytes.
-use Rattle.std.proofs.Common.{◌≡◌, ℕ, ◌+◌, ◌-◌, length, take, drop, ap, ◌∙◌, arith, length-drop, length-take-le}
+-- A chunk behind what has been copied is one piece with it.
+use Rattle.std.proofs.Common.{rules, ℕ, ◌+◌, ◌≤◌, List, take, drop, refl, ap, ◌∙◌, arith}
 use Rattle.model.specs.Bytes.{splice}
-use Rattle.logbuffer.proofs.Copies.{laid-over}
+use Rattle.logbuffer.proofs.Copies.{more, none_yet}
 use Rattle.logbuffer.proofs.copying.copy.Goals as goal
 
-pub returns : goal.returns
-returns c =
+pub loop-i-init : goal.loop-i-init
+loop-i-init c =
     let s = c.args in
-    let e : (s.a + s.n) - s.a ≡ s.n = omega arith in
-    let y : c.copy_from_slice.new.self ≡ take s.n (drop s.a s.src.now) = c.copy_from_slice.ensures.after ∙ ap (λ (k : ℕ). take k (drop s.a s.src.now)) e in
-    let l : length c.copy_from_slice.new.self ≡ (s.b + s.n) - s.b = ap length y ∙ length-take-le s.n (drop s.a s.src.now) (omega (arith, length-drop s.a s.src.now)) ∙ omega arith in
-    laid-over s.dst.now s.b _ c.copy_from_slice.new.self l ∙ ap (splice s.dst.now s.b) y
+    (omega arith, (none_yet s.dst.now s.src.now s.b s.a, refl))
+
+pub loop-i-preserved : goal.loop-i-preserved
+loop-i-preserved c =
+    let s = c.args in
+    let k = c.loop-i in
+    let m = c.min-m.result in
+    let h : k.i + m ≤ s.n = search rules in (
+      h,
+      (
+        c.copy_chunk.ensures ∙ ap (λ (x : List ℕ). splice x (s.b + k.i) (take m (drop (s.a + k.i) s.src.now))) k.invariant.1.0
+            ∙ more s.dst.now s.src.now s.b s.a k.i m (omega arith) (omega arith),
+        c.copy_chunk.auto.dst ∙ k.invariant.1.1,
+      ),
+    )
