@@ -19,22 +19,6 @@ unfolding le
 length-le zero n = refl
 length-le (suc w) n = ap suc (length-le w (n / 256))
 
-second : (n : ℕ) → n / 65536 ≡ n / 256 / 256
-second n = omega arith
-
-third : (n : ℕ) → n / 16777216 ≡ n / 256 / 256 / 256
-third n = omega arith
-
--- the four bytes of a number, as far as the width
-pub le-four : (w n : ℕ) → w ≤ 4 → take w (n % 256 ∷ n / 256 % 256 ∷ n / 65536 % 256 ∷ n / 16777216 % 256 ∷ []) ≡ le w n
-unfolding le
-le-four zero n h = refl
-le-four (suc zero) n h = refl
-le-four (suc (suc zero)) n h = refl
-le-four (suc (suc (suc zero))) n h = rw (second n) refl
-le-four (suc (suc (suc (suc zero)))) n h = rw (second n, third n) refl
-le-four (suc (suc (suc (suc (suc w))))) n h = absurd (omega arith)
-
 pub number-le : (w n : ℕ) → n < 256 ^ w → number (le w n) ≡ n
 unfolding le number
 number-le zero n h = omega arith
@@ -69,6 +53,10 @@ unfolding number
 number-one b = omega (arith, number_more b 0 0)
 
 -- ---- a turn of a loop
+
+pub le-turn : (w i n : ℕ) → i < w → le (w - i) n ≡ n % 256 ∷ le (w - (i + 1)) (n / 256)
+unfolding le
+le-turn w i n h = let e : w - i ≡ suc (w - (i + 1)) = omega arith in ap (λ (k : ℕ). le k n) e
 
 pub number-turn : (b : List ℕ) (at w i : ℕ) → 0 < i → i ≤ w
     → get_or b (at + (i - 1)) 0 + 256 * number (take (w - i) (drop (at + i) b)) ≡ number (take (w - (i - 1)) (drop (at + (i - 1)) b))

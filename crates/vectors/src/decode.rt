@@ -1,5 +1,7 @@
 // A vector's parts, out of the bytes of the file; main.rt says how they lie. Nothing here asks anything of the bytes: what lies past
 // their end reads as 0 or is cut off.
+ghost use Rattle.std.specs.Prelude.{◌<◌};
+
 use logbuffer::cast;
 
 // Where the parts of a vector begin, and how many numbers, fields and ranges it has.
@@ -29,7 +31,9 @@ fn bytes<const N: usize>(input: &[u8], at: usize) -> [u8; N] {
 }
 
 // The little-endian numbers of two, four and eight bytes.
-pub fn half(input: &[u8], at: usize) -> usize {
+pub fn half(input: &[u8], at: usize) -> usize
+    ensures { result < 65536 }
+{
     usize::from(u16::from_le_bytes(bytes(input, at)))
 }
 
@@ -96,7 +100,11 @@ impl<'a> Vector<'a> {
 
     // The k-th result, where there is one.
     pub fn result(self, k: usize) -> Option<i64> {
-        (k < self.result_count).then_some(long(self.input, place(self.results, k)))
+        if k < self.result_count {
+            Some(long(self.input, place(self.results, k)))
+        } else {
+            None
+        }
     }
 
     pub fn payload(self) -> &'a [u8] {
