@@ -60,13 +60,18 @@ fn show(rt: &impl Print, rec: LogRecord, log: &[u8], shelf: &[u8]) -> io::Result
     }
 }
 
-fn main(rt: HostRuntime) -> io::Result<()> {
+fn run(rt: &impl Print) -> io::Result<()> {
     let mut log = [0u8; 196608];
     let mut out = [255u8; 65540];
     let rec = filling::fill(&mut log);
-    print::answer(&rt, "shelve", shelf::shelve(rec, &log, 0, &mut out))?;
+    print::answer(rt, "shelve", shelf::shelve(rec, &log, 0, &mut out))?;
     println!(rt)?;
-    show(&rt, rec, &log, &out)?;
-    refusals::of_shelve(&rt, rec, &mut log)?;
-    refusals::of_unshelve(&rt, rec, &mut out)
+    show(rt, rec, &log, &out)?;
+    refusals::of_shelve(rt, rec, &mut log)?;
+    refusals::of_unshelve(rt, rec, &mut out)
+}
+
+// What cannot be written is lost, and the program ends as it ends where all is written.
+fn main(rt: HostRuntime) {
+    let _ = run(&rt);
 }
