@@ -1,6 +1,6 @@
 #!/bin/sh
 # Fails where a function of a hot path stands in the archive by itself. The compiler puts a function that has one caller into it; with a second
-# caller it may become a call, and the row that it stands for slower by half.
+# caller it may become a call, and the row that it stands for slower by half. Of a generic function each instance counts: its name goes on with `::<`.
 #
 #   inlined.sh [ARCHIVE]
 set -eu
@@ -17,7 +17,7 @@ for name in publication::fit::offer_fit publication::fit::claim_fit publication:
     replay::gathering::gather replay::gathering::take replay::gathering::turn_to replay::gathering::settle replay::gathering::enter replay::gathering::data_at \
     logbuffer::fragment_assembler::fragment_at logbuffer::fragment_assembler::lay_fragment logbuffer::fragment_assembler::place_of \
     tally::step::Stream::meet_at tally::step::Stream::meet tally::step::met_by capi::words::reading_in capi::words::record_in capi::words::tail_out capi::words::position_out capi::words::numbers; do
-    if echo "$names" | grep -qxF "$name"; then
+    if echo "$names" | grep -qx -e "$name" -e "$name::<.*>"; then
         echo "inlined.sh: $name stands in the archive, and should be in its caller"
         exit 1
     fi

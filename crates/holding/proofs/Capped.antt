@@ -19,6 +19,7 @@ use Rattle.card.proofs.Fields.{number-one}
 use Rattle.card.proofs.Calls.{accepted}
 use Rattle.holding.specs.Messages.{Run, idle, running, joined, grown}
 use Rattle.holding.specs.Within.{capped, Laid, laid_run}
+use Rattle.holding.proofs.Anchors as Anchors
 
 -- ---- a card has at most 270 bytes
 

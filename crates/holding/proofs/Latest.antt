@@ -14,6 +14,7 @@ use Rattle.card.specs.Card.{Decoded, card, broken}
 use Rattle.holding.specs.Holding.{Found, of_find, bit, none, latest, holder, some, held_of, padded, note_held}
 use Rattle.holding.specs.Within.{newer, bits_with, held_with, Laid, laid_card}
 use Rattle.holding.proofs.Same.{same-card, same-held, same-laid}
+use Rattle.holding.proofs.Anchors as Anchors
 use Rattle.holding.specs.Theorems.{Without, all, more, Holds, HeldByLast}
 
 -- ---- the theorem

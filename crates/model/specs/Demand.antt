@@ -1,7 +1,7 @@
 -- A season, and demand 3, word for word against their parts. `season` and `demand3` (proofs/Season.antt) prove `Season` and `Demand3`.
 --
 -- "under demand 3's other premises, with clearings and rises of the slowest reader now among the calls"
---                                                                every `calls : List Call` (History), `open_of .. .answer ≡ Done`, `AllGiven`
+--                                                                every `calls : List Call` (History), `open_of .. .answer ≡ Ok tt`, `AllGiven`
 -- "if no claim is left open in a cleared term"                   not asked: it holds without (such a claim lies before every start)
 -- "and no claim record of such a term is used after its clearing" `Given` (History): the records' terms are not below `cleared`
 -- "polling from 0 or any answered position"                      `Start.told`
@@ -15,7 +15,7 @@
 -- Demand 3 is `Demand3`, with one premise more, that no term is cleared. Its words, most of which a season shares:
 -- "for every list of offers, claims, lendings, writings into lent bodies of open claims, commits, aborts, limit changes and closes,
 --  refused ones included"                                        every `calls : List Call` (History), every argument
--- "from a log fresh from our opening"                            `open_of .. .answer ≡ Done`, for every log lent to it
+-- "from a log fresh from our opening"                            `open_of .. .answer ≡ Ok tt`, for every log lent to it
 -- "if the stream ends short of three full terms"                 the publisher's position below `3 * (shape w).term`, the last premise of `Demand3`
 -- "any replay of the log so left comes to an end"                `finish` of `ReplayedFree`: some poll hands out nothing and moves nothing
 -- "having handed out exactly the messages of accepted offers and committed claims before the first claim still open, equal in every

@@ -36,7 +36,7 @@ pub struct Claim {
 }
 
 // The refusals, in the order of document 01's table, and then as document 02 adds them; specs/Errors.antt gives each its number. The Rust's names
-// where it has one. A refusal of a frame carries its place, its offset in its term. What is printed of one is its cause (docs/ERRORS.md).
+// where it has one. A refusal of a frame carries its place, its offset in its term. What is printed of one is its cause in a few words; docs/ERRORS.md says it whole.
 #[derive(Clone, Copy, Debug, PartialEq, Eq, thiserror::Error)]
 pub enum Error {
     #[error("an argument is out of its range")]
